@@ -1,0 +1,250 @@
+/* The same calls on two machines.
+ *
+ * arm/same builds this file twice, for x86-64 and for Arm, each time with the library of that machine, runs both and compares what
+ * they write. All calls come from one fixed generator. A history formats a pool and then makes calls of every kind on it, most of them
+ * sensible, some past a limit, some with a setup or a length that breaks the rules; every other history also damages the pool now
+ * and then. Each answer goes into a hash, refusals and records alike, and after each call all words and places of the list do too.
+ *
+ * A line begins with the number of its history: every 64th call with its answer, and at the end the hashes. The last line counts
+ * how often each function gave each answer; the program fails where one that can be given never was. */
+#include <inttypes.h>
+#include <stdbool.h>
+#include <stdio.h>
+#include <string.h>
+
+#include "oakabut.h"
+
+enum { HISTORIES = 96, CALLS = 256, SHOW = 64, MOST_TABLES = 64, MAPPED = 16 };
+#define LIMIT (UINT64_C(1) << 48)
+
+static uint64_t words[512 * MOST_TABLES];
+static uint32_t list[MOST_TABLES];
+static oak_setup setup;
+
+/* ---- numbers from a fixed generator; no expression draws two, since C leaves their order open */
+
+static uint64_t state;
+
+static uint64_t random64(void) {
+    uint64_t z = (state += UINT64_C(0x9E3779B97F4A7C15));
+    z = (z ^ (z >> 30)) * UINT64_C(0xBF58476D1CE4E5B9);
+    z = (z ^ (z >> 27)) * UINT64_C(0x94D049BB133111EB);
+    return z ^ (z >> 31);
+}
+
+static uint64_t below(uint64_t n) { return random64() % n; }
+static bool once_in(uint64_t n) { return below(n) == 0; }
+
+/* any number, of any length */
+static uint64_t anything(void) {
+    uint64_t length = below(64);
+    return random64() >> length;
+}
+
+static uint64_t some_size(void) {
+    static const uint64_t sizes[] = {OAK_4_KIB, OAK_4_KIB, OAK_4_KIB, OAK_2_MIB, OAK_2_MIB, OAK_1_GIB};
+    if (once_in(32)) return anything();
+    if (once_in(32)) return UINT64_C(1) << below(64);
+    return sizes[below(6)];
+}
+
+static uint64_t some_attributes(void) { return once_in(32) ? anything() : below(16); }
+
+/* an address in one of few regions, so that calls meet each other: at each level one of four indices, or any */
+static uint64_t some_address(uint64_t size) {
+    static const uint64_t few[] = {0, 1, 2, 511};
+    uint64_t address = 0;
+    if (once_in(32)) return anything();
+    for (unsigned level = 0; level < setup.levels && level < 4; level++) {
+        uint64_t index = once_in(12) ? below(512) : few[below(4)];
+        address += index << (12 + 9 * level);
+    }
+    if (once_in(40)) address += UINT64_C(1) << (39 + below(25));
+    if (once_in(32)) return address + below(4096);
+    return size != 0 && !once_in(32) ? address - address % size : address;
+}
+
+static uint64_t some_frame(uint64_t size) {
+    if (once_in(32)) return anything();
+    if (once_in(16)) return LIMIT - size;
+    return size != 0 && size < LIMIT ? below(LIMIT / size) * size : below(LIMIT);
+}
+
+/* ---- what is written */
+
+static unsigned history, call;
+static uint64_t hash;
+static unsigned long given[7][12]; /* how often a function gave a refusal; 0 counts what is none, 11 what should not be */
+
+static void add(uint64_t number) {
+    hash = (hash ^ number) * UINT64_C(0x9FB21C651E98DF25);
+    hash ^= hash >> 29;
+}
+
+static void add_memory(uint64_t tables) {
+    for (size_t i = 0; i < 512 * tables; i++) add(words[i]);
+    for (size_t i = 0; i < tables; i++) add(list[i]);
+}
+
+/* takes an answer of count numbers into the hash, and writes it now and then */
+static void answered(unsigned function, const char *name, uint64_t refusal, const void *answer, size_t count) {
+    uint64_t numbers[8];
+    memcpy(numbers, answer, 8 * count);
+    given[function][refusal < 12 ? refusal : function > 4 ? 0 : 11]++;
+    add(refusal);
+    for (size_t i = 0; i < count; i++) add(numbers[i]);
+    if (call % SHOW != 0) return;
+    printf("%u call %u %s: %#" PRIx64 ",", history, call, name, refusal);
+    for (size_t i = 0; i < count; i++) printf(" %#" PRIx64, numbers[i]);
+    printf("\n");
+}
+
+/* ---- the calls */
+
+struct lent {
+    oak_setup setup;
+    size_t words, list;
+};
+
+/* the setup and the lengths of the pool; now and then one of them is wrong */
+static struct lent lent(void) {
+    struct lent l = {setup, 512 * setup.tables, setup.tables};
+    if (!once_in(20)) return l;
+    switch (below(7)) {
+    case 0: l.setup.levels = below(7); break;
+    case 1: l.setup.base = once_in(2) ? l.setup.base + 1 : anything(); break;
+    case 2: l.setup.base = LIMIT - 4096 * l.setup.tables + 4096 * below(2); break;
+    case 3: l.setup.tables = once_in(2) ? anything() : below(MOST_TABLES + 2); break;
+    case 4: l.setup.free = once_in(2) ? anything() : l.setup.tables; break;
+    case 5: l.words += once_in(2) ? 1 : 512; break;
+    default: l.list -= 1; break;
+    }
+    return l;
+}
+
+static void call_format(void) {
+    oak_setup answer;
+    memset(&answer, 0x5A, sizeof answer);
+    uint64_t levels = once_in(8) ? below(7) : setup.levels, base = once_in(8) ? anything() : setup.base;
+    uint64_t tables = once_in(8) ? below(MOST_TABLES + 3) : setup.tables, room = once_in(8) ? below(MOST_TABLES + 1) : tables;
+    if (room > MOST_TABLES) room = MOST_TABLES;
+    uint64_t refusal = oak_format(levels, base, tables, words, 512 * room, list, room, &answer);
+    answered(0, "format", refusal, &answer, 4);
+    if (refusal == 0) setup = answer;
+}
+
+static uint64_t mapped[MAPPED]; /* some addresses that were mapped, for unmap and query */
+
+static void call_map(void) {
+    oak_mapped answer;
+    struct lent l = lent();
+    uint64_t size = some_size();
+    memset(&answer, 0x5A, sizeof answer);
+    uint64_t address = some_address(size), frame = some_frame(size), attributes = some_attributes();
+    uint64_t refusal = oak_map(&l.setup, words, l.words, list, l.list, address, frame, size, attributes, &answer);
+    answered(1, "map", refusal, &answer, 5);
+    if (refusal == 0) setup = answer.setup, mapped[below(MAPPED)] = address;
+}
+
+static void call_unmap(void) {
+    oak_unmapped answer;
+    struct lent l = lent();
+    memset(&answer, 0x5A, sizeof answer);
+    uint64_t address = once_in(2) ? mapped[below(MAPPED)] : some_address(OAK_4_KIB);
+    uint64_t refusal = oak_unmap(&l.setup, words, l.words, list, l.list, address, &answer);
+    answered(2, "unmap", refusal, &answer, 8);
+    if (refusal == 0) setup = answer.setup;
+}
+
+static void call_query(void) {
+    oak_found answer;
+    struct lent l = lent();
+    memset(&answer, 0x5A, sizeof answer);
+    uint64_t address = once_in(2) ? mapped[below(MAPPED)] + below(4096) : some_address(0);
+    uint64_t refusal = oak_query(&l.setup, words, l.words, list, l.list, address, &answer);
+    answered(3, "query", refusal, &answer, 4);
+}
+
+static void call_audit(void) {
+    oak_audited answer;
+    struct lent l = lent();
+    memset(&answer, 0x5A, sizeof answer);
+    uint64_t refusal = oak_audit(&l.setup, words, l.words, list, l.list, &answer);
+    answered(4, "audit", refusal, &answer, 2);
+}
+
+static void call_words(void) {
+    uint64_t size = some_size(), frame = some_frame(size), attributes = some_attributes();
+    uint64_t word = oak_frame_word(frame, size, attributes);
+    answered(5, "frame_word", word, &word, 1);
+    if (once_in(3)) word ^= UINT64_C(1) << below(64);
+    if (once_in(3)) size = some_size();
+    uint64_t meaning = oak_word_meaning(word, size);
+    answered(6, "word_meaning", meaning, &meaning, 1);
+}
+
+/* one change that no call makes: of a word, mostly one in use, or of the list; the setup's free count may lag behind too */
+static void damage(void) {
+    uint64_t size = some_size(), frame = some_frame(size), place = below(setup.tables);
+    uint64_t *word = &words[below(512 * setup.tables)];
+    for (size_t i = 0; i < 512 && *word == 0; i++) word = &words[512 * below(setup.tables) + below(3)];
+    switch (below(6)) {
+    case 0: *word ^= UINT64_C(1) << below(64); break;
+    case 1: *word = random64(); break;
+    case 2: *word = setup.base + 4096 * below(setup.tables + 1) + 3; break;
+    case 3: *word = oak_frame_word(frame, size, below(16)); break;
+    case 4: list[place] = (uint32_t)below(setup.tables + 2); break;
+    default: setup.free = below(setup.tables); break;
+    }
+}
+
+static void one_history(void) {
+    static const uint64_t counts[] = {1, 2, 3, 4, 5, 6, 8, 8};
+    hash = history, state = UINT64_C(1000003) * history;
+    uint64_t tables = history % 16 == 15 ? MOST_TABLES : counts[history / 2 % 8];
+    uint64_t bases[] = {UINT64_C(0x40000000), 0, LIMIT - 4096 * tables, below(LIMIT / 8192) * 4096};
+    setup = (oak_setup){history % 4 < 2 ? 3 : 4, bases[below(4)], tables, 0};
+    memset(words, 0xA5, sizeof words);
+    memset(list, 0xA5, sizeof list);
+    memset(mapped, 0, sizeof mapped);
+    uint64_t refusal = oak_format(setup.levels, setup.base, tables, words, 512 * tables, list, tables, &setup);
+    answered(0, "format", refusal, &setup, 4);
+    for (call = 1; call <= CALLS; call++) {
+        uint64_t kind = below(64);
+        if (history % 2 == 1 && once_in(16)) damage();
+        if (kind == 0) call_format();
+        else if (kind < 30) call_map();
+        else if (kind < 44) call_unmap();
+        else if (kind < 56) call_query();
+        else if (kind < 61) call_audit();
+        else call_words();
+        add_memory(setup.tables);
+    }
+    uint64_t answers = hash;
+    hash = 0;
+    add_memory(MOST_TABLES);
+    printf("%u levels %" PRIu64 " tables %" PRIu64 " calls %d: answers and memory %016" PRIx64 ", memory at the end %016" PRIx64 "\n", history,
+           setup.levels, setup.tables, CALLS, answers, hash);
+}
+
+/* the refusals that a function can give, as bits; bit 0 is an answer */
+static const struct {
+    const char *name;
+    unsigned can;
+} functions[7] = {{"format", 0x003}, {"map", 0x1FF},        {"unmap", 0x733},       {"query", 0x313},
+                  {"audit", 0x103},  {"frame_word", 0x03D}, {"word_meaning", 0x105}};
+
+int main(void) {
+    bool all = true;
+    for (history = 0; history < HISTORIES; history++) one_history();
+    printf("answers:");
+    for (unsigned f = 0; f < 7; f++) {
+        printf("%s %s", f == 0 ? "" : ";", functions[f].name);
+        for (unsigned r = 0; r < 12; r++) {
+            if (given[f][r] != 0) printf(" %u:%lu", r, given[f][r]);
+            if ((given[f][r] != 0) != (functions[f].can >> r & 1)) all = false;
+        }
+    }
+    printf("%s\n", all ? "" : "; an answer that can be given was not, or one was that cannot be");
+    return !all;
+}

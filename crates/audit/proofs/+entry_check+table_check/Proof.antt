@@ -1,0 +1,217 @@
+-- `table_check` and `entry_check`, which call each other, meet their contracts. A table's measure is its levels left, an entry's the levels left
+-- below it and the entries left in its table.
+use Prim.Native.Nat.{ℕ, _+_, _-_, _*_, _<_}
+use mathlib.Core.Path.{refl, sym, _∙_}
+use native.Mathlib.Omega.{arith}
+use lib.ListN.{length-set}
+use borrow.Author.Needs.{needs}
+use borrow.Author.Tests.{not-true, not-false}
+use borrow.Fn.Kinds.{In}
+use borrow.Fn.PlainCycle.{Measures, is, falls, and}
+use Rattle.audit.proofs.Tables.{Loop, loop-bad, loop-few, loop-more, loop-end, table-stale, table-fresh, table-starts, table-entry, entry-empty, entry-frame, entry-damaged, entry-child, entry-fit}
+use Rattle.audit.proofs.entry_check.Reads as entry-check
+use Rattle.audit.proofs.entry_check.Kinds as entry-check-kinds
+use Rattle.audit.proofs.+entry_check+table_check.Lts-entry_check as entry-check-lts
+use Rattle.audit.proofs.table_check.Reads as table-check
+use Rattle.audit.proofs.table_check.Kinds as table-check-kinds
+use Rattle.audit.proofs.+entry_check+table_check.Lts-table_check as table-check-lts
+use Rattle.audit.proofs.is_fresh.Reads as is-fresh-reads
+use Rattle.entry.proofs.read_word.Reads as read-word-reads
+use Rattle.pool.proofs.word.Reads as word-reads
+use Rattle.audit.proofs.+entry_check+table_check.{statement}
+use Rattle.audit.proofs.+entry_check+table_check.Tie.{close}
+
+abbrev μ-entry-check : Measures 2 entry-check-kinds.ps ℕ
+μ-entry-check κs a = a .1 .1 .1 .1 .1 .0 * 513 + a .1 .1 .1 .1 .1 .1 .0
+
+abbrev μ-table-check : Measures 2 table-check-kinds.ps ℕ
+μ-table-check κs a = a .1 .1 .1 .1 .1 .0 * 513 + 513
+
+abbrev entry-check-at : ℕ → In 2 entry-check-kinds.ps
+entry-check-at t = and 2 entry-check-kinds.ps (is 2 entry-check-kinds.ps μ-entry-check t) entry-check.Pre
+
+abbrev entry-check-below : ℕ → In 2 entry-check-kinds.ps
+entry-check-below t = and 2 entry-check-kinds.ps (falls 2 entry-check-kinds.ps _<_ μ-entry-check t) entry-check.Pre
+
+abbrev table-check-at : ℕ → In 2 table-check-kinds.ps
+table-check-at t = and 2 table-check-kinds.ps (is 2 table-check-kinds.ps μ-table-check t) table-check.Pre
+
+abbrev table-check-below : ℕ → In 2 table-check-kinds.ps
+table-check-below t = and 2 table-check-kinds.ps (falls 2 table-check-kinds.ps _<_ μ-table-check t) table-check.Pre
+
+-- what the calls of `entry_check` and of `table_check` ask and tell
+abbrev entry-claims : ℕ → entry-check-lts.Claims
+entry-claims t = (
+  word-reads.Asked,
+  word-reads.Learnt,
+  read-word-reads.Asked,
+  read-word-reads.Learnt,
+  table-check-below t,
+  table-check.Post,
+)
+
+abbrev table-claims : ℕ → table-check-lts.Claims
+table-claims t = (is-fresh-reads.Asked, is-fresh-reads.Learnt, entry-check-below t, entry-check.Post)
+
+entry-check-mul-word : (t : ℕ) → entry-check-lts.Need-mul-word (entry-claims t) (entry-check-at t) entry-check.Post
+entry-check-mul-word t c = search needs
+
+entry-check-sub-word : (t : ℕ) → entry-check-lts.Need-sub-word (entry-claims t) (entry-check-at t) entry-check.Post
+entry-check-sub-word t c = search needs
+
+entry-check-add-word : (t : ℕ) → entry-check-lts.Need-add-word (entry-claims t) (entry-check-at t) entry-check.Post
+entry-check-add-word t c = search needs
+
+entry-check-word-requires : (t : ℕ) → entry-check-lts.Need-word-requires (entry-claims t) (entry-check-at t) entry-check.Post
+entry-check-word-requires t c κs = search needs
+
+entry-check-read-word-requires : (t : ℕ) → entry-check-lts.Need-read-word-requires (entry-claims t) (entry-check-at t) entry-check.Post
+entry-check-read-word-requires t c κs = search needs
+
+entry-check-enum-told : (t : ℕ) → entry-check-lts.Need-enum-told (entry-claims t) (entry-check-at t) entry-check.Post
+entry-check-enum-told t c = c .match .keys1
+
+entry-check-enum-told-2 : (t : ℕ) → entry-check-lts.Need-enum-told-2 (entry-claims t) (entry-check-at t) entry-check.Post
+entry-check-enum-told-2 t c = c .match .keys2
+
+entry-check-enum-known-e : (t : ℕ) → entry-check-lts.Need-enum-known-e (entry-claims t) (entry-check-at t) entry-check.Post
+entry-check-enum-known-e t c = c .match .keys3
+
+entry-check-sub-table-check : (t : ℕ) → entry-check-lts.Need-sub-table-check (entry-claims t) (entry-check-at t) entry-check.Post
+entry-check-sub-table-check t c = omega (arith, entry-fit (c .before .before .before .before .before .before .before .before .pre .1) _ _ _ (sym (c .before .before .before .before .read-word .ensures) ∙ c .before .before .e .given .1) .0)
+
+entry-check-table-check-requires : (t : ℕ) → entry-check-lts.Need-table-check-requires (entry-claims t) (entry-check-at t) entry-check.Post
+entry-check-table-check-requires t c κs =
+    let fit = entry-fit (c .before .before .before .before .before .before .before .before .pre .1) _ _ _ (sym (c .before .before .before .before .read-word .ensures) ∙ c .before .before .e .given .1) in
+    (omega (arith, fit .0, c .before .before .before .before .before .before .before .before .pre .0, c .before .before .before .before .before .before .before .before .pre .1 .some-left), fit .1)
+
+entry-check-enum-told-3 : (t : ℕ) → entry-check-lts.Need-enum-told-3 (entry-claims t) (entry-check-at t) entry-check.Post
+entry-check-enum-told-3 t c = c .match .keys4
+
+entry-check-returns : (t : ℕ) → entry-check-lts.Need-returns (entry-claims t) (entry-check-at t) entry-check.Post
+entry-check-returns t c =
+    let a = c .before .before .before .before .before .before .args in
+    entry-empty (a .words .now) (a .marks .now) _ _ _ (a .t) (512 - a .left) _ (c .before .before .before .word .ensures) _ (a .marks .now) (sym (c .before .before .read-word .ensures) ∙ c .enum-told .given .1) refl refl
+
+entry-check-returns-2 : (t : ℕ) → entry-check-lts.Need-returns-2 (entry-claims t) (entry-check-at t) entry-check.Post
+entry-check-returns-2 t c =
+    let a = c .before .before .before .before .before .before .args in
+    entry-frame (a .words .now) (a .marks .now) _ _ _ (a .t) (512 - a .left) _ (c .before .before .before .word .ensures) _ (a .marks .now) _ _ (sym (c .before .before .read-word .ensures) ∙ c .enum-told2 .given .1) refl refl
+
+entry-check-same-length : (t : ℕ) → entry-check-lts.Need-same-length (entry-claims t) (entry-check-at t) entry-check.Post
+entry-check-same-length t c = c .before .before .table-check .kept .1 .0
+
+entry-check-returns-3 : (t : ℕ) → entry-check-lts.Need-returns-3 (entry-claims t) (entry-check-at t) entry-check.Post
+entry-check-returns-3 t c =
+    entry-child _ _ _ _ _ _ _ _ (c .before .before .before .before .before .before .before .before .word .ensures) _ _ _ (sym (c .before .before .before .before .before .before .before .read-word .ensures) ∙ c .before .before .before .before .before .e .given .1)
+    (c .before .before .table-check .ensures)
+
+entry-check-returns-4 : (t : ℕ) → entry-check-lts.Need-returns-4 (entry-claims t) (entry-check-at t) entry-check.Post
+entry-check-returns-4 t c =
+    let a = c .before .before .before .before .before .before .args in
+    entry-damaged (a .words .now) (a .marks .now) _ _ _ (a .t) (512 - a .left) _ (c .before .before .before .word .ensures) _ (a .marks .now) (sym (c .before .before .read-word .ensures) ∙ c .enum-told3 .given .1) refl
+
+abbrev table-check-Inv-loop : table-check-lts.InvT-loop
+table-check-Inv-loop words marks₀ base n t height tables₀ mappings₀ left₀ marks tables mappings left =
+    Loop words base n height t marks₀ tables₀ mappings₀ marks tables mappings left
+
+abbrev table-check-μ-loop : table-check-lts.MeasureT-loop
+table-check-μ-loop words marks₀ base n t height tables₀ mappings₀ left₀ marks tables mappings left = left
+
+table-check-is-fresh-requires : (t : ℕ) → table-check-lts.Need-is-fresh-requires (table-claims t) (table-check-at t) table-check.Post table-check-Inv-loop table-check-μ-loop
+table-check-is-fresh-requires t c κs = search needs
+
+table-check-same-length : (t : ℕ) → table-check-lts.Need-same-length (table-claims t) (table-check-at t) table-check.Post table-check-Inv-loop table-check-μ-loop
+table-check-same-length t c = search needs
+
+table-check-returns : (t : ℕ) → table-check-lts.Need-returns (table-claims t) (table-check-at t) table-check.Post table-check-Inv-loop table-check-μ-loop
+table-check-returns t c =
+    table-stale (c .before .before .before .before .before .pre .1) _ _ (sym (c .before .is-fresh .ensures) ∙ not-true _ (c .if1 .taken))
+
+table-check-slice-write-marks : (t : ℕ) → table-check-lts.Need-slice-write-marks (table-claims t) (table-check-at t) table-check.Post table-check-Inv-loop table-check-μ-loop
+table-check-slice-write-marks t c = search needs
+
+table-check-loop-holds : (t : ℕ) → table-check-lts.Need-loop-holds (table-claims t) (table-check-at t) table-check.Post table-check-Inv-loop table-check-μ-loop
+table-check-loop-holds t c = table-starts (c .before .before .before .before .before .pre .1) _ _
+
+table-check-entry-check-requires : (t : ℕ) → table-check-lts.Need-entry-check-requires (table-claims t) (table-check-at t) table-check.Post table-check-Inv-loop table-check-μ-loop
+table-check-entry-check-requires t c κs =
+    let fit = table-entry (c .before .before .before .before .before .before .before .before .pre .1) _ _ (c .before .before .loop .inv) (c .before .loop-test .taken) in
+    (omega (arith, fit .few-left, c .before .before .before .before .before .before .before .before .pre .0), fit)
+
+table-check-enum-known-r : (t : ℕ) → table-check-lts.Need-enum-known-r (table-claims t) (table-check-at t) table-check.Post table-check-Inv-loop table-check-μ-loop
+table-check-enum-known-r t c = c .match .keys1
+
+table-check-add-tables : (t : ℕ) → table-check-lts.Need-add-tables (table-claims t) (table-check-at t) table-check.Post table-check-Inv-loop table-check-μ-loop
+table-check-add-tables t c = record { fits = loop-few (c .before .before .before .before .before .before .before .before .loop .inv) (c .before .before .before .before .before .before .before .loop-test .taken) _ _ _ (rw (c .before .r .given .1) at (c .before .before .before .before .before .entry-check .ensures)) .0 }
+
+table-check-add-mappings : (t : ℕ) → table-check-lts.Need-add-mappings (table-claims t) (table-check-at t) table-check.Post table-check-Inv-loop table-check-μ-loop
+table-check-add-mappings t c = record { fits = loop-few (c .before .before .before .before .before .before .before .before .loop .inv) (c .before .before .before .before .before .before .before .loop-test .taken) _ _ _ (rw (c .before .r .given .1) at (c .before .before .before .before .before .entry-check .ensures)) .1 }
+
+table-check-enum-told : (t : ℕ) → table-check-lts.Need-enum-told (table-claims t) (table-check-at t) table-check.Post table-check-Inv-loop table-check-μ-loop
+table-check-enum-told t c = c .match .keys2
+
+table-check-same-length-2 : (t : ℕ) → table-check-lts.Need-same-length-2 (table-claims t) (table-check-at t) table-check.Post table-check-Inv-loop table-check-μ-loop
+table-check-same-length-2 t c =
+    c .before .before .before .before .entry-check .kept .1 .0 ∙ c .before .before .before .before .before .before .before .loop .inv .carried .long ∙ simp length-set
+
+table-check-returns-2 : (t : ℕ) → table-check-lts.Need-returns-2 (table-claims t) (table-check-at t) table-check.Post table-check-Inv-loop table-check-μ-loop
+table-check-returns-2 t c =
+    table-fresh (c .before .before .before .before .before .before .before .before .before .before .before .before .before .pre .1) _ _ (sym (c .before .before .before .before .before .before .before .before .before .is-fresh .ensures) ∙ not-false _ (c .before .before .before .before .before .before .before .before .if1 .left)) _ _
+    (loop-bad (c .before .before .before .before .before .before .before .loop .inv) (c .before .before .before .before .before .before .loop-test .taken) _ _ (rw (c .enum-told .given .1) at (c .before .before .before .before .entry-check .ensures)))
+
+table-check-sub-left : (t : ℕ) → table-check-lts.Need-sub-left (table-claims t) (table-check-at t) table-check.Post table-check-Inv-loop table-check-μ-loop
+table-check-sub-left t c = search needs
+
+table-check-loop-less : (t : ℕ) → table-check-lts.Need-loop-less (table-claims t) (table-check-at t) table-check.Post table-check-Inv-loop table-check-μ-loop
+table-check-loop-less t c = search needs
+
+table-check-loop-again : (t : ℕ) → table-check-lts.Need-loop-again (table-claims t) (table-check-at t) table-check.Post table-check-Inv-loop table-check-μ-loop
+table-check-loop-again t c = loop-more (c .before .before .before .before .before .before .before .before .loop .inv) (c .before .before .before .before .before .before .before .loop-test .taken) _ _ _ (rw (c .before .r .given .1) at (c .before .before .before .before .before .entry-check .ensures)) (c .before .before .before .before .before .entry-check .kept .1 .0)
+
+table-check-same-length-3 : (t : ℕ) → table-check-lts.Need-same-length-3 (table-claims t) (table-check-at t) table-check.Post table-check-Inv-loop table-check-μ-loop
+table-check-same-length-3 t c = c .before .loop .inv .carried .long ∙ simp length-set
+
+table-check-returns-3 : (t : ℕ) → table-check-lts.Need-returns-3 (table-claims t) (table-check-at t) table-check.Post table-check-Inv-loop table-check-μ-loop
+table-check-returns-3 t c =
+    table-fresh (c .before .before .before .before .before .before .before .pre .1) _ _ (sym (c .before .before .before .is-fresh .ensures) ∙ not-false _ (c .before .before .if1 .left)) _ _
+    (loop-end (c .before .loop .inv) (c .loop-test .left))
+
+pub +entry-check+table-check-spec : {M : Type 1} → statement M
++entry-check+table-check-spec =
+    close μ-entry-check μ-table-check
+    (λ t. entry-check-lts.spec (entry-claims t) (entry-check-at t) entry-check.Post
+    (entry-check-mul-word t)
+    (entry-check-sub-word t)
+    (entry-check-add-word t)
+    (entry-check-word-requires t)
+    (entry-check-read-word-requires t)
+    (entry-check-enum-told t)
+    (entry-check-enum-told-2 t)
+    (entry-check-enum-known-e t)
+    (entry-check-sub-table-check t)
+    (entry-check-table-check-requires t)
+    (entry-check-enum-told-3 t)
+    (entry-check-returns t)
+    (entry-check-returns-2 t)
+    (entry-check-same-length t)
+    (entry-check-returns-3 t)
+    (entry-check-returns-4 t))
+    (λ t. table-check-lts.spec (table-claims t) (table-check-at t) table-check.Post table-check-Inv-loop table-check-μ-loop
+    (table-check-is-fresh-requires t)
+    (table-check-same-length t)
+    (table-check-returns t)
+    (table-check-slice-write-marks t)
+    (table-check-loop-holds t)
+    (table-check-entry-check-requires t)
+    (table-check-enum-known-r t)
+    (table-check-add-tables t)
+    (table-check-add-mappings t)
+    (table-check-enum-told t)
+    (table-check-same-length-2 t)
+    (table-check-returns-2 t)
+    (table-check-sub-left t)
+    (table-check-loop-less t)
+    (table-check-loop-again t)
+    (table-check-same-length-3 t)
+    (table-check-returns-3 t))

@@ -1,0 +1,4 @@
+mod Parts
+mod Tables
+mod Frees
+mod Whole

@@ -1,0 +1,117 @@
+-- `audit` meets its contract.
+use mathlib.Core.Path.{_≡_, sym, _∙_}
+use mathlib.Core.Bool.{true}
+use native.Mathlib.Omega.{arith}
+use lib.ListN.{length}
+use borrow.Author.Needs.{needs}
+use borrow.Author.Tests.{not-true, not-false}
+use Rattle.path.specs.Geometry.{four}
+use Rattle.path.specs.Numbers.{GoodSetup}
+use Rattle.path.specs.Laws.{good-setup}
+use Rattle.model.specs.Answers.{Pool, pool}
+use Rattle.model.specs.Calls.{goodPool}
+use Rattle.model.specs.AuditLaws.{audit-bad}
+use Rattle.audit.proofs.Whole.{root-fit, whole-clash, whole-miscount, whole-unfree, whole-sound}
+use Rattle.audit.proofs.audit.Statement.{statement}
+use Rattle.audit.proofs.audit.Tie as tie
+use Rattle.audit.proofs.audit.Reads as reads
+use Rattle.audit.proofs.audit.Lts as lts
+use Rattle.audit.proofs.free_check.Reads as free-check-reads
+use Rattle.audit.proofs.table_check.Reads as table-check-reads
+use Rattle.path.proofs.good_setup.Reads as good-setup-reads
+
+-- past the test of the setup numbers
+abbrev claims : lts.Claims
+claims = (
+  good-setup-reads.Asked,
+  good-setup-reads.Learnt,
+  table-check-reads.Asked,
+  table-check-reads.Learnt,
+  free-check-reads.Asked,
+  free-check-reads.Learnt,
+)
+
+abbrev Past : Type 0
+Past = lts.Else1 claims reads.Pre reads.Post
+
+abbrev at : Past → Pool
+at c = pool (c .before .before .before .before .args .s) (c .before .before .before .before .args .words .now) (c .before .before .before .before .args .list .now)
+
+good : (c : Past) → goodPool four (at c) ≡ true
+good c = sym (c .before .good-setup .ensures) ∙ not-false _ (c .if1 .left)
+
+numbers : (c : Past) → GoodSetup four (at c .numbers) (length (at c .words)) (length (at c .list))
+numbers c = good-setup (good c)
+
+good-setup-requires : tie.Need-good-setup-requires
+good-setup-requires c κs = search needs
+
+returns : tie.Need-returns
+returns c = sym (audit-bad four _ (sym (c .before .good-setup .ensures) ∙ not-true _ (c .if1 .taken)))
+
+cast-n : tie.Need-cast-n
+cast-n c = omega (arith, numbers (c .before) .numbers .few)
+
+slice-aggregate-table-check : tie.Need-slice-aggregate-table-check
+slice-aggregate-table-check c = search needs
+
+sub-table-check : tie.Need-sub-table-check
+sub-table-check c = omega (arith, numbers (c .before .before .before) .numbers .enough)
+
+table-check-requires : tie.Need-table-check-requires
+table-check-requires c κs = root-fit (at (c .before .before .before)) (good (c .before .before .before))
+
+enum-known-r : tie.Need-enum-known-r
+enum-known-r c = search needs
+
+sub-if2 : tie.Need-sub-if2
+sub-if2 c = omega (arith, numbers (c .before .before .before .before .before .before .before .before .before) .room)
+
+returns-2 : tie.Need-returns-2
+returns-2 c =
+    whole-miscount (at (c .before .before .before .before .before .before .before .before .before .before)) (good (c .before .before .before .before .before .before .before .before .before .before)) _ _ _ (rw (c .before .before .before .r .given .1) at (c .before .before .before .before .before .before .table-check .ensures)) (c .if2 .taken)
+
+slice-aggregate-free-check : tie.Need-slice-aggregate-free-check
+slice-aggregate-free-check c = search needs
+
+free-check-requires : tie.Need-free-check-requires
+free-check-requires c κs =
+    let s = numbers (c .before .before .before .before .before .before .before .before .before .before .before) in
+    (omega (arith, s .numbers .few, c .before .before .before .before .before .before .before .table-check .kept .1 .0), omega (arith, s .room, s .numbers .places-are))
+
+returns-3 : tie.Need-returns-3
+returns-3 c =
+    whole-unfree (at (c .before .before .before .before .before .before .before .before .before .before .before .before .before .before)) (good (c .before .before .before .before .before .before .before .before .before .before .before .before .before .before)) _ _ _ (rw (c .before .before .before .before .before .before .before .r .given .1) at (c .before .before .before .before .before .before .before .before .before .before .table-check .ensures))
+    (sym (not-true _ (c .if3 .taken)) ∙ c .before .before .free-check .ensures)
+
+enum-told : tie.Need-enum-told
+enum-told c = search needs
+
+returns-4 : tie.Need-returns-4
+returns-4 c =
+    whole-sound (at (c .before .before .before .before .before .before .before .before .before .before .before .before .before .before)) (good (c .before .before .before .before .before .before .before .before .before .before .before .before .before .before)) _ _ _ (rw (c .before .before .before .before .before .before .before .r .given .1) at (c .before .before .before .before .before .before .before .before .before .before .table-check .ensures))
+    (c .before .before .before .before .if2 .left)
+    (sym (not-false _ (c .if3 .left)) ∙ c .before .before .free-check .ensures)
+
+returns-5 : tie.Need-returns-5
+returns-5 c = whole-clash (at (c .before .before .before .before .before .before .before)) (good (c .before .before .before .before .before .before .before)) _ (rw (c .enum-told .given .1) at (c .before .before .before .table-check .ensures))
+
+pub audit-spec : {M : Type 1} → statement M
+audit-spec =
+    tie.close
+    (tie.spec
+    good-setup-requires
+    returns
+    cast-n
+    slice-aggregate-table-check
+    sub-table-check
+    table-check-requires
+    enum-known-r
+    sub-if2
+    returns-2
+    slice-aggregate-free-check
+    free-check-requires
+    returns-3
+    enum-told
+    returns-4
+    returns-5)

@@ -1,0 +1,102 @@
+-- Demand 3, as it is promised. Make any sequence of calls, with any arguments, each on what the last one left, from a pool that holds a ledger:
+-- a fresh format's, or one that the audit accepts. Every answer is the ledger's.
+use mathlib.Core.Path.{_≡_}
+use mathlib.Core.Logic.{_≢_, _⊎_, _↔_}
+use mathlib.Core.List.{List, [], _∷_, _++_, List·Memᴰ}
+use Prim.Native.Nat.{ℕ, _-_, _<_}
+use lib.ListN.{take}
+use Rattle.path.specs.Geometry.{Granule, sizeAt}
+use Rattle.entry.specs.declared.Entry.the-variants.{Table}
+use Rattle.model.specs.Answers.{Answer, formatted, took, gave, found, audited, refused, Pool, pool, Done, done}
+use Rattle.model.specs.Calls.{walkTo, formatW, queryW, mapW, unmapW}
+use Rattle.model.specs.Audit.{auditW, freeOf}
+use Rattle.model.specs.Sound.{reachedOf}
+use Rattle.model.specs.Ledger.{Ledger, region, regionsNeeded, freeTables, Entered, entered, formatL, queryL, mapL, unmapL, auditL}
+use Rattle.tree.specs.Count.{Distinct}
+use Rattle.demand.specs.Holds.{Holds}
+
+-- a call and its arguments, whatever they are
+pub data Call : Type 0 where
+  -- levels, base, tables
+  formatC : ℕ → ℕ → ℕ → Call
+  -- address, frame base, size, attributes
+  mapC : ℕ → ℕ → ℕ → ℕ → Call
+  -- address
+  unmapC : ℕ → Call
+  queryC : ℕ → Call
+  auditC : Call
+
+-- after a refused format the setup from before goes on
+abbrev pub goOn : Pool → Done → Answer → Done
+goOn p d formatted = d
+goOn p d (refused k) = done (refused k) (pool (p .numbers) (d .after .words) (d .after .list))
+goOn p d (took t) = d
+goOn p d (gave b s k t) = d
+goOn p d (found m) = d
+goOn p d (audited t m) = d
+
+-- one call on a pool
+abbrev pub stepW : Granule → Pool → Call → Done
+stepW G p (formatC l b n) = let d = formatW G l b n (p .words) (p .list) in goOn p d (d .answer)
+stepW G p (mapC a b s k) = mapW G p a b s k
+stepW G p (unmapC a) = unmapW G p a
+stepW G p (queryC a) = done (queryW G p a) p
+stepW G p auditC = done (auditW G p) p
+
+-- one call on a ledger
+abbrev pub stepL : Granule → Ledger → Call → Entered
+stepL G A (formatC l b n) = formatL G A l b n
+stepL G A (mapC a b s k) = mapL G A a b s k
+stepL G A (unmapC a) = unmapL G A a
+stepL G A (queryC a) = entered (queryL G A a) A
+stepL G A auditC = entered (auditL G A) A
+
+-- a sequence of calls: the answers, and what is left
+abbrev pub answersW : Granule → Pool → List Call → List Answer
+answersW G p [] = []
+answersW G p (c ∷ cs) = stepW G p c .answer ∷ answersW G (stepW G p c .after) cs
+
+abbrev pub answersL : Granule → Ledger → List Call → List Answer
+answersL G A [] = []
+answersL G A (c ∷ cs) = stepL G A c .answer ∷ answersL G (stepL G A c .after) cs
+
+abbrev pub poolAfter : Granule → Pool → List Call → Pool
+poolAfter G p [] = p
+poolAfter G p (c ∷ cs) = poolAfter G (stepW G p c .after) cs
+
+abbrev pub ledgerAfter : Granule → Ledger → List Call → Ledger
+ledgerAfter G A [] = A
+ledgerAfter G A (c ∷ cs) = ledgerAfter G (stepL G A c .after) cs
+
+-- table t stands for the region of height h that starts at address a: the walk there comes to it
+abbrev pub StandsFor : Granule → Pool → ℕ → ℕ → ℕ → Type 0
+StandsFor G p h a t = (walkTo G p h a .entry ≡ Table t) × (walkTo G p h a .left ≡ h)
+
+-- the region of height h that starts at address a is one that a live mapping needs a table for
+abbrev pub NeededBy : Granule → Ledger → ℕ → ℕ → Type 0
+NeededBy G A h a = List·Memᴰ (region (sizeAt G h) a) (regionsNeeded G (A .levels - 1) (A .live))
+
+-- a pool after a call, and the ledger after it
+pub record Rests (G : Granule) (p : Pool) (A : Ledger) : Type 0 where
+  -- the numbers are the ledger's, the audit's rules are kept, the pool's own mappings are the ledger's, in whatever order
+  pub holds : Holds G p A
+  -- the free count is the ledger's: what its mappings do not need
+  pub free-count : p .numbers .free ≡ freeTables G A
+  -- the reachable tables and the free numbers are all the numbers below the table count, each once
+  pub once : Distinct (reachedOf G p ++ freeOf p)
+  pub all : (t : ℕ) → List·Memᴰ t (reachedOf G p ++ freeOf p) ↔ (t < A .tables)
+  -- a table is reachable exactly when it is the root or stands for a region that a live mapping needs; one table a region
+  pub reached-needed : (t : ℕ) → List·Memᴰ t (reachedOf G p) → (t ≡ 0) ⊎ ((h : ℕ) × (a : ℕ) × NeededBy G A h a × StandsFor G p h a t)
+  pub needed-reached : (h a : ℕ) → NeededBy G A h a → (t : ℕ) × List·Memᴰ t (reachedOf G p) × (t ≢ 0) × StandsFor G p h a t
+  pub one-region : (h a h′ a′ t : ℕ) → NeededBy G A h a → NeededBy G A h′ a′ → StandsFor G p h a t → StandsFor G p h′ a′ t → (h ≡ h′) × (a ≡ a′)
+  -- the audit accepts, with the ledger's counts
+  pub audit : auditW G p ≡ auditL G A
+
+-- the promise, for a pool p, the ledger A that it holds, and any calls cs
+pub record Demand3 (G : Granule) (p : Pool) (A : Ledger) (cs : List Call) : Type 0 where
+  -- every answer is the ledger's
+  pub answers : answersW G p cs ≡ answersL G A cs
+  -- 8 is never given
+  pub sound : (a : Answer) → List·Memᴰ a (answersW G p cs) → a ≢ refused 8
+  -- and after each call the pool rests on the ledger
+  pub after : (j : ℕ) → Rests G (poolAfter G p (take j cs)) (ledgerAfter G A (take j cs))

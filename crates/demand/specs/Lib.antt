@@ -1,0 +1,15 @@
+pub mod Shown
+pub mod Arm
+pub mod Memories
+pub mod Walks
+pub mod Carried
+pub mod Visits
+pub mod Holds
+pub mod Sims
+pub mod Queries
+pub mod Maps
+pub mod Unmaps
+pub mod Others
+pub mod Demand3
+pub mod Rest
+pub mod Theorem

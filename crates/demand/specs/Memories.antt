@@ -1,0 +1,87 @@
+-- The lent memory is a store of the tree's theory: table t's words from place `entries * t` on, and the free list.
+use mathlib.Core.Path.{_≡_, refl, ap, sym, _∙_, subst}
+use mathlib.Core.Logic.{_≢_, _⊎_, inl, inr, ⊎-elim}
+use mathlib.Core.List.{List}
+use Prim.Native.Nat.{ℕ, zero, suc, _+_, _-_, _*_, _/_, _%_, _≤_, _<_}
+use native.Mathlib.Nat.{mul-comm, mul-le-mul-left, mul-add, mul-suc}
+use native.Mathlib.Omega.{arith}
+use native.Mathlib.Decide.{ℕ-discrete, decLt}
+use lib.Arith.{digits-lt, digits-div, digits-mod}
+use lib.ListN.{length, getD, set, length-set}
+use lib.Seq.{getD-set-same, getD-set-other}
+use Rattle.laws.specs.Lists.{zeroed}
+use Rattle.laws.specs.ListLaws.{length-zeroed, getD-zeroed, getD-zeroed-before, getD-zeroed-after}
+use Rattle.path.specs.Geometry.{Granule, pageSize, entries, Sane}
+
+use Rattle.model.specs.Walk.{slot}
+use Rattle.tree.specs.Region.{Same, same?, upd, upd-at, upd-other, put1, put1-at, put1-other}
+use Rattle.tree.specs.Tree.{Geo}
+use Rattle.tree.specs.Inv.{Store}
+use Rattle.demand.specs.Arm.{geo}
+
+-- a place of a table is that of one table and one index
+pub one-place : {K t i t′ i′ : ℕ} → i < K → i′ < K → K * t′ + i′ ≡ K * t + i → Same t i t′ i′
+one-place {K} {t} {i} {t′} {i′} a b e =
+    let p : t′ * K + i′ ≡ t * K + i = rw (mul-comm t′ K, mul-comm t K) e in
+    (sym (digits-div t′ b) ∙ ap (λ (z : ℕ). z / K) p ∙ digits-div t a, sym (digits-mod t′ b) ∙ ap (λ (z : ℕ). z % K) p ∙ digits-mod t a)
+
+-- the tables before another end where it starts, at the latest
+pub table-ends : (K : ℕ) {t c : ℕ} → t < c → K * t + K ≤ K * c
+table-ends K {t} {c} l = rw (← mul-suc K t) (mul-le-mul-left K l)
+
+pub in-table : (K : ℕ) {t n i : ℕ} → t < n → i < K → K * t + i < K * n
+in-table K l b = omega (arith, table-ends K l)
+
+-- the words of a pool, by table and index
+abbrev pub readAt : Granule → List ℕ → ℕ → ℕ → ℕ
+readAt G ws t i = getD ws (slot G t i) 0
+
+-- the free list, by place
+abbrev pub placeAt : List ℕ → ℕ → ℕ
+placeAt list i = getD list i 0
+
+module _ (G : Granule) (Z : Sane G) (P n top : ℕ) (al : P % pageSize G ≡ 0) where
+  abbrev K : ℕ
+  K = entries G
+
+  pub rd-wr : (ws : List ℕ) (t i x : ℕ) → length ws ≡ K * n → t < n → i < K → (t′ i′ : ℕ) → i′ < K → readAt G (set ws (slot G t i) x) t′ i′ ≡ upd (readAt G ws) t i x t′ i′
+  rd-wr ws t i x k a b t′ i′ c = go (same? t i t′ i′)
+    where
+      go : Dec (Same t i t′ i′) → readAt G (set ws (slot G t i) x) t′ i′ ≡ upd (readAt G ws) t i x t′ i′
+      go (yes s) = let p = s .0 in let q = s .1 in
+          rw (p, q) (getD-set-same ws (slot G t i) x 0 (omega (arith, in-table K a b)) ∙ sym (upd-at (readAt G ws) t i x t i (refl, refl)))
+      go (no d) = getD-set-other ws (slot G t i) (slot G t′ i′) x 0 (λ e. d (one-place b c e)) ∙ sym (upd-other (readAt G ws) t i x t′ i′ d)
+
+  pub rd-kept : (ws : List ℕ) (c t i : ℕ) → i < K → t ≢ c → readAt G (zeroed ws (slot G c 0) K) t i ≡ readAt G ws t i
+  rd-kept ws c t i b d = go (decLt t c)
+    where
+      go : Dec (t < c) → readAt G (zeroed ws (slot G c 0) K) t i ≡ readAt G ws t i
+      go (yes l) = getD-zeroed-before ws (slot G c 0) K (slot G t i) (omega (arith, in-table K l b))
+      go (no l) = getD-zeroed-after ws (slot G c 0) K (slot G t i) (let g : c < t = omega arith in omega (arith, table-ends K g))
+
+  pub pl-push : (q : List ℕ) (f t : ℕ) → length q ≡ n → f < n → (i : ℕ) → placeAt (set q f t) i ≡ put1 (placeAt q) f t i
+  pl-push q f t k l i = go (ℕ-discrete i f)
+    where
+      go : Dec (i ≡ f) → placeAt (set q f t) i ≡ put1 (placeAt q) f t i
+      go (yes e) = rw e (getD-set-same q f t 0 (omega arith) ∙ sym (put1-at (placeAt q) f t))
+      go (no e) = getD-set-other q f i t 0 e ∙ sym (put1-other (placeAt q) f t i e)
+
+  abbrev pub store : Store (geo G Z P n top al)
+  store = record {
+    M = List ℕ;
+    Ok = λ ws. length ws ≡ K * n;
+    rd = readAt G;
+    wr = λ ws t i x. set ws (slot G t i) x;
+    wipe = λ ws c. zeroed ws (slot G c 0) K;
+    wr-ok = λ ws t i x k. length-set ws (slot G t i) x ∙ k;
+    wipe-ok = λ ws c k. length-zeroed ws (slot G c 0) K ∙ k;
+    rd-wr = rd-wr;
+    rd-wiped = λ ws c k l i b. getD-zeroed ws (slot G c 0) K (omega (arith, table-ends K l)) (slot G c i) (omega arith) (omega arith);
+    rd-kept = λ ws c k l t i b d. rd-kept ws c t i b d;
+    Q = List ℕ;
+    Okᶠ = λ q. length q ≡ n;
+    pl = placeAt;
+    push = λ q f t. set q f t;
+    push-ok = λ q f t k. length-set q f t ∙ k;
+    pl-push = pl-push;
+  }

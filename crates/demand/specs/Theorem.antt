@@ -1,0 +1,208 @@
+-- Demand 3 is met, from any pool that holds a ledger, by any sequence of calls; and so from a fresh format, and from a pool that the audit accepts.
+use mathlib.Core.Path.{_≡_, refl, ap, sym, _∙_, subst}
+use mathlib.Core.Logic.{_≢_, _⊎_, inl, inr, ⊎-elim}
+use mathlib.Core.Bool.{Bool, true, false, cond}
+use mathlib.Core.List.{List, [], _∷_, map, List·Memᴰ, List·Memᴰ·not-nil, List·Memᴰ·cases-cons}
+use mathlib.Core.Option.{Option, some, none}
+use Prim.Native.Nat.{ℕ, zero, suc, _+_, _-_, _*_, _%_, _≤_, _<_}
+use native.Mathlib.Omega.{arith}
+use lib.Dec.{ltb, leb, eqb}
+use lib.ListN.{length, take, replicate}
+use Rattle.laws.specs.Lists.{down}
+use borrow.Author.Tests.{leb-true, leb-false, eqb-true}
+use Rattle.path.specs.Geometry.{Granule, four, entries, pageSize, sizeAt, spaceOf, physical, heightOf, Sane}
+use Rattle.path.specs.Laws.{four-sane, good-numbers}
+use Rattle.path.specs.Numbers.{goodNumbers, GoodNumbers}
+use Rattle.model.specs.Answers.{Answer, formatted, took, gave, found, audited, refused, Mapping, mapping, Pool, pool, setup, Done, done, refuse}
+use Rattle.model.specs.Calls.{walkTo, formatW, queryW, mapTests, mapAt, mapW, unmapTests, unmapAt, unmapW}
+use Rattle.model.specs.Audit.{auditW}
+use Rattle.model.specs.Sound.{mappingsOf}
+use Rattle.model.specs.Ledger.{Ledger, ledger, withLive, anyOverlap, coverOf, dropAt, freeTables, tablesLacking, Entered, entered, formatL, queryOf, queryL, mapL, unmapOf, unmapL, auditL}
+use Rattle.demand.specs.Holds.{Holds}
+use Rattle.demand.specs.Sims.{Sim, holds-sim, sim-holds}
+use Rattle.demand.specs.Queries.{own, ledger-is, pool-good, query-own}
+use Rattle.demand.specs.Maps.{Alike, ledgerMap, own-sim, tests-fine, map-alike}
+use Rattle.demand.specs.Unmaps.{unmap-alike}
+use Rattle.demand.specs.Others.{fresh-sim, audit-own, accepted-holds}
+use Rattle.demand.specs.Rest.{rests-own}
+use Rattle.demand.specs.Demand3.{Call, formatC, mapC, unmapC, queryC, auditC, goOn, stepW, stepL, answersW, answersL, poolAfter, ledgerAfter, Rests, Demand3}
+
+module _ (G : Granule) (Z : Sane G) where
+  -- one call, by the pool's own ledger
+  module _ {p : Pool} {A : Ledger} (I : Sim G Z p A) where
+    map-step : (a b size k : ℕ) → Alike G Z (mapW G p a b size k) (mapL G (own G Z I) a b size k)
+    unfolding mapW mapL
+    map-step a b size k = rw (pool-good G Z I) (go (eqb (mapTests G (p .numbers .levels) a b size k) 0) refl)
+      where
+        no : ℕ
+        no = mapTests G (p .numbers .levels) a b size k
+
+        go : (y : Bool) → eqb no 0 ≡ y
+            → Alike G Z (cond y (mapAt G p a b (heightOf G size) k (walkTo G p (heightOf G size) a) (walkTo G p (heightOf G size) a .entry)) (refuse no p))
+            (cond y (ledgerMap G (own G Z I) a b size k) (entered (refused no) (own G Z I)))
+        go true e = map-alike G Z I a b size k (tests-fine G (p .numbers .levels) a b size k (eqb-true no 0 e)) (walkTo G p (heightOf G size) a .entry) refl
+        go false e = record { answer = refl; sim = own-sim G Z I }
+
+    -- unmap's tests say that the address is in the space
+    in-space : (a : ℕ) → unmapTests G (p .numbers .levels) a ≡ 0 → a < spaceOf G (p .numbers .levels)
+    unfolding unmapTests
+    in-space a e = go (leb (spaceOf G (p .numbers .levels)) a) refl e
+      where
+        go : (y : Bool) → leb (spaceOf G (p .numbers .levels)) a ≡ y → _≡_ {A = ℕ} (cond y 4 (cond (eqb (a % pageSize G) 0) 0 5)) 0 → a < spaceOf G (p .numbers .levels)
+        go true q e = absurd (omega arith)
+        go false q e = leb-false (spaceOf G (p .numbers .levels)) a q
+
+    unmap-step : (a : ℕ) → Alike G Z (unmapW G p a) (unmapL G (own G Z I) a)
+    unfolding unmapW unmapL
+    unmap-step a = rw (pool-good G Z I) (go (eqb (unmapTests G (p .numbers .levels) a) 0) refl)
+      where
+        no : ℕ
+        no = unmapTests G (p .numbers .levels) a
+
+        go : (y : Bool) → eqb no 0 ≡ y
+            → Alike G Z (cond y (unmapAt G p a (walkTo G p 0 a) (walkTo G p 0 a .entry)) (refuse no p))
+            (cond y (unmapOf G (own G Z I) a (coverOf a (own G Z I .live))) (entered (refused no) (own G Z I)))
+        go true e = unmap-alike G Z I a (in-space a (eqb-true no 0 e)) (walkTo G p 0 a .entry) refl
+        go false e = record { answer = refl; sim = own-sim G Z I }
+
+    format-step : (levels base tables : ℕ) → Alike G Z (stepW G p (formatC levels base tables)) (formatL G (own G Z I) levels base tables)
+    unfolding formatW formatL
+    format-step levels base tables = go (goodNumbers G levels base tables (length (p .words)) (length (p .list))) refl
+      where
+        same : goodNumbers G levels base tables (length (p .words)) (length (p .list)) ≡ goodNumbers G levels base tables (entries G * p .numbers .tables) (p .numbers .tables)
+        same = (λ i. goodNumbers G levels base tables (I .good .numbers .words-are i) (I .good .numbers .places-are i))
+
+        left : Bool → Done
+        left y = cond y (done formatted (pool (setup levels base tables (tables - 1)) (replicate (length (p .words)) 0) (down tables))) (refuse 1 (pool (setup 0 0 0 0) (p .words) (p .list)))
+
+        right : Bool → Entered
+        right y = cond y (entered formatted (ledger levels base tables [])) (entered (refused 1) (own G Z I))
+
+        on : (y : Bool) → goodNumbers G levels base tables (length (p .words)) (length (p .list)) ≡ y → Alike G Z (goOn p (left y) (left y .answer)) (right y)
+        on true e = record { answer = refl; sim = fresh-sim G Z levels base tables (p .words) (p .list) (good-numbers e) }
+        on false e = record { answer = refl; sim = own-sim G Z I }
+
+        go : (y : Bool) → goodNumbers G levels base tables (length (p .words)) (length (p .list)) ≡ y → Alike G Z (goOn p (left (goodNumbers G levels base tables (length (p .words)) (length (p .list)))) (left (goodNumbers G levels base tables (length (p .words)) (length (p .list))) .answer)) (right (goodNumbers G levels base tables (entries G * p .numbers .tables) (p .numbers .tables)))
+        go y e = rw (sym same) (on (goodNumbers G levels base tables (length (p .words)) (length (p .list))) refl)
+
+    step-own : (c : Call) → Alike G Z (stepW G p c) (stepL G (own G Z I) c)
+    step-own (formatC l b n) = format-step l b n
+    step-own (mapC a b s k) = map-step a b s k
+    step-own (unmapC a) = unmap-step a
+    step-own (queryC a) = record { answer = query-own G Z I a; sim = own-sim G Z I }
+    step-own auditC = record { answer = audit-own G Z I; sim = own-sim G Z I }
+
+    pub step-alike : (c : Call) → Alike G Z (stepW G p c) (stepL G A c)
+    step-alike c = subst (λ (B : Ledger). Alike G Z (stepW G p c) (stepL G B c)) (sym (ledger-is G Z I)) (step-own c)
+
+    pub rests : Rests G p A
+    rests = subst (λ (B : Ledger). Rests G p B) (sym (ledger-is G Z I)) (rests-own G Z I)
+
+  -- any sequence
+  pub after-sim : (cs : List Call) {p : Pool} {A : Ledger} → Sim G Z p A → Sim G Z (poolAfter G p cs) (ledgerAfter G A cs)
+  after-sim [] I = I
+  after-sim (c ∷ cs) I = after-sim cs (step-alike I c .sim)
+
+  pub answers-alike : (cs : List Call) {p : Pool} {A : Ledger} → Sim G Z p A → answersW G p cs ≡ answersL G A cs
+  answers-alike [] I = refl
+  answers-alike (c ∷ cs) I = let S = step-alike I c in let a = S .answer in let b = answers-alike cs (S .sim) in λ i. a i ∷ b i
+
+  -- a ledger never answers 8
+  small : (x : ℕ) → x ≤ 5 → refused x ≢ refused 8
+  small x l e = let z : x ≡ 8 = cc in omega arith
+
+  tests-small : (levels a b size k : ℕ) → mapTests G levels a b size k ≤ 5
+  unfolding mapTests
+  tests-small levels a b size k = go (ltb (G .large) (heightOf G size)) (ltb 15 k) (leb (spaceOf G levels) a) (ltb (spaceOf G levels) (a + size)) (ltb physical (b + size)) (eqb (a % size) 0) (eqb (b % size) 0)
+    where
+      go : (x₁ x₂ x₃ x₄ x₅ x₆ x₇ : Bool) → cond x₁ 2 (cond x₂ 3 (cond x₃ 4 (cond x₄ 4 (cond x₅ 4 (cond x₆ (cond x₇ 0 5) 5))))) ≤ 5
+      go true x₂ x₃ x₄ x₅ x₆ x₇ = omega arith
+      go false true x₃ x₄ x₅ x₆ x₇ = omega arith
+      go false false true x₄ x₅ x₆ x₇ = omega arith
+      go false false false true x₅ x₆ x₇ = omega arith
+      go false false false false true x₆ x₇ = omega arith
+      go false false false false false false x₇ = omega arith
+      go false false false false false true false = omega arith
+      go false false false false false true true = omega arith
+
+  unmap-small : (levels a : ℕ) → unmapTests G levels a ≤ 5
+  unfolding unmapTests
+  unmap-small levels a = go (leb (spaceOf G levels) a) (eqb (a % pageSize G) 0)
+    where
+      go : (x y : Bool) → cond x 4 (cond y 0 5) ≤ 5
+      go true y = omega arith
+      go false true = omega arith
+      go false false = omega arith
+
+  -- what holds of both answers holds of the one that a test chooses
+  either : (b : Bool) (x y : Entered) → x .answer ≢ refused 8 → y .answer ≢ refused 8 → cond b x y .answer ≢ refused 8
+  either true x y p q = p
+  either false x y p q = q
+
+  other : {a : Answer} → (a ≡ refused 8 → _≡_ {A = ℕ} 0 1) → a ≢ refused 8
+  other f e = let z = f e in omega arith
+
+  never-eight : (A : Ledger) (c : Call) → stepL G A c .answer ≢ refused 8
+  unfolding formatL mapL unmapL unmapOf queryL auditL
+  never-eight A (formatC l b n) = either (goodNumbers G l b n (entries G * A .tables) (A .tables)) (entered formatted (ledger l b n [])) (entered (refused 1) A) (other (λ e. cc)) (small 1 (omega arith))
+  never-eight A (mapC a b s k) =
+      let no = mapTests G (A .levels) a b s k in
+      let need = tablesLacking G (A .levels) (A .live) (mapping a b s k) in
+      let taken = entered (took need) (withLive A (mapping a b s k ∷ A .live)) in
+      either (eqb no 0) (ledgerMap G A a b s k) (entered (refused no) A)
+      (either (anyOverlap a s (A .live)) (entered (refused 6) A) (cond (ltb (freeTables G A) need) (entered (refused 7) A) taken) (other (λ e. cc))
+      (either (ltb (freeTables G A) need) (entered (refused 7) A) taken (other (λ e. cc)) (other (λ e. cc))))
+      (small no (tests-small (A .levels) a b s k))
+  never-eight A (unmapC a) = either (eqb (unmapTests G (A .levels) a) 0) (unmapOf G A a (coverOf a (A .live))) (entered (refused (unmapTests G (A .levels) a)) A) (on (coverOf a (A .live))) (small (unmapTests G (A .levels) a) (unmap-small (A .levels) a))
+    where
+      on : (m : Option Mapping) → unmapOf G A a m .answer ≢ refused 8
+      on none = other (λ e. cc)
+      on (some m) = either (eqb (m .at) a) (entered (gave (m .frame) (m .size) (m .attributes) (freeTables G (withLive A (dropAt a (A .live))) - freeTables G A)) (withLive A (dropAt a (A .live)))) (entered (refused 10) A) (other (λ e. cc)) (other (λ e. cc))
+  never-eight A (queryC a) = go (leb (spaceOf G (A .levels)) a) (coverOf a (A .live))
+    where
+      go : (y : Bool) (m : Option Mapping) → cond y (refused 4) (queryOf m) ≢ refused 8
+      go true m = small 4 (omega arith)
+      go false none = other (λ e. cc)
+      go false (some m) = other (λ e. cc)
+  never-eight A auditC = other (λ e. cc)
+
+  never : (A : Ledger) (cs : List Call) (a : Answer) → List·Memᴰ a (answersL G A cs) → a ≢ refused 8
+  never A [] a m = absurd (List·Memᴰ·not-nil m)
+  never A (c ∷ cs) a m = ⊎-elim (λ e q. never-eight A c (sym e ∙ q)) (never (stepL G A c .after) cs a) (List·Memᴰ·cases-cons m)
+
+  -- demand 3
+  pub demand3 : {p : Pool} {A : Ledger} → Holds G p A → (cs : List Call) → Demand3 G p A cs
+  demand3 {p} {A} H cs = record {
+    answers = answers-alike cs I;
+    sound = λ a m. never A cs a (subst (λ (l : List Answer). List·Memᴰ a l) (answers-alike cs I) m);
+    after = λ j. rests (after-sim (take j cs) I);
+  }
+    where
+      I : Sim G Z p A
+      I = holds-sim G Z H
+
+  -- from a fresh format of any memory
+  pub from-format : (levels base tables : ℕ) (ws list : List ℕ) → formatW G levels base tables ws list .answer ≡ formatted → (cs : List Call)
+      → Demand3 G (formatW G levels base tables ws list .after) (ledger levels base tables []) cs
+  unfolding formatW
+  from-format levels base tables ws list e cs = go (goodNumbers G levels base tables (length ws) (length list)) refl e
+    where
+      left : Bool → Done
+      left y = cond y (done formatted (pool (setup levels base tables (tables - 1)) (replicate (length ws) 0) (down tables))) (refuse 1 (pool (setup 0 0 0 0) ws list))
+
+      go : (y : Bool) → goodNumbers G levels base tables (length ws) (length list) ≡ y → left y .answer ≡ formatted → Demand3 G (left y .after) (ledger levels base tables []) cs
+      go true q e = demand3 (sim-holds G Z (fresh-sim G Z levels base tables ws list (good-numbers q))) cs
+      go false q e = let z : _≡_ {A = ℕ} 0 1 = cc in absurd (omega arith)
+
+  -- from a pool that the audit accepts: the ledger is that pool's mappings
+  pub from-audit : (p : Pool) (t m : ℕ) → auditW G p ≡ audited t m → (cs : List Call)
+      → Demand3 G p (ledger (p .numbers .levels) (p .numbers .base) (p .numbers .tables) (mappingsOf G p)) cs
+  from-audit p t m e cs = demand3 (accepted-holds G Z p t m e) cs
+
+  -- one call, as the contracts say it
+  pub step-holds : {p : Pool} {A : Ledger} → Holds G p A → (c : Call) → (stepW G p c .answer ≡ stepL G A c .answer) × Holds G (stepW G p c .after) (stepL G A c .after)
+  step-holds H c = let S = step-alike (holds-sim G Z H) c in (S .answer, sim-holds G Z (S .sim))
+
+-- the 4 KiB granule, three and four levels
+pub demand3-four : {p : Pool} {A : Ledger} → Holds four p A → (cs : List Call) → Demand3 four p A cs
+demand3-four H cs = demand3 four four-sane H cs

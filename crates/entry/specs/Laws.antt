@@ -1,0 +1,302 @@
+-- Laws of reading: each word says one thing, and a frame's or a table's word says what it was made of. They hold at any height of any sane granule.
+use Prim.Native.Nat.{ℕ, zero, suc, _+_, _-_, _*_, _/_, _%_, _^_, _≤_, _<_}
+use mathlib.Core.Path.{_≡_, refl, sym, ap, _∙_}
+use mathlib.Core.Bool.{Bool, true, false, cond, _&&_, false≢true}
+use mathlib.Core.Logic.{_⊎_, inl, inr}
+use native.Mathlib.Omega.{arith}
+use native.Mathlib.Nat.{mul-mod-right, mul-div-right, zero-mod, mul-le-mul-left, eq-of-mul-eq-mul-left}
+use lib.Dec.{ltb, leb, eqb}
+use lib.Pow.{mod-mod-pow}
+use borrow.Author.Tests.{lt-ltb, le-leb, eq-eqb, ne-eqb, ltb-true, leb-true, eqb-true, eqb-false}
+use Rattle.path.specs.Geometry.{Granule, Sane, pageSize, sizeAt, physical}
+use Rattle.path.specs.Laws.{page-pos, size-pos}
+use Rattle.path.specs.RegionLaws.{multiple-gap}
+use Rattle.entry.specs.Words.{frameWord, tableWord, Framed, Says, childAt, baseIn, attrsIn, frameAt, entryAt}
+use Rattle.entry.specs.Words.Says.{says-empty, says-table, says-frame, says-damaged}
+use Rattle.entry.specs.Parts.{low-of}
+pub use Rattle.entry.specs.Parts.{type-le, attr-word-le, attr-word-ge, attrs-lt, base-of, attrs-of}
+pub use Rattle.entry.specs.Parts.{frame-word-ge, frame-word-lt, table-word-ge, table-word-lt}
+use Rattle.entry.specs.declared.Entry.{Entry}
+use Rattle.entry.specs.declared.Entry.the-variants.{Empty, Table, Frame, Damaged}
+
+-- ---- multiples and tests
+
+-- a multiple of a power of two is one of each smaller power
+pub power-down : (b : ℕ) {i j : ℕ} → i ≤ j → b % 2 ^ j ≡ 0 → b % 2 ^ i ≡ 0
+power-down b {i} {j} l e =
+    let s : (j - i) + i ≡ j = omega arith in
+    sym (mod-mod-pow b (j - i) i) ∙ rw (s, e) (zero-mod (2 ^ i))
+
+-- two tests that are true together are true
+pub and-true : (x y : Bool) → (x && y) ≡ true → (x ≡ true) × (y ≡ true)
+and-true true y e = (refl, e)
+and-true false y e = absurd (false≢true e)
+
+-- ---- frames
+
+-- the test of `frameAt`
+abbrev isFrame : Granule → ℕ → ℕ → Bool
+isFrame G h w = leb h (G .large) && (eqb (baseIn w % sizeAt G h) 0 && eqb w (frameWord (baseIn w) h (attrsIn w)))
+
+passes : (G : Granule) (h w : ℕ)
+    → isFrame G h w ≡ true
+    → (h ≤ G .large) × (baseIn w % sizeAt G h ≡ 0) × (w ≡ frameWord (baseIn w) h (attrsIn w))
+passes G h w e =
+    let (level, r) = and-true (leb h (G .large)) _ e in
+    let (aligned, same) = and-true (eqb (baseIn w % sizeAt G h) 0) _ r in
+    (leb-true _ _ level, eqb-true _ _ aligned, eqb-true _ _ same)
+
+-- without a pool, a word is a frame or damaged
+pub frame-or-damaged : (G : Granule) (h w : ℕ) → (frameAt G h w ≡ Frame (baseIn w) (attrsIn w)) ⊎ (frameAt G h w ≡ Damaged)
+unfolding frameAt
+frame-or-damaged G h w = go (isFrame G h w)
+  where
+    go : (t : Bool)
+        → (cond t (Frame (baseIn w) (attrsIn w)) Damaged ≡ Frame (baseIn w) (attrsIn w))
+        ⊎ (cond t (Frame (baseIn w) (attrsIn w)) Damaged ≡ Damaged)
+    go true = inl refl
+    go false = inr refl
+
+-- a word that passes the three tests is the frame that its own bits say, any other is damaged
+pub frame-at-own : (G : Granule) (h w : ℕ)
+    → h ≤ G .large
+    → baseIn w % sizeAt G h ≡ 0
+    → w ≡ frameWord (baseIn w) h (attrsIn w)
+    → frameAt G h w ≡ Frame (baseIn w) (attrsIn w)
+unfolding frameAt
+frame-at-own G h w level aligned same =
+    simp (
+      le-leb h (G .large) level,
+      eq-eqb (baseIn w % sizeAt G h) 0 aligned,
+      eq-eqb w (frameWord (baseIn w) h (attrsIn w)) same,
+    )
+
+pub frame-at-not : (G : Granule) (h w : ℕ)
+    → (h ≤ G .large → baseIn w % sizeAt G h ≡ 0 → w ≡ frameWord (baseIn w) h (attrsIn w) → ⊥)
+    → frameAt G h w ≡ Damaged
+unfolding frameAt
+frame-at-not G h w f = go (isFrame G h w) refl
+  where
+    go : (t : Bool) → isFrame G h w ≡ t → cond t (Frame (baseIn w) (attrsIn w)) Damaged ≡ Damaged
+    go true e = let (level, aligned, same) = passes G h w e in absurd (f level aligned same)
+    go false e = refl
+
+module _ {G : Granule} (S : Sane G) where
+  pub framed-paged : {h b a : ℕ} → Framed G h b a → b % 4096 ≡ 0
+  unfolding sizeAt
+  framed-paged {h} {b} f = power-down b {i = 12} {j = G .page + G .index * h} (omega arith) (f .aligned)
+
+  pub framed-below : {h b a : ℕ} → Framed G h b a → b < physical
+  framed-below {h} f = omega (arith, size-pos G h)
+
+  -- what the word of a frame says is that frame
+  pub frame-at-back : {h b a : ℕ} → Framed G h b a → frameAt G h (frameWord b h a) ≡ Frame b a
+  unfolding frameAt
+  frame-at-back {h} {b} {a} f =
+      rw (
+        base-of b h a (framed-below f) (framed-paged f) (f .few),
+        attrs-of b h a (framed-below f) (framed-paged f) (f .few),
+        le-leb h (G .large) (f .level),
+        eq-eqb (b % sizeAt G h) 0 (f .aligned),
+        eq-eqb (frameWord b h a) (frameWord b h a) refl,
+      )
+
+  own-framed : (h w : ℕ) → h ≤ G .large → baseIn w % sizeAt G h ≡ 0 → Framed G h (baseIn w) (attrsIn w)
+  unfolding sizeAt
+  own-framed h w level aligned =
+      let most : h ≤ G .most = omega arith in
+      let small : G .page + G .index * h ≤ 48 = omega (arith, mul-le-mul-left (G .index) most) in
+      record {
+        level = level;
+        few = attrs-lt w;
+        aligned = aligned;
+        fits = multiple-gap (sizeAt G h) aligned (power-down physical {j = 48} small refl) (omega arith);
+      }
+
+  own-frame : (h w : ℕ) → isFrame G h w ≡ true → Framed G h (baseIn w) (attrsIn w) × (w ≡ frameWord (baseIn w) h (attrsIn w))
+  own-frame h w e = let (level, aligned, same) = passes G h w e in (own-framed h w level aligned, same)
+
+  -- and no other word says it
+  pub frame-at-only : (h w : ℕ) {b a : ℕ} → frameAt G h w ≡ Frame b a → Framed G h b a × (w ≡ frameWord b h a)
+  unfolding frameAt
+  frame-at-only h w {b} {a} e = go (isFrame G h w) refl e
+    where
+      go : (t : Bool)
+          → isFrame G h w ≡ t
+          → cond t (Frame (baseIn w) (attrsIn w)) Damaged ≡ Frame b a
+          → Framed G h b a × (w ≡ frameWord b h a)
+      go true p e =
+          let hb : baseIn w ≡ b = cc in
+          let ha : attrsIn w ≡ a = cc in
+          rw (hb, ha) at (own-frame h w p)
+      go false p e = absurd (let z : _≡_ {A = ℕ} 0 1 = cc in omega arith)
+
+  -- so the word of a frame is that of no other
+  pub frame-word-one : {h b a c d : ℕ} → Framed G h b a → Framed G h c d → frameWord b h a ≡ frameWord c h d → (b ≡ c) × (a ≡ d)
+  frame-word-one {h} {b} {a} {c} {d} f g e = same (sym (frame-at-back f) ∙ (ap (frameAt G h) e ∙ frame-at-back g))
+    where
+      same : Frame b a ≡ Frame c d → (b ≡ c) × (a ≡ d)
+      same q = (cc, cc)
+
+-- ---- tables
+
+pub table-word-one : (G : Granule) (P c d : ℕ) → tableWord G P c ≡ tableWord G P d → c ≡ d
+unfolding tableWord
+table-word-one G P c d e = eq-of-mul-eq-mul-left (pageSize G) (page-pos G) c d (omega arith)
+
+-- the child that a table's word names
+pub child-back : (G : Granule) (P n c : ℕ) → c < n → childAt G P n (tableWord G P c) ≡ c
+unfolding childAt tableWord
+child-back G P n c l =
+    let m = pageSize G * c in
+    let off : P + m + 3 - 3 - P ≡ m = omega arith in
+    rw (off, mul-div-right c (page-pos G), lt-ltb c n l, eq-eqb (P + m + 3) (P + m + 3) refl)
+
+-- and no other word names it
+pub child-only : (G : Granule) (P n w : ℕ) {c : ℕ} → childAt G P n w ≡ c → 1 ≤ c → (c < n) × (w ≡ tableWord G P c)
+unfolding childAt
+child-only G P n w {c} e some = go (ltb k n && eqb w (tableWord G P k)) refl e
+  where
+    k : ℕ
+    k = (w - 3 - P) / pageSize G
+
+    go : (t : Bool) → (ltb k n && eqb w (tableWord G P k)) ≡ t → cond t k 0 ≡ c → (c < n) × (w ≡ tableWord G P c)
+    go true p e =
+        let (lt, same) = and-true (ltb k n) (eqb w (tableWord G P k)) p in
+        (rw (← e) (ltb-true k n lt), rw (← e) (eqb-true w (tableWord G P k) same))
+    go false p e = absurd (omega arith)
+
+-- a word that is no table's names none
+pub child-none : (G : Granule) (P n w : ℕ) → ((c : ℕ) → 1 ≤ c → c < n → w ≡ tableWord G P c → ⊥) → childAt G P n w ≡ 0
+child-none G P n w f = go (childAt G P n w) refl
+  where
+    go : (c : ℕ) → childAt G P n w ≡ c → c ≡ 0
+    go zero e = refl
+    go (suc c) e = let (lt, same) = child-only G P n w e (omega arith) in absurd (f (suc c) (omega arith) lt same)
+
+-- ---- entries
+
+pub entry-zero : (G : Granule) (P n h : ℕ) → entryAt G P n h 0 ≡ Empty
+unfolding entryAt
+entry-zero G P n h = refl
+
+-- what a table's word says is that table
+pub table-back : (G : Granule) (P n h c : ℕ) → 1 ≤ h → 1 ≤ c → c < n → entryAt G P n h (tableWord G P c) ≡ Table c
+unfolding entryAt
+table-back G P n h c high some lt =
+    rw (
+      ne-eqb (tableWord G P c) 0 (λ e. omega (arith, table-word-ge G P c)),
+      child-back G P n c lt,
+      lt-ltb 0 h high,
+      lt-ltb 0 c some,
+    )
+
+-- a word that is not 0 and names no table is read as a frame
+pub entry-frame : (G : Granule) (P n h w : ℕ) → (w ≡ 0 → ⊥) → (1 ≤ h → childAt G P n w ≡ 0) → entryAt G P n h w ≡ frameAt G h w
+unfolding entryAt
+entry-frame G P n h w some f = rw (ne-eqb w 0 some) (go (ltb 0 h && ltb 0 (childAt G P n w)) refl)
+  where
+    go : (t : Bool) → (ltb 0 h && ltb 0 (childAt G P n w)) ≡ t → cond t (Table (childAt G P n w)) (frameAt G h w) ≡ frameAt G h w
+    go true e =
+        let (high, named) = and-true (ltb 0 h) (ltb 0 (childAt G P n w)) e in
+        absurd (omega (arith, f (ltb-true 0 h high), ltb-true 0 (childAt G P n w) named))
+    go false e = refl
+
+module _ {G : Granule} (S : Sane G) where
+  -- what is computed from a word is what the word says
+  pub says-entry : (P n h w : ℕ) → Says G P n h w (entryAt G P n h w)
+  unfolding entryAt frameAt
+  says-entry P n h w = go (eqb w 0) named (isFrame G h w) refl refl refl
+    where
+      named : Bool
+      named = ltb 0 h && ltb 0 (childAt G P n w)
+
+      frame : isFrame G h w ≡ true → Says G P n h w (Frame (baseIn w) (attrsIn w))
+      frame r = let f = own-frame S h w r in says-frame (baseIn w) (attrsIn w) (f .0) (f .1)
+
+      table : named ≡ true → Says G P n h w (Table (childAt G P n w))
+      table q =
+          let (x, y) = and-true (ltb 0 h) (ltb 0 (childAt G P n w)) q in
+          let some = ltb-true 0 (childAt G P n w) y in
+          let f = child-only G P n w refl some in
+          says-table (childAt G P n w) (ltb-true 0 h x) some (f .0) (f .1)
+
+      no-table : named ≡ false → (c : ℕ) → 1 ≤ h → 1 ≤ c → c < n → w ≡ tableWord G P c → ⊥
+      no-table q c high some lt e =
+          let t : childAt G P n w ≡ c = rw e (child-back G P n c lt) in
+          let f = rw (lt-ltb 0 h high, t, lt-ltb 0 c some) at q in
+          let z : _≡_ {A = ℕ} 0 1 = cc in
+          omega arith
+
+      no-frame : isFrame G h w ≡ false → (b a : ℕ) → Framed G h b a → w ≡ frameWord b h a → ⊥
+      no-frame r b a f e =
+          let t : frameAt G h w ≡ Frame b a = rw e (frame-at-back S f) in
+          let u : frameAt G h w ≡ Damaged = rw r in
+          let z : _≡_ {A = ℕ} 0 1 = cc in
+          omega arith
+
+      go : (x y z : Bool)
+          → eqb w 0 ≡ x
+          → named ≡ y
+          → isFrame G h w ≡ z
+          → Says G P n h w (cond x Empty (cond y (Table (childAt G P n w)) (cond z (Frame (baseIn w) (attrsIn w)) Damaged)))
+      go true y z p q r = says-empty (eqb-true w 0 p)
+      go false true z p q r = table q
+      go false false true p q r = frame r
+      go false false false p q r = says-damaged (eqb-false w 0 p) (no-table q) (no-frame r)
+
+  -- so what is read was written
+  pub empty-only : (P n h w : ℕ) → entryAt G P n h w ≡ Empty → w ≡ 0
+  empty-only P n h w e = of (rw e at (says-entry P n h w))
+    where
+      of : Says G P n h w Empty → w ≡ 0
+      of (says-empty z) = z
+
+  pub table-only : (P n h w : ℕ) {c : ℕ} → entryAt G P n h w ≡ Table c → (1 ≤ h) × (1 ≤ c) × (c < n) × (w ≡ tableWord G P c)
+  table-only P n h w {c} e = of (rw e at (says-entry P n h w))
+    where
+      of : Says G P n h w (Table c) → (1 ≤ h) × (1 ≤ c) × (c < n) × (w ≡ tableWord G P c)
+      of (says-table c high some lt z) = (high, some, lt, z)
+
+  pub frame-only : (P n h w : ℕ) {b a : ℕ} → entryAt G P n h w ≡ Frame b a → Framed G h b a × (w ≡ frameWord b h a)
+  frame-only P n h w {b} {a} e = of (rw e at (says-entry P n h w))
+    where
+      of : Says G P n h w (Frame b a) → Framed G h b a × (w ≡ frameWord b h a)
+      of (says-frame b a f z) = (f, z)
+
+  -- no word is both a table's and a frame's, since a table's ends in 3
+  pub table-low : (P c : ℕ) → P % pageSize G ≡ 0 → tableWord G P c % 4096 ≡ 3
+  unfolding tableWord
+  table-low P c paged =
+      let p = power-down P {i = 12} {j = G .page} (S .page-least) paged in
+      let q = power-down (pageSize G * c) {i = 12} {j = G .page} (S .page-least) (mul-mod-right (pageSize G) c) in
+      omega arith
+
+  pub not-both : (P c : ℕ) {h b a : ℕ} → P % pageSize G ≡ 0 → Framed G h b a → frameWord b h a ≡ tableWord G P c → ⊥
+  not-both P c {h} {b} {a} paged f e =
+      low-of b h a (framed-below S f) (framed-paged S f) (f .few) (ap (λ (x : ℕ). x % 4096) e ∙ table-low P c paged)
+
+  -- what a frame's word says is that frame
+  pub frame-back : (P n : ℕ) {h b a : ℕ} → P % pageSize G ≡ 0 → Framed G h b a → entryAt G P n h (frameWord b h a) ≡ Frame b a
+  frame-back P n {h} {b} {a} paged f =
+      entry-frame G P n h (frameWord b h a) (λ e. omega (arith, frame-word-ge b h a)) (λ high. no-child) ∙ frame-at-back S f
+    where
+      no-child : childAt G P n (frameWord b h a) ≡ 0
+      no-child = child-none G P n (frameWord b h a) (λ c some lt e. not-both P c paged f e)
+
+  -- a word says nothing but what is computed from it
+  pub entry-says : {P n h w : ℕ} {e : Entry} → P % pageSize G ≡ 0 → Says G P n h w e → entryAt G P n h w ≡ e
+  entry-says {P} {n} {h} paged (says-empty z) = rw z (entry-zero G P n h)
+  entry-says {P} {n} {h} paged (says-table c high some lt z) = rw z (table-back G P n h c high some lt)
+  entry-says {P} {n} paged (says-frame b a f z) = rw z (frame-back P n paged f)
+  entry-says {P} {n} {h} {w} paged (says-damaged no-empty no-table no-frame) = of (says-entry P n h w)
+    where
+      of : {e : Entry} → Says G P n h w e → e ≡ Damaged
+      of (says-empty z) = absurd (no-empty z)
+      of (says-table c high some lt z) = absurd (no-table c high some lt z)
+      of (says-frame b a f z) = absurd (no-frame b a f z)
+      of (says-damaged x y z) = refl
+
+  -- so it says one thing
+  pub one-reading : {P n h w : ℕ} {e f : Entry} → P % pageSize G ≡ 0 → Says G P n h w e → Says G P n h w f → e ≡ f
+  one-reading paged x y = sym (entry-says paged x) ∙ entry-says paged y

@@ -1,0 +1,7 @@
+pub mod Words
+pub mod Host
+pub mod Below
+pub mod Parts
+pub mod Bits
+pub mod Laws
+pub mod HostLaws

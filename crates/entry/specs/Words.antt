@@ -1,0 +1,73 @@
+-- The entry words of the Arm stage 2 format, and what a word says. P is the pool's base, n its table count, h the height of the entry.
+use Prim.Native.Nat.{ℕ, _+_, _-_, _*_, _/_, _%_, _^_, _≤_, _<_}
+use mathlib.Core.Path.{_≡_}
+use mathlib.Core.Bool.{cond, _&&_}
+use lib.Dec.{ltb, leb, eqb}
+use Rattle.path.specs.Geometry.{Granule, pageSize, sizeAt, physical}
+use Rattle.entry.specs.declared.Entry.{Entry}
+use Rattle.entry.specs.declared.Entry.the-variants.{Empty, Table, Frame, Damaged}
+
+-- Attributes 0 to 15: 1 read, 2 write, 4 execute, 8 device. Their word: bit 10 always; bit 6 for read; bit 7 for write; bit 54 when not
+-- execute; normal memory adds bits 5:2 = 1111 and bits 9:8 = 11, device memory bits 5:2 = 0001 and bits 9:8 = 00.
+abbrev pub attrWord : ℕ → ℕ
+attrWord a =
+    2 ^ 10 + 2 ^ 6 * (a % 2) + 2 ^ 7 * (a / 2 % 2) + 2 ^ 54 * (1 - a / 4 % 2)
+    + (1 - a / 8 % 2) * (15 * 2 ^ 2 + 3 * 2 ^ 8)
+    + a / 8 % 2 * (1 * 2 ^ 2)
+
+-- the type of a frame's word: 3 at the last level, 1 above it
+unfoldable pub typeAt : ℕ → ℕ
+typeAt h = cond (eqb h 0) 3 1
+
+-- the word of a frame
+unfoldable pub frameWord : ℕ → ℕ → ℕ → ℕ
+frameWord base h attributes = base + typeAt h + attrWord attributes
+
+-- the word that names a table: its address + 3
+unfoldable pub tableWord : Granule → ℕ → ℕ → ℕ
+tableWord G P c = P + pageSize G * c + 3
+
+-- what may stand as a frame at height h: the level has frames, the attributes are 0 to 15, the base is a multiple of the size, and base + size is at
+-- most 2^48
+pub record Framed (G : Granule) (h base attributes : ℕ) : Type 0 where
+  pub level : h ≤ G .large
+  pub few : attributes < 16
+  pub aligned : base % sizeAt G h ≡ 0
+  pub fits : base + sizeAt G h ≤ physical
+
+-- what a word says at height h, as the paper has it: empty is exactly 0; a table is the address + 3 of a child 1 to n - 1, at any level but the
+-- last; a frame is the word of a base, a multiple of its size, and attributes; any other word is damaged
+pub data Says (G : Granule) (P n h w : ℕ) : Entry → Type 0 where
+  says-empty : w ≡ 0 → Says G P n h w Empty
+  says-table : (c : ℕ) → 1 ≤ h → 1 ≤ c → c < n → w ≡ tableWord G P c → Says G P n h w (Table c)
+  says-frame : (b a : ℕ) → Framed G h b a → w ≡ frameWord b h a → Says G P n h w (Frame b a)
+  says-damaged :
+      (w ≡ 0 → ⊥)
+      → ((c : ℕ) → 1 ≤ h → 1 ≤ c → c < n → w ≡ tableWord G P c → ⊥)
+      → ((b a : ℕ) → Framed G h b a → w ≡ frameWord b h a → ⊥)
+      → Says G P n h w Damaged
+
+-- The same, computed; Laws says that the two agree. The child that a word names as a table, 0 where it names none:
+unfoldable pub childAt : Granule → ℕ → ℕ → ℕ → ℕ
+childAt G P n w =
+    let c = (w - 3 - P) / pageSize G in cond (ltb c n && eqb w (tableWord G P c)) c 0
+
+-- the base that a frame's word has: bits 47:12
+abbrev pub baseIn : ℕ → ℕ
+baseIn w = w % 2 ^ 48 - w % 4096
+
+-- the attributes that a frame's word has: bits 7:6 are write and read, no bit 54 is execute, no bit 5 is device
+abbrev pub attrsIn : ℕ → ℕ
+attrsIn w = w / 2 ^ 6 % 4 + (1 - w / 2 ^ 54 % 2) * 4 + (1 - w / 2 ^ 5 % 2) * 8
+
+-- the frame that a word says at height h, where it is the word of its own base and attributes; else damaged
+unfoldable pub frameAt : Granule → ℕ → ℕ → Entry
+frameAt G h w =
+    cond (leb h (G .large) && (eqb (baseIn w % sizeAt G h) 0 && eqb w (frameWord (baseIn w) h (attrsIn w))))
+    (Frame (baseIn w) (attrsIn w))
+    Damaged
+
+-- what a word says at height h
+unfoldable pub entryAt : Granule → ℕ → ℕ → ℕ → ℕ → Entry
+entryAt G P n h w =
+    cond (eqb w 0) Empty (cond (ltb 0 h && ltb 0 (childAt G P n w)) (Table (childAt G P n w)) (frameAt G h w))

@@ -1,0 +1,188 @@
+// Entry words: the sixteen attribute words, the word of a frame and of a table, and what a word says.
+ghost use mathlib.Core.Path.{_≡_};
+ghost use Prim.Native.Nat.{_<_, _^_};
+ghost use mathlib.Core.Bool.{cond};
+ghost use lib.Dec.{ltb, leb};
+ghost use Rattle.path.specs.Geometry.{four, physical};
+ghost use Rattle.entry.specs.Words.{attrWord, attrsIn, typeAt, tableWord, childAt, frameAt, entryAt};
+ghost use Rattle.entry.specs.Host.{hostWord, hostMeaning, meaningOf};
+
+// The attribute words of the attributes 0 to 15.
+const ATTRIBUTES: [u64; 16] = [
+    0x0040_0000_0000_073C,
+    0x0040_0000_0000_077C,
+    0x0040_0000_0000_07BC,
+    0x0040_0000_0000_07FC,
+    0x0000_0000_0000_073C,
+    0x0000_0000_0000_077C,
+    0x0000_0000_0000_07BC,
+    0x0000_0000_0000_07FC,
+    0x0040_0000_0000_0404,
+    0x0040_0000_0000_0444,
+    0x0040_0000_0000_0484,
+    0x0040_0000_0000_04C4,
+    0x0000_0000_0000_0404,
+    0x0000_0000_0000_0444,
+    0x0000_0000_0000_0484,
+    0x0000_0000_0000_04C4,
+];
+// Bit 54 of a word: not execute.
+const NO_EXECUTE: u64 = 0x0040_0000_0000_0000;
+// A word's bits below the base of a frame count up to this.
+const BELOW_BASE: u64 = 4096;
+// The greatest height of a frame.
+const LARGE: usize = 2;
+
+// What a word says.
+pub enum Entry {
+    Empty,
+    Table(u32),
+    Frame { base: u64, attributes: u64 },
+    Damaged,
+}
+
+// The attribute word of attributes; 0 where they are above 15.
+pub fn attr_word(attributes: u64) -> u64
+    ensures { λ r. ⌜ r ≡ cond (ltb attributes 16) (attrWord attributes) 0 ⌝ }
+{
+    if attributes >= 16 {
+        return 0;
+    }
+    ATTRIBUTES[attributes as usize]
+}
+
+// The type of a frame's word at a height.
+fn type_at(height: usize) -> u64
+    ensures { λ r. ⌜ r ≡ typeAt height ⌝ }
+{
+    if height == 0 { 3 } else { 1 }
+}
+
+// The entry word of a frame, or a refusal: 2, 3, 4 or 5.
+pub fn frame_word(base: u64, size: u64, attributes: u64) -> u64
+    ensures { λ r. ⌜ r ≡ hostWord four base size attributes ⌝ }
+{
+    let height = path::height_of(size);
+    if height > LARGE {
+        return 2;
+    }
+    if attributes > 15 {
+        return 3;
+    }
+    if base > path::PHYSICAL {
+        return 4;
+    }
+    if base + size > path::PHYSICAL {
+        return 4;
+    }
+    if base % size != 0 {
+        return 5;
+    }
+    base + type_at(height) + attr_word(attributes)
+}
+
+// The word that names table c of a pool; 0 where the pool's base is above 2^48.
+pub fn table_word(base: u64, c: u32) -> u64
+    ensures { λ r. ⌜ r ≡ cond (leb base physical) (tableWord four base c) 0 ⌝ }
+{
+    if base > path::PHYSICAL {
+        return 0;
+    }
+    base + path::PAGE * (c as u64) + 3
+}
+
+// The attributes that the bits of a word stand for.
+fn attrs_in(w: u64) -> u64
+    ensures { λ r. ⌜ r ≡ attrsIn w ⌝ }
+{
+    w / 64 % 4 + (1 - w / NO_EXECUTE % 2) * 4 + (1 - w / 32 % 2) * 8
+}
+
+// Their attribute word, from the bits themselves: bits 10 and 2 always, and bits 9:8 and 5:3 where bit 5 says normal memory.
+fn attr_bits(w: u64) -> u64
+    ensures { λ r. ⌜ r ≡ attrWord (attrsIn w) ⌝ }
+{
+    0x404 + w / 64 % 4 * 64 + w / 32 % 2 * 0x338 + w / NO_EXECUTE % 2 * NO_EXECUTE
+}
+
+// The frame that a word says at a height, or that it is damaged.
+fn frame_at(w: u64, height: usize) -> Entry
+    ensures { λ r. ⌜ r ≡ frameAt four height w ⌝ }
+{
+    if height > LARGE {
+        return Entry::Damaged;
+    }
+    let base = w % path::PHYSICAL - w % BELOW_BASE;
+    if base % path::size_at(height) != 0 {
+        return Entry::Damaged;
+    }
+    if w == base + type_at(height) + attr_bits(w) {
+        return Entry::Frame {
+            base,
+            attributes: attrs_in(w),
+        };
+    }
+    Entry::Damaged
+}
+
+// The child that a word names as a table, 1 to tables - 1; 0 where it names none.
+fn child_in(w: u64, base: u64, tables: u32) -> u32
+    ensures { λ r. ⌜ r ≡ childAt four base tables w ⌝ }
+{
+    if w < 3 {
+        return 0;
+    }
+    let at = w - 3;
+    if at <= base {
+        return 0;
+    }
+    let off = at - base;
+    let c = off / path::PAGE;
+    if c >= tables as u64 {
+        return 0;
+    }
+    if off % path::PAGE != 0 {
+        return 0;
+    }
+    c as u32
+}
+
+// What a word says at a height of a tree whose tables, so many, stand from base on.
+pub fn read_word(w: u64, height: usize, base: u64, tables: u32) -> Entry
+    ensures { λ r. ⌜ r ≡ entryAt four base tables height w ⌝ }
+{
+    if w == 0 {
+        return Entry::Empty;
+    }
+    if height > 0 {
+        let c = child_in(w, base, tables);
+        if c > 0 {
+            return Entry::Table(c);
+        }
+    }
+    frame_at(w, height)
+}
+
+// A frame as base + 16 + attributes; 8 for what is no frame.
+fn meaning_of(e: Entry) -> u64
+    requires { ⌜ meaningOf e < 2 ^ 64 ⌝ }
+    ensures { λ r. ⌜ r ≡ meaningOf e ⌝ }
+{
+    match e {
+        Entry::Frame { base, attributes } => base + 16 + attributes,
+        Entry::Empty => 8,
+        Entry::Table(_) => 8,
+        Entry::Damaged => 8,
+    }
+}
+
+// The meaning of a word at a size: base + 16 + attributes, or a refusal: 2 or 8.
+pub fn word_meaning(w: u64, size: u64) -> u64
+    ensures { λ r. ⌜ r ≡ hostMeaning four w size ⌝ }
+{
+    let height = path::height_of(size);
+    if height > LARGE {
+        return 2;
+    }
+    meaning_of(frame_at(w, height))
+}

@@ -1,0 +1,186 @@
+-- Document 01's eleven cases, as one statement over the definitions: the calls over a pool and over a ledger, each on what the last one left.
+use Prim.Native.Nat.{ℕ}
+use mathlib.Core.Path.{_≡_, refl}
+use mathlib.Core.Bool.{true}
+use mathlib.Core.List.{[], _∷_}
+use lib.ListN.{getD, replicate}
+use Rattle.laws.specs.Lists.{down, part, zeroed, allZero, among}
+use Rattle.path.specs.Geometry.{four, sizeAt, goodLevels, spaceOf, seek, heightOf}
+use Rattle.path.specs.Numbers.{goodNumbers, goodSetup}
+use Rattle.path.specs.Paths.{indexAt, baseAt, indices, pathOf}
+use Rattle.entry.specs.Words.{typeAt, frameWord, tableWord, childAt, frameAt, entryAt}
+use Rattle.model.specs.Answers.{Mapping, mapping, Answer, formatted, took, gave, found, refused, Done, refuse}
+use Rattle.model.specs.Walk.{onward, walkFrom}
+use Rattle.model.specs.Writes.{performAll, mapWrites, mayTake, onlyEntry, freed, pruneWrites}
+use Rattle.model.specs.Calls.{formatW, foundAt, queryW, mapTests, mapHere, mapAt, mapW, unmapTests, unmapHere, unmapAt, unmapW}
+use Rattle.model.specs.Ledger.{Entered, entered, ledger, anyOverlap, coverOf, dropAt, regionsOf, hasRegion, newRegions, regionsNeeded, tablesNeeded, tablesLacking, freeTables, formatL, mapL, unmapOf, unmapL, queryL}
+
+-- a call's answer and the pool after it, and the same by the ledger
+pub record Both : Type 0 where
+  pub pool : Done
+  pub ledger : Entered
+
+-- a format, three levels, P = 0x40000000, n = 4, of memory and of a ledger that hold anything
+unfoldable pub format : Both
+unfolding goodLevels goodNumbers down formatW formatL
+format =
+    record {
+      pool = formatW four 3 0x40000000 4 (replicate 2048 7) (replicate 4 9);
+      ledger = formatL four (ledger 9 9 4 (mapping 1 2 3 4 ∷ [])) 3 0x40000000 4;
+    }
+
+-- a map, and an unmap, of what a call left
+unfoldable pub map : Both → ℕ → ℕ → ℕ → ℕ → Both
+unfolding goodSetup sizeAt spaceOf seek heightOf mapTests indexAt indices pathOf typeAt frameWord tableWord childAt frameAt entryAt among onward walkFrom zeroed performAll mapWrites mayTake mapHere mapAt mapW baseAt anyOverlap regionsOf hasRegion newRegions regionsNeeded tablesNeeded tablesLacking freeTables mapL
+map B a b size k = record { pool = mapW four (B .pool .after) a b size k; ledger = mapL four (B .ledger .after) a b size k }
+
+unfoldable pub unmap : Both → ℕ → Both
+unfolding unmapTests part allZero onlyEntry freed pruneWrites unmapHere unmapAt unmapW coverOf dropAt unmapOf unmapL
+unmap B a = record { pool = unmapW four (B .pool .after) a; ledger = unmapL four (B .ledger .after) a }
+
+-- The calls, numbered as the cases are.
+abbrev case1 : Both
+case1 = format
+
+abbrev case2 : Both
+case2 = map case1 0 0x80000000 4096 3
+
+abbrev case3 : Both
+case3 = map case2 0x1000 0x80001000 4096 5
+
+abbrev case4 : Both
+case4 = map case3 0x200000 0x80200000 0x200000 3
+
+abbrev case5 : Both
+case5 = map case4 0x201000 0x80000000 4096 3
+
+abbrev case5b : Both
+case5b = map case5 0 0x80000000 0x200000 3
+
+abbrev case6 : Both
+case6 = map case5b 0x40000000 0x80000000 4096 3
+
+abbrev case8 : Both
+case8 = unmap case6 0x201000
+
+abbrev case8b : Both
+case8b = unmap case8 0x3000
+
+abbrev case9 : Both
+case9 = unmap case8b 0
+
+abbrev case9b : Both
+case9b = unmap case9 0x1000
+
+abbrev case10 : Both
+case10 = unmap case9b 0x200000
+
+abbrev case11 : Both
+case11 = map case10 0x7FFFFFF000 0x80000000 4096 3
+
+abbrev case11b : Both
+case11b = map case11 0x8000000000 0x80000000 4096 3
+
+-- both answer so
+abbrev Answers : Both → Answer → Type 0
+Answers B x = (B .pool .answer ≡ x) × (B .ledger .answer ≡ x)
+
+-- both refuse with this number, and leave all as the call before left it
+abbrev Refuses : Both → Both → ℕ → Type 0
+Refuses B C k = (C .pool ≡ refuse k (B .pool .after)) × (C .ledger ≡ entered (refused k) (B .ledger .after))
+
+-- so many tables are free, by the setup number and by the ledger
+abbrev Free : Both → ℕ → Type 0
+Free B f = (B .pool .after .numbers .free ≡ f) × (freeTables four (B .ledger .after) ≡ f)
+
+-- a query after a call
+abbrev Finds : Both → ℕ → Answer → Type 0
+Finds B a x = (queryW four (B .pool .after) a ≡ x) × (queryL four (B .ledger .after) a ≡ x)
+
+-- a word, and a place of the free list, after a call
+abbrev word : Both → ℕ → ℕ
+word B i = getD (B .pool .after .words) i 0
+
+abbrev place : Both → ℕ → ℕ
+place B i = getD (B .pool .after .list) i 0
+
+pub record Cases : Type 0 where
+  -- 1: format
+  pub formats : Answers case1 formatted
+  pub list-1 : case1 .pool .after .list ≡ 3 ∷ 2 ∷ 1 ∷ 0 ∷ []
+  pub free-1 : Free case1 3
+  -- 2: a page that takes two tables
+  pub takes-2 : Answers case2 (took 2)
+  pub free-2 : Free case2 1
+  pub word-0 : word case2 0 ≡ 0x40001003
+  pub word-512 : word case2 512 ≡ 0x40002003
+  pub word-1024 : word case2 1024 ≡ 0x00400000800007FF
+  -- 3: a page beside it
+  pub takes-3 : Answers case3 (took 0)
+  pub word-1025 : word case3 1025 ≡ 0x8000177F
+  -- 4: a frame of 2 MiB
+  pub takes-4 : Answers case4 (took 0)
+  pub word-513 : word case4 513 ≡ 0x00400000802007FD
+  -- 5: a page inside it; 2 MiB over a table
+  pub refuses-5 : Refuses case4 case5 6
+  pub refuses-5b : Refuses case5 case5b 6
+  -- 6: more tables needed than are free
+  pub needs-6 : tablesLacking four 3 (case5b .ledger .after .live) (mapping 0x40000000 0x80000000 4096 3) ≡ 2
+  pub free-6 : Free case5b 1
+  pub refuses-6 : Refuses case5b case6 7
+  -- 7: a query inside the frame of 2 MiB
+  pub finds-7 : Finds case6 0x201234 (found (mapping 0x200000 0x80200000 0x200000 3))
+  -- 8: an unmap inside it; an unmap of nothing
+  pub refuses-8 : Refuses case6 case8 10
+  pub refuses-8b : Refuses case8 case8b 9
+  -- 9: the two pages go, and with the second their table
+  pub gives-9 : Answers case9 (gave 0x80000000 4096 3 0)
+  pub gives-9b : Answers case9b (gave 0x80001000 4096 5 1)
+  pub place-9b : place case9b 1 ≡ 2
+  pub free-9b : Free case9b 2
+  -- 10: the frame of 2 MiB goes with its table, and the empty root stays
+  pub gives-10 : Answers case10 (gave 0x80200000 0x200000 3 1)
+  pub place-10 : place case10 2 ≡ 1
+  pub free-10 : Free case10 3
+  pub root-10 : allZero (part (case10 .pool .after .words) 0 512) ≡ true
+  -- 11: the last page of the space; the first past it
+  pub takes-11 : Answers case11 (took 2)
+  pub free-11 : Free case11 1
+  pub refuses-11b : Refuses case11 case11b 4
+
+pub cases : Cases
+unfolding format map unmap foundAt queryW queryL
+cases =
+    record {
+      formats = (refl, refl);
+      list-1 = refl;
+      free-1 = (refl, refl);
+      takes-2 = (refl, refl);
+      free-2 = (refl, refl);
+      word-0 = refl;
+      word-512 = refl;
+      word-1024 = refl;
+      takes-3 = (refl, refl);
+      word-1025 = refl;
+      takes-4 = (refl, refl);
+      word-513 = refl;
+      refuses-5 = (refl, refl);
+      refuses-5b = (refl, refl);
+      needs-6 = refl;
+      free-6 = (refl, refl);
+      refuses-6 = (refl, refl);
+      finds-7 = (refl, refl);
+      refuses-8 = (refl, refl);
+      refuses-8b = (refl, refl);
+      gives-9 = (refl, refl);
+      gives-9b = (refl, refl);
+      place-9b = refl;
+      free-9b = (refl, refl);
+      gives-10 = (refl, refl);
+      place-10 = refl;
+      free-10 = (refl, refl);
+      root-10 = refl;
+      takes-11 = (refl, refl);
+      free-11 = (refl, refl);
+      refuses-11b = (refl, refl);
+    }

@@ -1,0 +1,137 @@
+-- The ledger: the live mappings, in addresses and sizes alone, and what each call answers by it.
+use Prim.Native.Nat.{ℕ, zero, suc, _+_, _-_, _*_, _%_}
+use mathlib.Core.Bool.{Bool, true, false, cond, _&&_, _||_, not}
+use mathlib.Core.List.{List, [], _∷_, _++_}
+use mathlib.Core.Option.{Option, some, none}
+use lib.Dec.{ltb, leb, eqb}
+use lib.ListN.{length}
+use Rattle.path.specs.Geometry.{Granule, pageSize, entries, sizeAt, spaceOf}
+use Rattle.path.specs.Numbers.{goodNumbers}
+use Rattle.path.specs.Paths.{baseAt}
+use Rattle.model.specs.Answers.{Mapping, mapping, Answer, formatted, took, gave, found, audited, refused}
+use Rattle.model.specs.Calls.{mapTests, unmapTests}
+
+-- the pool's numbers, and the live mappings
+pub record Ledger : Type 0 where
+  pub levels : ℕ
+  pub base : ℕ
+  pub tables : ℕ
+  pub live : List Mapping
+
+abbrev pub ledger : ℕ → ℕ → ℕ → List Mapping → Ledger
+ledger l b n L = record { levels = l; base = b; tables = n; live = L }
+
+-- the same numbers, other mappings
+abbrev pub withLive : Ledger → List Mapping → Ledger
+withLive A L = ledger (A .levels) (A .base) (A .tables) L
+
+-- two ranges share a byte
+abbrev pub overlaps : ℕ → ℕ → Mapping → Bool
+overlaps a size m = ltb a (m .at + m .size) && ltb (m .at) (a + size)
+
+unfoldable pub anyOverlap : ℕ → ℕ → List Mapping → Bool
+anyOverlap a size [] = false
+anyOverlap a size (m ∷ L) = overlaps a size m || anyOverlap a size L
+
+-- the mapping that holds an address
+abbrev pub holdsAddress : ℕ → Mapping → Bool
+holdsAddress a m = leb (m .at) a && ltb a (m .at + m .size)
+
+unfoldable pub coverOf : ℕ → List Mapping → Option Mapping
+coverOf a [] = none
+coverOf a (m ∷ L) = cond (holdsAddress a m) (some m) (coverOf a L)
+
+-- the ledger without the mapping at an address
+unfoldable pub dropAt : ℕ → List Mapping → List Mapping
+dropAt a [] = []
+dropAt a (m ∷ L) = cond (eqb (m .at) a) (dropAt a L) (m ∷ dropAt a L)
+
+-- Tables needed. Below the root a table stands for one region; a region is its size and its first address.
+pub record Region : Type 0 where
+  pub size : ℕ
+  pub first : ℕ
+
+abbrev pub region : ℕ → ℕ → Region
+region s a = record { size = s; first = a }
+
+-- the regions of heights 1 to k that are larger than a mapping and hold it: it needs the table of each
+unfoldable pub regionsOf : Granule → Mapping → ℕ → List Region
+regionsOf G m zero = []
+regionsOf G m (suc k) =
+    cond (ltb (m .size) (sizeAt G (suc k))) (region (sizeAt G (suc k)) (baseAt G (m .at) (suc k)) ∷ regionsOf G m k) (regionsOf G m k)
+
+unfoldable pub hasRegion : Region → List Region → Bool
+hasRegion r [] = false
+hasRegion r (q ∷ R) = (eqb (q .size) (r .size) && eqb (q .first) (r .first)) || hasRegion r R
+
+-- the regions of the first list that the second does not have
+unfoldable pub newRegions : List Region → List Region → List Region
+newRegions [] R = []
+newRegions (r ∷ Q) R = cond (hasRegion r R) (newRegions Q R) (r ∷ newRegions Q R)
+
+-- the regions below a root of height k that live mappings need a table for, each once
+unfoldable pub regionsNeeded : Granule → ℕ → List Mapping → List Region
+regionsNeeded G k [] = []
+regionsNeeded G k (m ∷ L) = newRegions (regionsOf G m k) (regionsNeeded G k L) ++ regionsNeeded G k L
+
+-- the tables that live mappings need, the root not counted
+unfoldable pub tablesNeeded : Granule → ℕ → List Mapping → ℕ
+tablesNeeded G levels L = length (regionsNeeded G (levels - 1) L)
+
+-- the new tables that one more mapping needs
+unfoldable pub tablesLacking : Granule → ℕ → List Mapping → Mapping → ℕ
+tablesLacking G levels L m = length (newRegions (regionsOf G m (levels - 1)) (regionsNeeded G (levels - 1) L))
+
+-- the tables that are free
+unfoldable pub freeTables : Granule → Ledger → ℕ
+freeTables G A = A .tables - 1 - tablesNeeded G (A .levels) (A .live)
+
+-- a call's answer, and the ledger after it
+pub record Entered : Type 0 where
+  pub answer : Answer
+  pub after : Ledger
+
+abbrev pub entered : Answer → Ledger → Entered
+entered a L = record { answer = a; after = L }
+
+-- Format empties the ledger; the lent memory is that of the pool's tables. Refused, it leaves the ledger as it was.
+unfoldable pub formatL : Granule → Ledger → ℕ → ℕ → ℕ → Entered
+formatL G A levels base tables =
+    cond (goodNumbers G levels base tables (entries G * A .tables) (A .tables))
+    (entered formatted (ledger levels base tables []))
+    (entered (refused 1) A)
+
+-- Map: 6 exactly where the range overlaps a live mapping, 7 exactly where more new tables are needed than are free
+unfoldable pub mapL : Granule → Ledger → ℕ → ℕ → ℕ → ℕ → Entered
+mapL G A a b size k =
+    let no = mapTests G (A .levels) a b size k in
+    cond (eqb no 0)
+    (cond (anyOverlap a size (A .live)) (entered (refused 6) A)
+    (let need = tablesLacking G (A .levels) (A .live) (mapping a b size k) in
+    cond (ltb (freeTables G A) need) (entered (refused 7) A)
+    (entered (took need) (withLive A (mapping a b size k ∷ A .live)))))
+    (entered (refused no) A)
+
+-- Unmap: 9 where no mapping holds the address, 10 where the one that does starts elsewhere
+unfoldable pub unmapOf : Granule → Ledger → ℕ → Option Mapping → Entered
+unmapOf G A a none = entered (refused 9) A
+unmapOf G A a (some m) =
+    let B = withLive A (dropAt a (A .live)) in
+    cond (eqb (m .at) a) (entered (gave (m .frame) (m .size) (m .attributes) (freeTables G B - freeTables G A)) B) (entered (refused 10) A)
+
+unfoldable pub unmapL : Granule → Ledger → ℕ → Entered
+unmapL G A a =
+    let no = unmapTests G (A .levels) a in
+    cond (eqb no 0) (unmapOf G A a (coverOf a (A .live))) (entered (refused no) A)
+
+-- Query: the mapping that holds the address
+abbrev pub queryOf : Option Mapping → Answer
+queryOf none = refused 9
+queryOf (some m) = found m
+
+unfoldable pub queryL : Granule → Ledger → ℕ → Answer
+queryL G A a = cond (leb (spaceOf G (A .levels)) a) (refused 4) (queryOf (coverOf a (A .live)))
+
+-- Audit: the root and the tables needed, and the live mappings
+unfoldable pub auditL : Granule → Ledger → Answer
+auditL G A = audited (suc (tablesNeeded G (A .levels) (A .live))) (length (A .live))

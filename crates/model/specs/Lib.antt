@@ -1,0 +1,11 @@
+pub mod Answers
+pub mod Walk
+pub mod Writes
+pub mod Calls
+pub mod Audit
+pub mod Ledger
+pub mod Unique
+pub mod Cases
+pub mod Sound
+pub mod AuditLaws
+pub mod MappingLaws

@@ -1,0 +1,92 @@
+-- `path::address_of` meets its contract. A place is below 2^16, so that no product and no sum wraps.
+use Prim.Native.Nat.{ℕ}
+use mathlib.Core.Path.{sym}
+use native.Mathlib.Omega.{arith}
+use lib.ListN.{getD}
+use mir.Syntax.{w16}
+use mir.Val.{Fits}
+use borrow.Author.Needs.{needs, elem-fits}
+use Rattle.path.specs.Geometry.{four, sizeAt}
+use Rattle.path.specs.PathLaws.{address-places}
+use Rattle.path.proofs.address_of.Statement.{statement}
+use Rattle.path.proofs.address_of.Tie as tie
+
+place : (c : tie.Start) (i : ℕ) → Fits w16 (getD (c .args .t1) i 0)
+place c i = elem-fits w16 w16 (c .args .t1) _ i (c .good .0 .1 .1) tt
+
+places : (c : tie.Start)
+    → Fits w16 (getD (c .args .t1) 0 0)
+    × Fits w16 (getD (c .args .t1) 1 0)
+    × Fits w16 (getD (c .args .t1) 2 0)
+    × Fits w16 (getD (c .args .t1) 3 0)
+places c = (place c 0, place c 1, place c 2, place c 3)
+
+array-read-result : tie.Need-array-read-result
+array-read-result c = search needs
+
+cast-result : tie.Need-cast-result
+cast-result c = search needs
+
+mul-result : tie.Need-mul-result
+mul-result c = omega (arith, places c)
+
+array-read-result-2 : tie.Need-array-read-result-2
+array-read-result-2 c = search needs
+
+cast-result-2 : tie.Need-cast-result-2
+cast-result-2 c = search needs
+
+mul-result-2 : tie.Need-mul-result-2
+mul-result-2 c = omega (arith, places c)
+
+add-result : tie.Need-add-result
+add-result c = omega (arith, places c)
+
+array-read-result-3 : tie.Need-array-read-result-3
+array-read-result-3 c = search needs
+
+cast-result-3 : tie.Need-cast-result-3
+cast-result-3 c = search needs
+
+mul-result-3 : tie.Need-mul-result-3
+mul-result-3 c = omega (arith, places c)
+
+add-result-2 : tie.Need-add-result-2
+add-result-2 c = omega (arith, places c)
+
+array-read-result-4 : tie.Need-array-read-result-4
+array-read-result-4 c = search needs
+
+cast-result-4 : tie.Need-cast-result-4
+cast-result-4 c = search needs
+
+mul-result-4 : tie.Need-mul-result-4
+mul-result-4 c = omega (arith, places c)
+
+add-result-3 : tie.Need-add-result-3
+add-result-3 c = omega (arith, places c)
+
+returns : tie.Need-returns
+unfolding sizeAt
+returns c = sym (address-places four (c .args .t1) (c .good .0 .1 .0 .1))
+
+pub address-of-spec : {M : Type 1} → statement M
+address-of-spec =
+    tie.close
+    (tie.spec
+    array-read-result
+    cast-result
+    mul-result
+    array-read-result-2
+    cast-result-2
+    mul-result-2
+    add-result
+    array-read-result-3
+    cast-result-3
+    mul-result-3
+    add-result-2
+    array-read-result-4
+    cast-result-4
+    mul-result-4
+    add-result-3
+    returns)

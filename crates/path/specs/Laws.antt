@@ -1,0 +1,260 @@
+-- Laws of sizes, heights and setup numbers, over any granule.
+use Prim.Native.Nat.{ℕ, zero, suc, _+_, _*_, _%_, _^_, _≤_, _<_, zero-le}
+use mathlib.Core.Path.{_≡_, refl, sym, ap, _∙_}
+use mathlib.Core.Logic.{_≢_}
+use mathlib.Core.Bool.{Bool, true, false, cond, _&&_, false≢true}
+use native.Mathlib.Nat.{mul-comm, mul-le-mul-left, mul-lt-mul-of-pos-left, mul-mod-right, le-dest}
+use native.Mathlib.Decide.{decLt, ℕ-discrete}
+use native.Mathlib.Omega.{arith}
+use lib.Dec.{leb, eqb}
+use lib.Pow.{pow-pos, pow-mono, pow-lt, pow-add}
+use borrow.Author.Tests.{ltb-true, leb-true, eqb-true, eqb-false, lt-ltb, le-ltb, le-leb, eq-eqb}
+use Rattle.path.specs.Geometry.{Granule, Sane, four, pageSize, entries, sizeAt, physical, atLevel, goodLevels, spaceOf, seek, heightOf}
+use Rattle.path.specs.Numbers.{mostTables, goodNumbers, goodSetup, GoodNumbers, GoodSetup}
+use Rattle.path.specs.declared.Setup.{Setup}
+
+pub four-sane : Sane four
+four-sane = omega arith
+
+-- ---- sizes
+
+module _ (G : Granule) where
+  pub page-pos : 0 < pageSize G
+  page-pos = pow-pos (G .page)
+
+  pub entries-pos : 0 < entries G
+  entries-pos = pow-pos (G .index)
+
+  pub entries-more : Sane G → 1 < entries G
+  entries-more S = pow-lt {i = 0} {j = G .index} (omega arith)
+
+  pub size-pos : (h : ℕ) → 0 < sizeAt G h
+  unfolding sizeAt
+  size-pos h = pow-pos (G .page + G .index * h)
+
+  pub size-zero : sizeAt G 0 ≡ pageSize G
+  unfolding sizeAt
+  size-zero = ap (λ (k : ℕ). 2 ^ k) (omega arith)
+
+  pub size-add : (j k : ℕ) → sizeAt G (j + k) ≡ sizeAt G j * 2 ^ (G .index * k)
+  unfolding sizeAt
+  size-add j k = ap (λ (x : ℕ). 2 ^ x) (omega arith) ∙ pow-add 2 (G .page + G .index * j) (G .index * k)
+
+  pub size-suc : (h : ℕ) → sizeAt G (suc h) ≡ entries G * sizeAt G h
+  unfolding sizeAt
+  size-suc h = ap (λ (x : ℕ). 2 ^ x) (omega arith) ∙ pow-add 2 (G .index) (G .page + G .index * h)
+
+  pub size-suc′ : (h : ℕ) → sizeAt G (suc h) ≡ sizeAt G h * entries G
+  size-suc′ h = size-suc h ∙ mul-comm (entries G) (sizeAt G h)
+
+  pub size-le : {j h : ℕ} → j ≤ h → sizeAt G j ≤ sizeAt G h
+  unfolding sizeAt
+  size-le {j} {h} l = pow-mono (omega (arith, mul-le-mul-left (G .index) l))
+
+  -- upstream lemma_frame_size_monotonic
+  pub size-rises : Sane G → {j h : ℕ} → j < h → sizeAt G j < sizeAt G h
+  unfolding sizeAt
+  size-rises S {j} {h} l = pow-lt (omega (arith, mul-lt-mul-of-pos-left {k = G .index} l (omega arith)))
+
+  pub size-injective : Sane G → (j h : ℕ) → sizeAt G j ≡ sizeAt G h → j ≡ h
+  size-injective S j h e = go (decLt j h) (decLt h j)
+    where
+      go : Dec (j < h) → Dec (h < j) → j ≡ h
+      go (yes l) d = omega (arith, size-rises S l)
+      go (no a) (yes l) = omega (arith, size-rises S l)
+      go (no a) (no b) = omega arith
+
+  -- upstream lemma_frame_size_aligned: a smaller size divides a larger one
+  pub size-divides : {j h : ℕ} → j ≤ h → sizeAt G h % sizeAt G j ≡ 0
+  size-divides {j} l = let (k, e) = le-dest l in rw (← e, size-add j k) (mul-mod-right (sizeAt G j) (2 ^ (G .index * k)))
+
+  -- no region of a level is larger than the physical space
+  pub size-fits : Sane G → {h : ℕ} → h ≤ G .most → sizeAt G h ≤ physical
+  unfolding sizeAt
+  size-fits S {h} l = pow-mono {j = 48} (omega (arith, mul-le-mul-left (G .index) l))
+
+  -- ---- heights
+
+  module _ (size : ℕ) where
+    seek-most : (h tries : ℕ) → seek G size h tries ≤ h + tries
+    unfolding seek
+    seek-most h zero = omega arith
+    seek-most h (suc tries) = go (eqb size (sizeAt G h)) (seek-most (suc h) tries)
+      where
+        go : (b : Bool) → seek G size (suc h) tries ≤ suc h + tries → cond b h (seek G size (suc h) tries) ≤ h + suc tries
+        go true l = omega arith
+        go false l = omega arith
+
+    seek-size : (h tries : ℕ) → seek G size h tries < h + tries → sizeAt G (seek G size h tries) ≡ size
+    unfolding seek
+    seek-size h zero l = omega arith
+    seek-size h (suc tries) l = go (eqb size (sizeAt G h)) refl l (seek-size (suc h) tries)
+      where
+        go : (b : Bool) → eqb size (sizeAt G h) ≡ b
+            → cond b h (seek G size (suc h) tries) < h + suc tries
+            → (seek G size (suc h) tries < suc h + tries → sizeAt G (seek G size (suc h) tries) ≡ size)
+            → sizeAt G (cond b h (seek G size (suc h) tries)) ≡ size
+        go true e l f = sym (eqb-true size (sizeAt G h) e)
+        go false e l f = f (omega arith)
+
+    seek-first : (j h tries : ℕ) → sizeAt G j ≡ size → h ≤ j → j < h + tries → seek G size h tries ≤ j
+    unfolding seek
+    seek-first j h zero e l m = omega arith
+    seek-first j h (suc tries) e l m = go (eqb size (sizeAt G h)) refl (seek-first j (suc h) tries e)
+      where
+        go : (b : Bool) → eqb size (sizeAt G h) ≡ b
+            → (suc h ≤ j → j < suc h + tries → seek G size (suc h) tries ≤ j)
+            → cond b h (seek G size (suc h) tries) ≤ j
+        go true q f = l
+        go false q f = f (past (ℕ-discrete h j)) (omega arith)
+          where
+            past : Dec (h ≡ j) → suc h ≤ j
+            past (yes z) = absurd (eqb-false size (sizeAt G h) q (sym e ∙ ap (sizeAt G) (sym z)))
+            past (no n) = omega arith
+
+    pub height-most : heightOf G size ≤ suc (G .large)
+    unfolding heightOf
+    height-most = omega (arith, seek-most 0 (suc (G .large)))
+
+    -- a size that has a height is the size of that height
+    pub height-size : heightOf G size ≤ G .large → sizeAt G (heightOf G size) ≡ size
+    unfolding heightOf
+    height-size l = seek-size 0 (suc (G .large)) (omega arith)
+
+    height-first : {h : ℕ} → h ≤ G .large → sizeAt G h ≡ size → heightOf G size ≤ h
+    unfolding heightOf
+    height-first {h} l e = seek-first h 0 (suc (G .large)) e zero-le (omega arith)
+
+    -- the greatest answer says that no frame has the size
+    pub no-frame : heightOf G size ≡ suc (G .large) → (h : ℕ) → h ≤ G .large → sizeAt G h ≢ size
+    no-frame e h l q = omega (arith, height-first l q)
+
+    pub no-height : ((h : ℕ) → h ≤ G .large → sizeAt G h ≢ size) → heightOf G size ≡ suc (G .large)
+    no-height f = go (decLt (G .large) (heightOf G size))
+      where
+        go : Dec (G .large < heightOf G size) → heightOf G size ≡ suc (G .large)
+        go (yes l) = omega (arith, height-most)
+        go (no n) = absurd (f (heightOf G size) (omega arith) (height-size (omega arith)))
+
+  -- upstream lemma_frame_size_inversion: the height of a size of a frame
+  pub size-height : Sane G → {h : ℕ} → h ≤ G .large → heightOf G (sizeAt G h) ≡ h
+  size-height S {h} l =
+      let low : heightOf G (sizeAt G h) ≤ h = height-first (sizeAt G h) l refl in
+      size-injective S (heightOf G (sizeAt G h)) h (height-size (sizeAt G h) (omega arith))
+
+  -- ---- levels
+
+  pub level-some : {h : ℕ} → h < G .most → (x : ℕ) → atLevel G h x ≡ x
+  unfolding atLevel
+  level-some {h} l x = rw (lt-ltb h (G .most) l)
+
+  pub level-none : {h : ℕ} → G .most ≤ h → (x : ℕ) → atLevel G h x ≡ 0
+  unfolding atLevel
+  level-none {h} l x = rw (le-ltb h (G .most) l)
+
+  -- a size of 0 says that no level has the height
+  pub level-size-none : (h : ℕ) → atLevel G h (sizeAt G h) ≡ 0 → G .most ≤ h
+  level-size-none h e = go (decLt h (G .most))
+    where
+      go : Dec (h < G .most) → G .most ≤ h
+      go (yes l) = omega (arith, level-some l (sizeAt G h), size-pos h)
+      go (no n) = omega arith
+
+  -- any other size is that of the height, and so is what is made of it
+  pub level-size-some : (h : ℕ) (f : ℕ → ℕ) → atLevel G h (sizeAt G h) ≢ 0
+      → f (atLevel G h (sizeAt G h)) ≡ atLevel G h (f (sizeAt G h))
+  level-size-some h f n = go (decLt h (G .most))
+    where
+      go : Dec (h < G .most) → f (atLevel G h (sizeAt G h)) ≡ atLevel G h (f (sizeAt G h))
+      go (yes l) = ap f (level-some l (sizeAt G h)) ∙ sym (level-some l (f (sizeAt G h)))
+      go (no m) = absurd (n (level-none (omega arith) (sizeAt G h)))
+
+  pub space-some : {levels : ℕ} → G .fewest ≤ levels → levels ≤ G .most → spaceOf G levels ≡ sizeAt G levels
+  unfolding spaceOf goodLevels
+  space-some {levels} l m = simp (le-leb (G .fewest) levels l, le-leb levels (G .most) m)
+
+-- ---- setup numbers
+
+both : (a b : Bool) → (a && b) ≡ true → (a ≡ true) × (b ≡ true)
+both true b e = (refl, e)
+both false b e = absurd (false≢true e)
+
+untrue : (b : Bool) → (b ≡ true → ⊥) → b ≡ false
+untrue true f = absurd (f refl)
+untrue false f = refl
+
+-- two tests that are true together are equal
+pub same-truth : (a b : Bool) → (a ≡ true → b ≡ true) → (b ≡ true → a ≡ true) → a ≡ b
+same-truth true b f g = sym (f refl)
+same-truth false b f g = sym (untrue b (λ e. false≢true (g e)))
+
+pub good-levels : (G : Granule) (levels : ℕ) → goodLevels G levels ≡ true → (G .fewest ≤ levels) × (levels ≤ G .most)
+unfolding goodLevels
+good-levels G levels e =
+    let (a, b) = both (leb (G .fewest) levels) (leb levels (G .most)) e in
+    (leb-true (G .fewest) levels a, leb-true levels (G .most) b)
+
+pub space-none : (G : Granule) (levels : ℕ) → (G .fewest ≤ levels → levels ≤ G .most → ⊥) → spaceOf G levels ≡ 0
+unfolding spaceOf
+space-none G levels f = rw (untrue (goodLevels G levels) (λ e. f (good-levels G levels e .0) (good-levels G levels e .1)))
+
+pub space-physical : {G : Granule} → Sane G → (levels : ℕ) → spaceOf G levels ≤ physical
+unfolding spaceOf
+space-physical {G} S levels = go (goodLevels G levels) refl
+  where
+    go : (b : Bool) → goodLevels G levels ≡ b → cond b (sizeAt G levels) 0 ≤ physical
+    go true e = size-fits G S (good-levels G levels e .1)
+    go false e = zero-le
+
+module _ {G : Granule} {levels base tables words places : ℕ} where
+  pub good-numbers : goodNumbers G levels base tables words places ≡ true → GoodNumbers G levels base tables words places
+  unfolding goodNumbers
+  good-numbers e =
+      let (a, e₁) = both (goodLevels G levels) _ e in
+      let (b, e₂) = both (leb 1 tables) _ e₁ in
+      let (c, e₃) = both (leb tables mostTables) _ e₂ in
+      let (d, e₄) = both (eqb (base % pageSize G) 0) _ e₃ in
+      let (f, e₅) = both (leb (base + pageSize G * tables) physical) _ e₄ in
+      let (g, k) = both (eqb words (entries G * tables)) _ e₅ in
+      record {
+        enough = good-levels G levels a .0;
+        not-more = good-levels G levels a .1;
+        some-table = leb-true 1 tables b;
+        few = leb-true tables mostTables c;
+        aligned = eqb-true (base % pageSize G) 0 d;
+        fits = leb-true (base + pageSize G * tables) physical f;
+        words-are = eqb-true words (entries G * tables) g;
+        places-are = eqb-true places tables k;
+      }
+
+  pub numbers-good : GoodNumbers G levels base tables words places → goodNumbers G levels base tables words places ≡ true
+  unfolding goodNumbers goodLevels
+  numbers-good N =
+      simp (
+        le-leb _ _ (N .enough),
+        le-leb _ _ (N .not-more),
+        le-leb _ _ (N .some-table),
+        le-leb _ _ (N .few),
+        eq-eqb _ _ (N .aligned),
+        le-leb _ _ (N .fits),
+        eq-eqb _ _ (N .words-are),
+        eq-eqb _ _ (N .places-are),
+      )
+
+  -- what breaks one of the rules is not good
+  pub numbers-bad : (GoodNumbers G levels base tables words places → ⊥) → goodNumbers G levels base tables words places ≡ false
+  numbers-bad f = untrue _ (λ e. f (good-numbers e))
+
+module _ {G : Granule} {s : Setup} {words places : ℕ} where
+  pub good-setup : goodSetup G s words places ≡ true → GoodSetup G s words places
+  unfolding goodSetup
+  good-setup e =
+      let (a, b) = both (goodNumbers G (s .levels) (s .base) (s .tables) words places) _ e in
+      record { numbers = good-numbers a; room = ltb-true (s .free) (s .tables) b }
+
+  pub setup-good : GoodSetup G s words places → goodSetup G s words places ≡ true
+  unfolding goodSetup
+  setup-good S = simp (numbers-good (S .numbers), lt-ltb _ _ (S .room))
+
+  pub setup-bad : (GoodSetup G s words places → ⊥) → goodSetup G s words places ≡ false
+  setup-bad f = untrue _ (λ e. f (good-setup e))

@@ -1,0 +1,160 @@
+// Setup numbers, sizes, and paths: the indices of an address, and back.
+ghost use mathlib.Core.Path.{_≡_};
+ghost use Rattle.path.specs.Geometry.{four, sizeAt, atLevel, spaceOf, heightOf};
+ghost use Rattle.path.specs.Numbers.{goodNumbers, goodSetup};
+ghost use Rattle.path.specs.Paths.{indexAt, baseAt, pathOf, addressOf};
+
+// The bytes of a page, and of a table.
+pub const PAGE: u64 = 4096;
+// The entries of a table.
+pub const ENTRIES: u64 = 512;
+// The sizes of the regions of heights 1, 2 and 3.
+pub const MIB2: u64 = 2097152;
+
+pub const GIB: u64 = 1073741824;
+
+pub const GIB512: u64 = 549755813888;
+// No frame and no table ends past this address.
+pub const PHYSICAL: u64 = 281474976710656;
+// The most tables that a pool may have.
+pub const MOST_TABLES: u64 = 64;
+
+pub struct Setup {
+    pub levels: u64,
+    pub base: u64,
+    pub tables: u64,
+    pub free: u64,
+}
+
+// Whether levels, base, table count and the two lengths are good.
+pub fn good_numbers(levels: u64, base: u64, tables: u64, words: usize, places: usize) -> bool
+    ensures { λ r. ⌜ r ≡ goodNumbers four levels base tables words places ⌝ }
+{
+    if levels < 3 {
+        return false;
+    }
+    if levels > 4 {
+        return false;
+    }
+    if tables < 1 {
+        return false;
+    }
+    if tables > MOST_TABLES {
+        return false;
+    }
+    if base % PAGE != 0 {
+        return false;
+    }
+    if base > PHYSICAL {
+        return false;
+    }
+    if base + PAGE * tables > PHYSICAL {
+        return false;
+    }
+    if words as u64 != ENTRIES * tables {
+        return false;
+    }
+    places as u64 == tables
+}
+
+// Whether the setup numbers and the two lengths are good.
+pub fn good_setup(s: Setup, words: usize, places: usize) -> bool
+    ensures { λ r. ⌜ r ≡ goodSetup four s words places ⌝ }
+{
+    if !good_numbers(s.levels, s.base, s.tables, words, places) {
+        return false;
+    }
+    s.free < s.tables
+}
+
+// The addresses of a tree of so many levels are below this; 0 for levels that no tree has.
+pub fn space_of(levels: u64) -> u64
+    ensures { λ r. ⌜ r ≡ spaceOf four levels ⌝ }
+{
+    if levels == 3 {
+        return GIB512;
+    }
+    if levels == 4 {
+        return PHYSICAL;
+    }
+    0
+}
+
+// The bytes that an entry of a height stands for; 0 where no level has it.
+pub fn size_at(height: usize) -> u64
+    ensures { λ r. ⌜ r ≡ atLevel four height (sizeAt four height) ⌝ }
+{
+    if height == 0 {
+        return PAGE;
+    }
+    if height == 1 {
+        return MIB2;
+    }
+    if height == 2 {
+        return GIB;
+    }
+    if height == 3 {
+        return GIB512;
+    }
+    0
+}
+
+// The height of the frames of a size, or 3 where no frame has it.
+pub fn height_of(size: u64) -> usize
+    ensures { λ r. ⌜ r ≡ heightOf four size ⌝ }
+{
+    if size == PAGE {
+        return 0;
+    }
+    if size == MIB2 {
+        return 1;
+    }
+    if size == GIB {
+        return 2;
+    }
+    3
+}
+
+// The index of an address among the entries of a height; 0 where no level has it.
+pub fn index_at(address: u64, height: usize) -> u16
+    ensures { λ r. ⌜ r ≡ atLevel four height (indexAt four address height) ⌝ }
+{
+    let bytes = size_at(height);
+    if bytes == 0 {
+        return 0;
+    }
+    (address / bytes % ENTRIES) as u16
+}
+
+// The first address of the region of a height that holds an address; 0 where no level has it.
+pub fn base_at(address: u64, height: usize) -> u64
+    ensures { λ r. ⌜ r ≡ atLevel four height (baseAt four address height) ⌝ }
+{
+    let size = size_at(height);
+    if size == 0 {
+        return 0;
+    }
+    address - address % size
+}
+
+// The nine-bit indices of an address, top first.
+pub fn path_of(address: u64) -> [u16; 4]
+    ensures { λ r. ⌜ r ≡ pathOf four address ⌝ }
+{
+    [
+        (address / GIB512 % ENTRIES) as u16,
+        (address / GIB % ENTRIES) as u16,
+        (address / MIB2 % ENTRIES) as u16,
+        (address / PAGE % ENTRIES) as u16,
+    ]
+}
+
+// The address whose indices a path holds.
+pub fn address_of(path: [u16; 4]) -> u64
+    ensures { λ r. ⌜ r ≡ addressOf four path ⌝ }
+{
+    (path[0] as u64) * GIB512
+        + (path[1] as u64) * GIB
+        + (path[2] as u64) * MIB2
+        + (path[3] as u64) * PAGE
+}

@@ -1,0 +1,137 @@
+//! Calls and answers as plain numbers, and the engines that carry the calls out.
+
+use plain::{Refusal, Setup};
+
+/// A call with its numbers; the memory comes beside it.
+#[derive(Clone, Copy, Debug, PartialEq, Eq)]
+pub enum Call {
+    FrameWord { base: u64, size: u64, attributes: u64 },
+    WordMeaning { word: u64, size: u64 },
+    Format { levels: u64, base: u64, tables: u64 },
+    Map { setup: Setup, address: u64, frame: u64, size: u64, attributes: u64 },
+    Unmap { setup: Setup, address: u64 },
+    Query { setup: Setup, address: u64 },
+    Audit { setup: Setup },
+}
+
+impl Call {
+    pub const NAMES: [&'static str; 7] = ["frame_word", "word_meaning", "format", "map", "unmap", "query", "audit"];
+
+    /// The place of the call among the names.
+    pub fn kind(&self) -> usize {
+        match self {
+            Call::FrameWord { .. } => 0,
+            Call::WordMeaning { .. } => 1,
+            Call::Format { .. } => 2,
+            Call::Map { .. } => 3,
+            Call::Unmap { .. } => 4,
+            Call::Query { .. } => 5,
+            Call::Audit { .. } => 6,
+        }
+    }
+
+    /// The setup that goes in; format and the host's calls have none.
+    pub fn setup(&self) -> Option<Setup> {
+        match *self {
+            Call::Map { setup, .. } | Call::Unmap { setup, .. } | Call::Query { setup, .. } | Call::Audit { setup } => {
+                Some(setup)
+            }
+            _ => None,
+        }
+    }
+
+    /// The same call with another setup, where it has one.
+    pub fn with_setup(mut self, other: Setup) -> Call {
+        match &mut self {
+            Call::Map { setup, .. } | Call::Unmap { setup, .. } | Call::Query { setup, .. } | Call::Audit { setup } => {
+                *setup = other
+            }
+            Call::Format { .. } | Call::FrameWord { .. } | Call::WordMeaning { .. } => {}
+        }
+        self
+    }
+
+    /// How many numbers it answers beside the refusal.
+    pub fn width(&self) -> usize {
+        [1, 1, 4, 5, 8, 4, 2][self.kind()]
+    }
+}
+
+/// An answer: the number of the refusal or 0, and the answer's numbers in the order of the C header, the rest zero.
+///
+/// They are, for the host's calls, the number answered; for format the setup; for map the setup and the tables taken; for unmap
+/// the setup, frame, size, attributes and tables given back; for query base, frame, size and attributes; for audit the tables
+/// and the mappings.
+#[derive(Clone, Copy, Debug, PartialEq, Eq)]
+pub struct Answer {
+    pub refusal: u64,
+    pub numbers: [u64; 8],
+}
+
+impl Answer {
+    pub fn new(refusal: u64, numbers: &[u64]) -> Answer {
+        let mut answer = Answer { refusal, numbers: [0; 8] };
+        answer.numbers[..numbers.len()].copy_from_slice(numbers);
+        answer
+    }
+
+    /// The answer of one of the host's calls, where a number below 16 is a refusal.
+    pub fn of_host(number: u64) -> Answer {
+        Answer::new(if number < 16 { number } else { 0 }, &[number])
+    }
+
+    /// The setup in the answer of format, map and unmap.
+    pub fn setup(&self) -> Setup {
+        let [levels, base, tables, free, ..] = self.numbers;
+        Setup { levels, base, tables, free }
+    }
+}
+
+/// Something that carries out calls on lent memory.
+pub trait Engine {
+    fn call(&mut self, call: &Call, words: &mut [u64], list: &mut [u32]) -> Answer;
+}
+
+/// The plain program.
+pub struct Plain;
+
+impl Engine for Plain {
+    fn call(&mut self, call: &Call, words: &mut [u64], list: &mut [u32]) -> Answer {
+        match *call {
+            Call::FrameWord { base, size, attributes } => Answer::of_host(plain::frame_word(base, size, attributes)),
+            Call::WordMeaning { word, size } => Answer::of_host(plain::word_meaning(word, size)),
+            Call::Format { levels, base, tables } => {
+                let (setup, result) = plain::format(levels, base, tables, words, list);
+                with_setup(setup, result.map(|()| []))
+            }
+            Call::Map { setup, address, frame, size, attributes } => {
+                let (setup, result) = plain::map(setup, words, list, address, frame, size, attributes);
+                with_setup(setup, result.map(|taken| [taken]))
+            }
+            Call::Unmap { setup, address } => {
+                let (setup, result) = plain::unmap(setup, words, list, address);
+                with_setup(setup, result.map(|r| [r.frame, r.size, r.attributes, r.given]))
+            }
+            Call::Query { setup, address } => {
+                without_setup(plain::query(setup, words, list, address).map(|f| [f.base, f.frame, f.size, f.attributes]))
+            }
+            Call::Audit { setup } => without_setup(plain::audit(setup, words, list).map(|c| [c.tables, c.mappings])),
+        }
+    }
+}
+
+/// A refusal answers its number and nothing more.
+fn without_setup<const N: usize>(result: Result<[u64; N], Refusal>) -> Answer {
+    match result {
+        Ok(numbers) => Answer::new(0, &numbers),
+        Err(refusal) => Answer::new(refusal.number(), &[]),
+    }
+}
+
+/// The setup is handed back in any case.
+pub(crate) fn with_setup<const N: usize>(setup: Setup, result: Result<[u64; N], Refusal>) -> Answer {
+    let mut answer = without_setup(result);
+    answer.numbers.copy_within(0..4, 4);
+    answer.numbers[..4].copy_from_slice(&[setup.levels, setup.base, setup.tables, setup.free]);
+    answer
+}

@@ -1,0 +1,76 @@
+//! The comparison of an engine with the plain program.
+
+use crate::{Answer, Call, Coverage, Engine, Memory, Source, Step, World};
+
+/// An engine on trial, with its own memory beside the plain program's.
+pub struct Judge<E> {
+    engine: E,
+    memory: Memory,
+    world: World,
+    /// The memory before the step.
+    before: Memory,
+    pub coverage: Coverage,
+}
+
+impl<E: Engine> Judge<E> {
+    pub fn new(engine: E) -> Judge<E> {
+        Judge {
+            engine,
+            memory: Memory::default(),
+            world: World::default(),
+            before: Memory::default(),
+            coverage: Coverage::default(),
+        }
+    }
+
+    /// Carries out the steps of a source, until so many calls are judged. The text of an error is the first difference.
+    pub fn run(&mut self, source: &mut Source, calls: u64) -> Result<(), String> {
+        while self.coverage.calls() < calls {
+            let step = source.next(&self.world);
+            self.step(&step)?;
+        }
+        Ok(())
+    }
+
+    /// Carries out a step in both and compares the answers and all memory.
+    pub fn step(&mut self, step: &Step) -> Result<(), String> {
+        self.compare(step).map_err(|difference| format!("at call {}\n{step:x?}\n{difference}", self.coverage.calls()))
+    }
+
+    fn compare(&mut self, step: &Step) -> Result<(), String> {
+        let ours = self.memory.apply(step, &mut self.engine);
+        let (plain, with_ledger) = self.world.apply(step)?;
+        if ours != plain {
+            return Err(format!("the engine answers {ours:x?}\nand plain        {plain:x?}"));
+        }
+        same(&self.memory, &self.world.memory)
+            .map_err(|place| format!("after {plain:x?} the engine and plain differ: {place}"))?;
+        match (step, plain) {
+            (Step::Call { call, .. }, Some(answer)) if !changes(call, &answer) => {
+                same(&self.memory, &self.before).map_err(|place| format!("{answer:x?} must change nothing, but did: {place}"))?;
+            }
+            _ => self.before.clone_from(&self.memory),
+        }
+        self.coverage.count(step, plain.as_ref(), with_ledger, &self.memory);
+        Ok(())
+    }
+}
+
+/// Whether a call with this answer may change the lent memory.
+fn changes(call: &Call, answer: &Answer) -> bool {
+    answer.refusal == 0 && matches!(call, Call::Format { .. } | Call::Map { .. } | Call::Unmap { .. })
+}
+
+/// Compares two memories; the error names the first place where they differ.
+fn same(one: &Memory, other: &Memory) -> Result<(), String> {
+    if one == other {
+        return Ok(());
+    }
+    if let Some(at) = one.words.iter().zip(&other.words).position(|(a, b)| a != b) {
+        return Err(format!("word {at} is {:x} and {:x}", one.words[at], other.words[at]));
+    }
+    match one.list.iter().zip(&other.list).position(|(a, b)| a != b) {
+        Some(at) => Err(format!("place {at} is {:x} and {:x}", one.list[at], other.list[at])),
+        None => Err("the lengths".to_string()),
+    }
+}

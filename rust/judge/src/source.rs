@@ -1,0 +1,364 @@
+//! Histories of calls, made from a seed.
+//!
+//! A history has its own pool and a book of addresses from which its calls choose, so that mappings meet, tables fill up and
+//! empty again. Each kind of history has its own mix of calls:
+//! - fresh ones keep the pool good, and are compared with the ledger;
+//! - damaged ones change a word or a place of a good pool between the calls;
+//! - wild ones fill the tables with entries of every kind, so that walks run into cycles and bad free lists.
+
+use std::collections::VecDeque;
+
+use plain::{Setup, LIMIT, MAX_TABLES, SIZES};
+
+use crate::damage::{frame, random_size};
+use crate::{Call, Damage, Random, Step, World};
+
+#[derive(Clone, Copy, PartialEq, Eq)]
+enum Kind {
+    Fresh,
+    Damaged,
+    Wild,
+}
+
+/// A stream of steps.
+pub struct Source {
+    random: Random,
+    kind: Kind,
+    /// Steps that come first.
+    queue: VecDeque<Step>,
+    /// Steps left in this history.
+    left: u64,
+    /// The addresses of this history, multiples of 4096.
+    book: Vec<u64>,
+    /// Where addresses are taken in order, the place in the book.
+    sweep: Option<usize>,
+    /// Whether maps or unmaps are more frequent now.
+    growing: bool,
+    /// The free count of a wild pool until a call is accepted with it.
+    free: Option<u64>,
+}
+
+impl Source {
+    pub fn new(seed: u64) -> Source {
+        Source {
+            random: Random::new(seed),
+            kind: Kind::Fresh,
+            queue: VecDeque::new(),
+            left: 0,
+            book: Vec::new(),
+            sweep: None,
+            growing: true,
+            free: None,
+        }
+    }
+
+    /// The next step, given where the last one led.
+    pub fn next(&mut self, world: &World) -> Step {
+        if self.left == 0 && self.queue.is_empty() {
+            self.begin();
+        }
+        if let Some(step) = self.queue.pop_front() {
+            return step;
+        }
+        self.left -= 1;
+        if self.free.is_some_and(|free| world.setup.free == free) {
+            self.free = None;
+        }
+        if self.random.percent(4) {
+            self.growing = !self.growing;
+        }
+        if self.kind == Kind::Damaged && self.random.percent(8) {
+            if let Some(step) = self.damage(world) {
+                let setup = world.setup;
+                self.queue.push_back(lend(Call::Audit { setup }, setup.tables));
+                return step;
+            }
+        }
+        let call = self.call(world);
+        let mut step = lend(call, world.setup.tables);
+        if let (Call::Format { tables, .. }, Step::Call { words, places, .. }) = (call, &mut step) {
+            // format is lent what it asks for, where there is so much
+            let room = tables.min(world.memory.list.len() as u64 - 1) as usize;
+            (*words, *places) = (512 * room, room);
+        }
+        if self.random.percent(2) {
+            self.odd_lengths(&mut step, world);
+        }
+        step
+    }
+
+    /// Begins a history: its memory, its pool and its book.
+    fn begin(&mut self) {
+        let random = &self.random;
+        self.kind = random.pick(&[Kind::Fresh, Kind::Fresh, Kind::Fresh, Kind::Damaged, Kind::Damaged, Kind::Wild]);
+        let levels = 3 + random.below(2);
+        let most = if self.kind == Kind::Wild { 8 } else { MAX_TABLES };
+        let tables = random.pick(&[1, 2, 3, 4, 5, 6, 8, 1 + random.number() % 12, 1 + random.number() % most, most]);
+        let base = random.pick(&[0, 0x4000_0000, LIMIT - 4096 * tables, random.number() % (1 << 36) * 4096 % (LIMIT / 2)]);
+        self.left = 20 + random.below(if self.kind == Kind::Fresh { 400 } else { 100 });
+        self.growing = true;
+        self.sweep = None;
+        self.free = None;
+
+        let words = 512 * (tables as usize + 1);
+        let places = tables as usize + 1;
+        self.queue.push_back(Step::Memory { words, places });
+        // format has something to clear
+        for at in [0, 511, words - 513, words - 1] {
+            self.queue.push_back(Step::Word { at, word: random.number(), damage: Damage::Garbage });
+        }
+        self.queue.push_back(lend(Call::Format { levels, base, tables }, tables));
+        if self.kind == Kind::Wild {
+            self.make_wild(Setup { levels, base, tables, free: 0 });
+        } else {
+            self.make_book(levels);
+        }
+    }
+
+    /// The book of a fresh or damaged history.
+    fn make_book(&mut self, levels: u64) {
+        let random = &self.random;
+        let space = 4096 << (9 * levels);
+        let count = 1 + random.below(24);
+        let near = random.below(space) & !(SIZES[1] - 1);
+        self.book = match random.below(8) {
+            // pages of one table, or a whole table and some more in order
+            0 => (0..count).map(|i| near + 4096 * i).collect(),
+            1 => {
+                self.sweep = Some(0);
+                self.left *= 4;
+                (0..516).map(|i| (near + 4096 * i) % space).collect()
+            }
+            // pages of a few tables of one 1 GiB region, and of a few such regions
+            2 => (0..count).map(|_| (near & !(SIZES[2] - 1)) + random.below(6) * SIZES[1] + random.below(4) * 4096).collect(),
+            3 | 4 => {
+                (0..count).map(|_| random.below(3) * SIZES[2] + random.below(3) * SIZES[1] + random.below(3) * 4096).collect()
+            }
+            // the two sides of the borders of regions
+            5 => {
+                let borders = [SIZES[1], SIZES[2], 2 * SIZES[2], (1 << 39) % space, space - SIZES[2], space - SIZES[1], 0];
+                (0..count).map(|_| (random.pick(&borders) + random.pick(&[0, 4096, space - 4096])) % space).collect()
+            }
+            // anywhere
+            _ => (0..count).map(|_| random.below(space) & !4095).collect(),
+        };
+    }
+
+    /// Fills the entries 0, 1 and 511 of all tables, and the free list, with what a walk can meet.
+    fn make_wild(&mut self, setup: Setup) {
+        let random = &self.random;
+        const INDICES: [u64; 3] = [0, 1, 511];
+        self.book = vec![0];
+        for level in 0..setup.levels {
+            self.book = self.book.iter().flat_map(|&a| INDICES.map(|index| a | index << (12 + 9 * level))).collect();
+        }
+        let emptiness = random.pick(&[4, 12]);
+        for table in 0..setup.tables {
+            for index in INDICES {
+                let size = random_size(random);
+                let word = match random.below(10 + emptiness) {
+                    0..=5 => setup.base + 4096 * random.below(setup.tables + 1) + 3,
+                    6..=8 => frame(random, size),
+                    9 => frame(random, size) ^ 1 << random.below(64),
+                    _ => 0,
+                };
+                self.queue.push_back(Step::Word { at: (512 * table + index) as usize, word, damage: Damage::Garbage });
+            }
+        }
+        for at in 0..setup.tables as usize {
+            let number = random.below(setup.tables + 1) as u32;
+            self.queue.push_back(Step::Place { at, number, damage: Damage::FreeOutside });
+        }
+        self.free = Some(random.pick(&[random.number() % setup.tables, setup.tables - 1]));
+    }
+
+    /// Some damage to the pool, if there is one to damage.
+    fn damage(&mut self, world: &World) -> Option<Step> {
+        let address = self.address();
+        self.random.pick(&Damage::ALL).step(&self.random, world.setup, &world.memory, address)
+    }
+
+    /// A call on the pool.
+    fn call(&mut self, world: &World) -> Call {
+        let setup = self.setup(world);
+        let space = 4096 << (9 * setup.levels.min(4));
+        let (maps, unmaps) = if self.growing { (55, 15) } else { (15, 55) };
+        match self.random.below(100) {
+            dice if dice < maps => {
+                let mut size = random_size(&self.random);
+                let mut address = self.address() & !(size - 1);
+                let mut frame = self.random.below(LIMIT) & !(size - 1);
+                let mut attributes = self.random.below(16);
+                if self.random.percent(20) {
+                    match self.random.below(6) {
+                        0 => size = self.odd_size(),
+                        1 => attributes = self.random.pick(&[16, 17, 31, 1 << 32, u64::MAX]),
+                        2 | 3 => address = self.odd_address(space, size),
+                        _ => frame = self.odd_address(LIMIT, size),
+                    }
+                }
+                if self.random.percent(2) {
+                    (size, attributes) = (self.odd_size(), self.random.below(18));
+                    (address, frame) = (self.odd_address(space, 4096), self.odd_address(LIMIT, 4096));
+                }
+                Call::Map { setup, address, frame, size, attributes }
+            }
+            dice if dice < maps + unmaps => {
+                let address = match self.random.below(20) {
+                    0 => self.odd_address(space, 4096),
+                    1..=4 => self.address(),
+                    5 => self.live(world) + 4096 * self.random.below(512),
+                    _ => self.live(world),
+                };
+                Call::Unmap { setup, address }
+            }
+            70..=87 => {
+                let offset = self.random.below(1 << self.random.pick(&[1, 12, 21, 30]));
+                let address = match self.random.below(20) {
+                    0 => self.odd_address(space, 4096),
+                    1..=9 => self.address() + offset,
+                    _ => self.live(world) + offset,
+                };
+                Call::Query { setup, address }
+            }
+            88..=90 => Call::Audit { setup },
+            91..=94 => {
+                let size = if self.random.percent(10) { self.odd_size() } else { random_size(&self.random) };
+                let mut base = self.random.number() >> self.random.below(32);
+                base = if self.random.percent(30) { self.odd_address(LIMIT, size) } else { base & !(size.wrapping_sub(1)) };
+                Call::FrameWord { base, size, attributes: self.random.below(18) }
+            }
+            95..=98 => {
+                let size = random_size(&self.random);
+                let word = match self.random.below(4) {
+                    0 => frame(&self.random, size),
+                    1 => frame(&self.random, size) ^ 1 << self.random.below(64),
+                    2 => self.random.number() >> self.random.below(64),
+                    _ => self.random.pick(&world.memory.words),
+                };
+                let size = if self.random.percent(5) { self.odd_size() } else { size };
+                Call::WordMeaning { word, size }
+            }
+            _ => self.format(world),
+        }
+    }
+
+    /// The setup that a call goes in with: the pool's, or one that is not right.
+    fn setup(&mut self, world: &World) -> Setup {
+        let mut setup = world.setup;
+        setup.free = self.free.unwrap_or(setup.free);
+        if self.kind == Kind::Fresh && self.random.percent(99) || self.random.percent(92) {
+            return setup;
+        }
+        match self.random.below(4) {
+            0 => setup.levels = self.random.pick(&[0, 1, 2, 5, 1 << 32 | 3, u64::MAX]),
+            1 => setup.base = self.random.pick(&[1, 4095, LIMIT, LIMIT - 4096 * setup.tables + 4096, u64::MAX, u64::MAX - 4095]),
+            2 => setup.tables = self.random.pick(&[0, setup.tables + 1, setup.tables - 1, 65, 1 << 55, u64::MAX]),
+            _ => setup.free = self.random.pick(&[setup.tables, setup.tables + 1, 1 << 32, u64::MAX]),
+        }
+        // setups that are right for another pool
+        if self.kind != Kind::Fresh && self.random.percent(60) {
+            setup = world.setup;
+            match self.random.below(3) {
+                0 => setup.levels = 7 - setup.levels,
+                1 => setup.base = (setup.base + 4096) % (LIMIT / 2),
+                _ => setup.free = self.random.pick(&[self.random.below(setup.tables), setup.tables - 1]),
+            }
+        }
+        setup
+    }
+
+    /// A format in the middle of a history, mostly one that is refused.
+    fn format(&mut self, world: &World) -> Call {
+        let Setup { mut levels, mut base, mut tables, .. } = world.setup;
+        match self.random.below(5) {
+            0 => levels = self.random.pick(&[0, 2, 3, 4, 5, u64::MAX]),
+            1 => {
+                base =
+                    self.random.pick(&[0, 1, 4096, LIMIT - 4096 * tables, LIMIT - 4096 * tables + 4096, LIMIT, u64::MAX - 4095])
+            }
+            2 => tables = self.random.pick(&[0, 1, tables - 1, tables + 1, 64, 65, 1 << 52, u64::MAX]),
+            3 => {}
+            _ => (levels, base, tables) = (self.random.number(), self.random.number(), self.random.number()),
+        }
+        Call::Format { levels, base, tables }
+    }
+
+    /// An address of the book.
+    fn address(&mut self) -> u64 {
+        match &mut self.sweep {
+            Some(at) => {
+                *at = (*at + 1) % self.book.len();
+                self.book[*at]
+            }
+            None => self.random.pick(&self.book),
+        }
+    }
+
+    /// The start of a live mapping, or an address of the book.
+    fn live(&mut self, world: &World) -> u64 {
+        match &world.ledger {
+            Some(ledger) if self.sweep.is_none() && !ledger.mappings().is_empty() => self.random.pick(ledger.mappings()).address,
+            _ => self.address(),
+        }
+    }
+
+    /// A number at some limit of a space, for an address with a size.
+    fn odd_address(&mut self, space: u64, size: u64) -> u64 {
+        let limits = [0, size, space, LIMIT, 1 << 39, 1 << 63];
+        let near = [0, 1, 4096, size, size / 2, 1 << 21];
+        let (limit, offset) = (self.random.pick(&limits), self.random.pick(&near));
+        match self.random.below(4) {
+            0 => limit.wrapping_sub(offset),
+            1 => limit.wrapping_add(offset),
+            // a good address with something above the space
+            2 => self.address().wrapping_add(limit),
+            _ => self.address() + self.random.pick(&[1, 4096, 1 << 30]),
+        }
+    }
+
+    /// A number that is mostly no frame size.
+    fn odd_size(&mut self) -> u64 {
+        self.random.pick(&[
+            0,
+            1,
+            512,
+            4095,
+            4097,
+            8192,
+            1 << 14,
+            1 << 20,
+            (1 << 21) + 4096,
+            1 << 25,
+            1 << 31,
+            1 << 39,
+            1 << 48,
+            1 << 63,
+            u64::MAX,
+            4096,
+        ])
+    }
+
+    /// Lends too little or too much.
+    fn odd_lengths(&mut self, step: &mut Step, world: &World) {
+        if let Step::Call { words, places, .. } = step {
+            let random = &self.random;
+            let (most_words, most_places) = (world.memory.words.len(), world.memory.list.len());
+            match random.below(3) {
+                0 => *words = random.pick(&[0, 1, words.saturating_sub(1), *words + 1, words.saturating_sub(512), most_words]),
+                1 => *places = random.pick(&[0, places.saturating_sub(1), *places + 1]),
+                _ => {
+                    (*words, *places) =
+                        random.pick(&[(0, 0), (most_words, most_places), (words.saturating_sub(512), places.saturating_sub(1))])
+                }
+            }
+            *words = (*words).min(most_words);
+            *places = (*places).min(most_places);
+        }
+    }
+}
+
+/// A call that is lent the memory of a pool with so many tables.
+fn lend(call: Call, tables: u64) -> Step {
+    Step::Call { call, words: 512 * tables as usize, places: tables as usize }
+}

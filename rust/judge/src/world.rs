@@ -1,0 +1,112 @@
+//! What the plain program's side of a run is: its memory, the setup that goes on, and the ledger.
+
+use plain::ledger::Ledger;
+use plain::{Refusal, Setup};
+
+use crate::call::with_setup;
+use crate::{Answer, Call, Damage, Engine, Plain};
+
+/// Lent memory. It is longer than the pool in it, so that longer and shorter runs can be lent.
+#[derive(Clone, Debug, Default, PartialEq, Eq)]
+pub struct Memory {
+    pub words: Vec<u64>,
+    pub list: Vec<u32>,
+}
+
+/// One step of a history.
+#[derive(Clone, Copy, Debug, PartialEq, Eq)]
+pub enum Step {
+    /// New memory of so many words and places, all zero.
+    Memory { words: usize, places: usize },
+    /// A word is overwritten from outside.
+    Word { at: usize, word: u64, damage: Damage },
+    /// A place of the free list is overwritten from outside.
+    Place { at: usize, number: u32, damage: Damage },
+    /// A call, which is lent the first so many words and places.
+    Call { call: Call, words: usize, places: usize },
+}
+
+/// The plain program's side.
+#[derive(Default)]
+pub struct World {
+    pub memory: Memory,
+    /// The setup that the last accepted call handed back.
+    pub setup: Setup,
+    /// The live mappings, where the pool has a history from a fresh format.
+    pub ledger: Option<Ledger>,
+    /// Whether the audit is known to accept the pool, with its setup.
+    sound: bool,
+}
+
+impl Memory {
+    /// Carries out a step with an engine; only a call has an answer.
+    pub fn apply(&mut self, step: &Step, engine: &mut impl Engine) -> Option<Answer> {
+        match *step {
+            Step::Memory { words, places } => *self = Memory { words: vec![0; words], list: vec![0; places] },
+            Step::Word { at, word, .. } => self.words[at] = word,
+            Step::Place { at, number, .. } => self.list[at] = number,
+            Step::Call { ref call, words, places } => {
+                return Some(engine.call(call, &mut self.words[..words], &mut self.list[..places]))
+            }
+        }
+        None
+    }
+}
+
+impl World {
+    /// Carries out a step, and compares the answer with the ledger's. Says also whether there was one to compare with.
+    ///
+    /// Where there is none, a pool that the audit has accepted must not give 8.
+    pub fn apply(&mut self, step: &Step) -> Result<(Option<Answer>, bool), String> {
+        let answer = self.memory.apply(step, &mut Plain);
+        let (Step::Call { call, words, places }, Some(answer)) = (step, answer) else {
+            (self.ledger, self.sound) = (None, false);
+            return Ok((answer, false));
+        };
+        // the ledger knows nothing of other setups and lengths
+        let lengths = (512 * self.setup.tables as usize, self.setup.tables as usize);
+        let known = call.setup() == Some(self.setup) && (*words, *places) == lengths;
+        let expected = self.ledger.as_mut().filter(|_| known).map(|ledger| ask(ledger, self.setup, call));
+        if expected.is_some_and(|expected| expected != answer) {
+            return Err(format!("plain answers {answer:x?}\nand the ledger {expected:x?}"));
+        }
+        if self.sound && known && answer.refusal == 8 {
+            return Err("plain gives 8 in a pool that its audit accepted".to_string());
+        }
+        if answer.refusal == 0 {
+            match *call {
+                Call::Format { levels, tables, .. } => (self.ledger, self.sound) = (Some(Ledger::new(levels, tables)), true),
+                Call::Map { .. } | Call::Unmap { .. } if !known => (self.ledger, self.sound) = (None, false),
+                Call::Audit { .. } if known => self.sound = true,
+                _ => {}
+            }
+            if matches!(call, Call::Format { .. } | Call::Map { .. } | Call::Unmap { .. }) {
+                self.setup = answer.setup();
+            }
+        }
+        Ok((Some(answer), expected.is_some()))
+    }
+}
+
+/// The ledger's answer to a call on a pool.
+fn ask(ledger: &mut Ledger, setup: Setup, call: &Call) -> Answer {
+    let refused = |refusal: Refusal| Answer::new(refusal.number(), &[]);
+    match *call {
+        Call::Map { address, frame, size, attributes, .. } => {
+            let result = ledger.map(address, frame, size, attributes);
+            with_setup(Setup { free: ledger.free(), ..setup }, result.map(|taken| [taken]))
+        }
+        Call::Unmap { address, .. } => {
+            let result = ledger.unmap(address);
+            with_setup(Setup { free: ledger.free(), ..setup }, result.map(|r| [r.frame, r.size, r.attributes, r.given]))
+        }
+        Call::Query { address, .. } => {
+            ledger.query(address).map_or_else(refused, |f| Answer::new(0, &[f.base, f.frame, f.size, f.attributes]))
+        }
+        Call::Audit { .. } => {
+            let counts = ledger.audit();
+            Answer::new(0, &[counts.tables, counts.mappings])
+        }
+        Call::Format { .. } | Call::FrameWord { .. } | Call::WordMeaning { .. } => unreachable!("these have no setup"),
+    }
+}

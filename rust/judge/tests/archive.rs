@@ -1,0 +1,175 @@
+//! The proved library on trial, through its C surface and through the safe crate.
+//!
+//! Each of the two judges a million calls. JUDGE_CALLS sets another number, and JUDGE_SEED another seed than 1.
+
+use std::env;
+
+use judge::{cases, lines, Answer, Call, Engine, Judge, Memory, Source};
+use oakabut::raw::{self, Mapped, Unmapped};
+use oakabut::{Audit, Mapping, Pool, Refusal, Setup};
+
+/// How many calls to judge, and from which seed.
+fn calls_and_seed() -> (u64, u64) {
+    let number = |name: &str, default: u64| match env::var(name) {
+        Ok(text) => text.parse().unwrap_or_else(|_| panic!("{name} is {text}, not a number")),
+        Err(_) => default,
+    };
+    (number("JUDGE_CALLS", 1_000_000), number("JUDGE_SEED", 1))
+}
+
+/// Judges the document's cases and then a stream of histories, all of whose answers must have been met.
+fn judge(engine: impl Engine, stream: u64) {
+    let (calls, seed) = calls_and_seed();
+    let mut judge = Judge::new(engine);
+    for step in cases() {
+        judge.step(&step).unwrap_or_else(|difference| panic!("in the document's cases, {difference}"));
+    }
+    let result = judge.run(&mut Source::new(seed.wrapping_mul(2).wrapping_add(stream)), calls);
+    result.unwrap_or_else(|difference| panic!("JUDGE_SEED={seed}, {difference}"));
+    println!("{}", judge.coverage);
+    let missing = judge.coverage.missing();
+    assert!(missing.is_empty(), "never met in {calls} calls: {missing:?}");
+}
+
+#[test]
+fn the_c_surface() {
+    judge(Raw, 0);
+}
+
+#[test]
+fn the_safe_crate() {
+    judge(Safe, 1);
+}
+
+/// The text form of a history says all that a replay needs.
+#[test]
+fn the_text_form() {
+    let mut text = Vec::new();
+    lines::write(&mut text, calls_and_seed().1, 5000).unwrap();
+    let mut memory = Memory::default();
+    let mut replayed = 0;
+    let mut end = None;
+    for line in String::from_utf8(text).unwrap().lines().filter(|line| !line.starts_with('#')) {
+        let line: Vec<u64> = line.split(' ').map(|number| u64::from_str_radix(number, 16).unwrap()).collect();
+        let setup = |at: usize| plain::Setup { levels: line[at], base: line[at + 1], tables: line[at + 2], free: line[at + 3] };
+        let call = match *line {
+            [0, words, places] => {
+                memory = Memory { words: vec![0; words as usize], list: vec![0; places as usize] };
+                None
+            }
+            [1, at, word] => {
+                memory.words[at as usize] = word;
+                None
+            }
+            [2, at, number] => {
+                memory.list[at as usize] = u32::try_from(number).unwrap();
+                None
+            }
+            [3, base, size, attributes, _] => Some((Call::FrameWord { base, size, attributes }, 4)),
+            [4, word, size, _] => Some((Call::WordMeaning { word, size }, 3)),
+            [5, _, _, levels, base, tables, ..] => Some((Call::Format { levels, base, tables }, 6)),
+            [6, _, _, _, _, _, _, address, frame, size, attributes, ..] => {
+                Some((Call::Map { setup: setup(3), address, frame, size, attributes }, 11))
+            }
+            [7, _, _, _, _, _, _, address, ..] => Some((Call::Unmap { setup: setup(3), address }, 8)),
+            [8, _, _, _, _, _, _, address, ..] => Some((Call::Query { setup: setup(3), address }, 8)),
+            [9, _, _, _, _, _, _, ..] => Some((Call::Audit { setup: setup(3) }, 7)),
+            [10, count] => {
+                end = Some(count);
+                continue;
+            }
+            _ => panic!("{line:x?}"),
+        };
+        replayed += 1;
+        let Some((call, answers_from)) = call else { continue };
+        let (words, places) = if line[0] < 5 { (0, 0) } else { (line[1] as usize, line[2] as usize) };
+        let answer = Raw.call(&call, &mut memory.words[..words], &mut memory.list[..places]);
+        let mut expected = answer.numbers[..call.width()].to_vec();
+        if line[0] >= 5 {
+            expected.insert(0, answer.refusal);
+            expected.push(lines::sum(&memory));
+        }
+        assert_eq!(line[answers_from..], expected, "{line:x?}");
+    }
+    assert_eq!(end, Some(replayed));
+}
+
+fn to_theirs(setup: plain::Setup) -> Setup {
+    Setup { levels: setup.levels, base: setup.base, tables: setup.tables, free: setup.free }
+}
+
+/// The library as C sees it. Before each call the answer's room is full of junk, all of which must be overwritten.
+struct Raw;
+
+const JUNK: u64 = 0xDEAD_BEEF_DEAD_BEEF;
+
+impl Engine for Raw {
+    fn call(&mut self, call: &Call, words: &mut [u64], list: &mut [u32]) -> Answer {
+        let setup = to_theirs(call.setup().unwrap_or_default());
+        let (w, wl, l, ll) = (words.as_mut_ptr(), words.len(), list.as_mut_ptr(), list.len());
+        let junk = Setup { levels: JUNK, base: JUNK, tables: JUNK, free: JUNK };
+        // SAFETY: the pointers and lengths are those of the two slices, which nothing else uses.
+        unsafe {
+            match *call {
+                Call::FrameWord { base, size, attributes } => Answer::of_host(raw::oak_frame_word(base, size, attributes)),
+                Call::WordMeaning { word, size } => Answer::of_host(raw::oak_word_meaning(word, size)),
+                Call::Format { levels, base, tables } => {
+                    let mut a = junk;
+                    let refusal = raw::oak_format(levels, base, tables, w, wl, l, ll, &mut a);
+                    Answer::new(refusal, &[a.levels, a.base, a.tables, a.free])
+                }
+                Call::Map { address, frame, size, attributes, .. } => {
+                    let mut a = Mapped { setup: junk, taken: JUNK };
+                    let refusal = raw::oak_map(&setup, w, wl, l, ll, address, frame, size, attributes, &mut a);
+                    Answer::new(refusal, &[a.setup.levels, a.setup.base, a.setup.tables, a.setup.free, a.taken])
+                }
+                Call::Unmap { address, .. } => {
+                    let mut a = Unmapped { setup: junk, frame: JUNK, size: JUNK, attributes: JUNK, given: JUNK };
+                    let refusal = raw::oak_unmap(&setup, w, wl, l, ll, address, &mut a);
+                    let s = a.setup;
+                    Answer::new(refusal, &[s.levels, s.base, s.tables, s.free, a.frame, a.size, a.attributes, a.given])
+                }
+                Call::Query { address, .. } => {
+                    let mut a = Mapping { base: JUNK, frame: JUNK, size: JUNK, attributes: JUNK };
+                    let refusal = raw::oak_query(&setup, w, wl, l, ll, address, &mut a);
+                    Answer::new(refusal, &[a.base, a.frame, a.size, a.attributes])
+                }
+                Call::Audit { .. } => {
+                    let mut a = Audit { tables: JUNK, mappings: JUNK };
+                    let refusal = raw::oak_audit(&setup, w, wl, l, ll, &mut a);
+                    Answer::new(refusal, &[a.tables, a.mappings])
+                }
+            }
+        }
+    }
+}
+
+/// The library as a Rust program sees it.
+struct Safe;
+
+impl Engine for Safe {
+    fn call(&mut self, call: &Call, words: &mut [u64], list: &mut [u32]) -> Answer {
+        let mut pool = Pool::resume(to_theirs(call.setup().unwrap_or_default()), words, list);
+        let (result, hands_back): (Result<Vec<u64>, Refusal>, bool) = match *call {
+            Call::FrameWord { base, size, attributes } => {
+                return Answer::of_host(oakabut::frame_word(base, size, attributes).unwrap_or_else(Refusal::number));
+            }
+            Call::WordMeaning { word, size } => {
+                let meaning = oakabut::word_meaning(word, size).map(|(base, attributes)| base + 16 + attributes);
+                return Answer::of_host(meaning.unwrap_or_else(Refusal::number));
+            }
+            Call::Format { levels, base, tables } => (pool.reformat(levels, base, tables).map(|()| vec![]), true),
+            Call::Map { address, frame, size, attributes, .. } => {
+                (pool.map(address, frame, size, attributes).map(|taken| vec![taken]), true)
+            }
+            Call::Unmap { address, .. } => (pool.unmap(address).map(|r| vec![r.frame, r.size, r.attributes, r.given]), true),
+            Call::Query { address, .. } => (pool.query(address).map(|m| vec![m.base, m.frame, m.size, m.attributes]), false),
+            Call::Audit { .. } => (pool.audit().map(|a| vec![a.tables, a.mappings]), false),
+        };
+        let setup = pool.setup();
+        let mut numbers = if hands_back { vec![setup.levels, setup.base, setup.tables, setup.free] } else { vec![] };
+        let refusal = result.as_ref().err().map_or(0, |refusal| refusal.number());
+        numbers.extend(result.unwrap_or_default());
+        Answer::new(refusal, &numbers)
+    }
+}

@@ -1,0 +1,144 @@
+//! A stage 2 page table for Arm (VMSAv8-64, 4 KiB granule), proved.
+//!
+//! This crate is a thin safe layer over `liboakabut.a`, which is written in Rattle and proved: for every input each call keeps
+//! its contract, stays within the lent memory and ends. What is added here is only names and types.
+//!
+//! ```
+//! use oakabut::{Mapping, Pool, Refusal, BLOCK_2M, EXECUTE, PAGE, READ, WRITE};
+//!
+//! // four tables at 0x40000000, three levels: a space of 2^39 bytes
+//! let mut words = [0u64; 4 * 512];
+//! let mut list = [0u32; 4];
+//! let mut pool = Pool::format(3, 0x4000_0000, 4, &mut words, &mut list)?;
+//!
+//! // the first page needs two tables below the root, its neighbours none
+//! assert_eq!(pool.map(0, 0x8000_0000, PAGE, READ + WRITE)?, 2);
+//! assert_eq!(pool.map(0x1000, 0x8000_1000, PAGE, READ + EXECUTE)?, 0);
+//! assert_eq!(pool.map(0x20_0000, 0x8020_0000, BLOCK_2M, READ + WRITE)?, 0);
+//!
+//! let mapping = pool.query(0x20_1234)?;
+//! assert_eq!(mapping, Mapping { base: 0x20_0000, frame: 0x8020_0000, size: BLOCK_2M, attributes: READ + WRITE });
+//!
+//! // a refusal has a number and changes nothing
+//! let refusal = pool.map(0x4000_0000, 0x8000_0000, PAGE, READ).unwrap_err();
+//! assert_eq!(refusal, Refusal::NO_TABLES);
+//! assert_eq!(refusal.to_string(), "refusal 7, map: the new tables needed are more than the free ones");
+//!
+//! // the table of the two pages is given back with the second of them
+//! assert_eq!(pool.unmap(0)?.given, 0);
+//! assert_eq!(pool.unmap(0x1000)?.given, 1);
+//! assert_eq!(pool.audit()?.mappings, 1);
+//! # Ok::<(), Refusal>(())
+//! ```
+//!
+//! The upkeep of the TLB and the caches, locking and the allocation of frames are the caller's.
+
+#![no_std]
+#![deny(missing_docs)]
+
+extern crate alloc;
+
+mod pool;
+pub mod raw;
+mod refusal;
+
+pub use pool::Pool;
+pub use refusal::Refusal;
+
+/// The size of a page, 4 KiB.
+pub const PAGE: u64 = 1 << 12;
+/// The size of a block of 2 MiB.
+pub const BLOCK_2M: u64 = 1 << 21;
+/// The size of a block of 1 GiB.
+pub const BLOCK_1G: u64 = 1 << 30;
+
+/// The guest may read.
+pub const READ: u64 = 1;
+/// The guest may write.
+pub const WRITE: u64 = 2;
+/// The guest may execute.
+pub const EXECUTE: u64 = 4;
+/// Device memory; normal memory without it.
+pub const DEVICE: u64 = 8;
+
+/// A pool has at most this many tables.
+pub const MAX_TABLES: u64 = 64;
+
+/// The setup numbers of a pool.
+#[repr(C)]
+#[derive(Clone, Copy, Debug, Default, PartialEq, Eq, Hash)]
+pub struct Setup {
+    /// 3 or 4 levels: a space of 2^39 or 2^48 bytes.
+    pub levels: u64,
+    /// The address of table 0; table t stands at base + 4096 × t.
+    pub base: u64,
+    /// The number of tables, 1 to 64.
+    pub tables: u64,
+    /// How many tables are free: so many first places of the list count.
+    pub free: u64,
+}
+
+/// A mapping, as [`Pool::query`] answers it.
+#[repr(C)]
+#[derive(Clone, Copy, Debug, PartialEq, Eq, Hash)]
+pub struct Mapping {
+    /// The first address of the mapping.
+    pub base: u64,
+    /// The base of the frame that it maps to.
+    pub frame: u64,
+    /// Its size in bytes.
+    pub size: u64,
+    /// Its attributes.
+    pub attributes: u64,
+}
+
+/// What [`Pool::unmap`] removed.
+#[derive(Clone, Copy, Debug, PartialEq, Eq, Hash)]
+pub struct Removed {
+    /// The base of the frame.
+    pub frame: u64,
+    /// The size of the frame in bytes.
+    pub size: u64,
+    /// The attributes of the frame.
+    pub attributes: u64,
+    /// The number of tables given back to the free list.
+    pub given: u64,
+}
+
+/// What [`Pool::audit`] counts.
+#[repr(C)]
+#[derive(Clone, Copy, Debug, PartialEq, Eq, Hash)]
+pub struct Audit {
+    /// The tables reached from the root, the root among them.
+    pub tables: u64,
+    /// The mappings.
+    pub mappings: u64,
+}
+
+/// The entry word of a frame.
+///
+/// It is refused in the order [`SIZE`](Refusal::SIZE), [`ATTRIBUTES`](Refusal::ATTRIBUTES), [`RANGE`](Refusal::RANGE),
+/// [`ALIGNMENT`](Refusal::ALIGNMENT).
+///
+/// ```
+/// assert_eq!(oakabut::frame_word(0x8000_0000, oakabut::PAGE, 3), Ok(0x0040_0000_8000_07FF));
+/// ```
+pub fn frame_word(base: u64, size: u64, attributes: u64) -> Result<u64, Refusal> {
+    // SAFETY: the call takes and gives numbers.
+    let word = unsafe { raw::oak_frame_word(base, size, attributes) };
+    Refusal::or(if word < 16 { word } else { 0 }, word)
+}
+
+/// The base and the attributes of the frame of this size that a word stands for.
+///
+/// A word that is no frame of this size is [`DAMAGED`](Refusal::DAMAGED), and another size [`SIZE`](Refusal::SIZE).
+///
+/// ```
+/// assert_eq!(oakabut::word_meaning(0x0040_0000_8000_07FF, oakabut::PAGE), Ok((0x8000_0000, 3)));
+/// ```
+pub fn word_meaning(word: u64, size: u64) -> Result<(u64, u64), Refusal> {
+    // SAFETY: the call takes and gives numbers.
+    let meaning = unsafe { raw::oak_word_meaning(word, size) };
+    // a meaning is base + 16 + attributes, with a base that is a multiple of 4096
+    Refusal::or(if meaning < 16 { meaning } else { 0 }, (meaning & !4095, meaning & 15))
+}

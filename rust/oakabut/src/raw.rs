@@ -1,0 +1,85 @@
+//! The C surface of the proved library, as its header has it.
+//!
+//! Each function returns 0 or the number of a refusal, and always writes the whole answer: on a refusal zeros, but for the
+//! setup that map and unmap hand back unchanged. Lengths count elements. The safe calls of [`Pool`](crate::Pool) and of this
+//! crate are made of these.
+
+use crate::{Audit, Mapping, Setup};
+
+/// What `oak_map` answers.
+#[repr(C)]
+#[derive(Clone, Copy, Debug, PartialEq, Eq)]
+pub struct Mapped {
+    /// The setup with its new free count.
+    pub setup: Setup,
+    /// The number of tables taken.
+    pub taken: u64,
+}
+
+/// What `oak_unmap` answers.
+#[repr(C)]
+#[derive(Clone, Copy, Debug, PartialEq, Eq)]
+pub struct Unmapped {
+    /// The setup with its new free count.
+    pub setup: Setup,
+    /// The base of the frame removed.
+    pub frame: u64,
+    /// The size of the frame removed.
+    pub size: u64,
+    /// The attributes of the frame removed.
+    pub attributes: u64,
+    /// The number of tables given back.
+    pub given: u64,
+}
+
+extern "C" {
+    /// The entry word of a frame, or the number of a refusal, which is below 16.
+    pub fn oak_frame_word(base: u64, size: u64, attributes: u64) -> u64;
+
+    /// base + 16 + attributes of the frame that a word stands for, or the number of a refusal, which is below 16.
+    pub fn oak_word_meaning(word: u64, size: u64) -> u64;
+
+    /// Sets up an empty pool.
+    ///
+    /// # Safety
+    /// `words` and `list` point to that many elements, which nothing else uses during the call, and `answer` to room for one.
+    pub fn oak_format(
+        levels: u64, base: u64, tables: u64, words: *mut u64, words_len: usize, list: *mut u32, list_len: usize,
+        answer: *mut Setup,
+    ) -> u64;
+
+    /// Maps a frame at an address.
+    ///
+    /// # Safety
+    /// As for [`oak_format`]; the list is only read.
+    pub fn oak_map(
+        setup: *const Setup, words: *mut u64, words_len: usize, list: *const u32, list_len: usize, address: u64, frame: u64,
+        size: u64, attributes: u64, answer: *mut Mapped,
+    ) -> u64;
+
+    /// Removes the mapping that starts at an address.
+    ///
+    /// # Safety
+    /// As for [`oak_format`].
+    pub fn oak_unmap(
+        setup: *const Setup, words: *mut u64, words_len: usize, list: *mut u32, list_len: usize, address: u64,
+        answer: *mut Unmapped,
+    ) -> u64;
+
+    /// Finds the mapping that holds an address.
+    ///
+    /// # Safety
+    /// As for [`oak_format`]; the words and the list are only read.
+    pub fn oak_query(
+        setup: *const Setup, words: *const u64, words_len: usize, list: *const u32, list_len: usize, address: u64,
+        answer: *mut Mapping,
+    ) -> u64;
+
+    /// Tests a whole pool.
+    ///
+    /// # Safety
+    /// As for [`oak_format`]; the words and the list are only read.
+    pub fn oak_audit(
+        setup: *const Setup, words: *const u64, words_len: usize, list: *const u32, list_len: usize, answer: *mut Audit,
+    ) -> u64;
+}

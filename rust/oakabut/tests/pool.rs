@@ -1,0 +1,105 @@
+//! The safe crate: the document's cases through a pool with lent and with owned memory, and what the crate adds of its own.
+
+use oakabut::*;
+
+const P: u64 = 0x4000_0000;
+const F: u64 = 0x8000_0000;
+
+fn the_eleven_cases(mut pool: Pool) -> Result<(), Refusal> {
+    // 1
+    assert_eq!(pool.setup(), Setup { levels: 3, base: P, tables: 4, free: 3 });
+    assert_eq!(pool.list(), [3, 2, 1, 0]);
+    // 2
+    assert_eq!(pool.map(0, F, PAGE, 3)?, 2);
+    assert_eq!(pool.setup().free, 1);
+    assert_eq!([pool.words()[0], pool.words()[512], pool.words()[1024]], [0x4000_1003, 0x4000_2003, 0x0040_0000_8000_07FF]);
+    // 3
+    assert_eq!(pool.map(0x1000, 0x8000_1000, PAGE, 5)?, 0);
+    assert_eq!(pool.words()[1025], 0x8000_177F);
+    // 4
+    assert_eq!(pool.map(0x20_0000, 0x8020_0000, BLOCK_2M, 3)?, 0);
+    assert_eq!(pool.words()[513], 0x0040_0000_8020_07FD);
+    assert_eq!(pool.audit()?, Audit { tables: 3, mappings: 3 });
+    // 5
+    assert_eq!(pool.map(0x20_1000, F, PAGE, 3), Err(Refusal::IN_USE));
+    assert_eq!(pool.map(0, F, BLOCK_2M, 3), Err(Refusal::IN_USE));
+    // 6
+    assert_eq!(pool.map(0x4000_0000, F, PAGE, 3), Err(Refusal::NO_TABLES));
+    // 7
+    assert_eq!(pool.query(0x20_1234)?, Mapping { base: 0x20_0000, frame: 0x8020_0000, size: BLOCK_2M, attributes: 3 });
+    // 8
+    assert_eq!(pool.unmap(0x20_1000), Err(Refusal::NOT_THE_START));
+    assert_eq!(pool.unmap(0x3000), Err(Refusal::EMPTY));
+    // 9
+    assert_eq!(pool.unmap(0)?, Removed { frame: F, size: PAGE, attributes: 3, given: 0 });
+    assert_eq!(pool.unmap(0x1000)?, Removed { frame: 0x8000_1000, size: PAGE, attributes: 5, given: 1 });
+    assert_eq!((pool.list()[1], pool.setup().free), (2, 2));
+    // 10
+    assert_eq!(pool.unmap(0x20_0000)?, Removed { frame: 0x8020_0000, size: BLOCK_2M, attributes: 3, given: 1 });
+    assert_eq!((pool.list()[2], pool.setup().free), (1, 3));
+    assert!(pool.words().iter().all(|&word| word == 0));
+    // 11
+    assert_eq!(pool.map(0x7F_FFFF_F000, F, PAGE, 3)?, 2);
+    assert_eq!(pool.setup().free, 1);
+    assert_eq!(pool.map(0x80_0000_0000, F, PAGE, 3), Err(Refusal::RANGE));
+    Ok(())
+}
+
+#[test]
+fn owned_memory() {
+    the_eleven_cases(Pool::owned(3, P, 4).unwrap()).unwrap();
+    for tables in [0, 65, 1 << 40, u64::MAX] {
+        assert_eq!(Pool::owned(3, P, tables).unwrap_err(), Refusal::SETUP);
+    }
+}
+
+#[test]
+fn lent_memory() {
+    let (mut words, mut list) = ([7; 512 * 4], [7; 4]);
+    for tables in [3, 5] {
+        assert_eq!(Pool::format(3, P, tables, &mut words, &mut list).unwrap_err(), Refusal::SETUP);
+        assert!(words == [7; 512 * 4] && list == [7; 4]);
+    }
+    the_eleven_cases(Pool::format(3, P, 4, &mut words, &mut list).unwrap()).unwrap();
+    assert_eq!(words[511], P + 4096 + 3);
+}
+
+#[test]
+fn a_pool_goes_on_from_its_parts() {
+    let (mut words, mut list) = ([0; 512 * 4], [0; 4]);
+    let mut pool = Pool::format(4, P, 4, &mut words, &mut list).unwrap();
+    assert_eq!(pool.map(0, F + PAGE, BLOCK_1G, DEVICE + READ), Err(Refusal::ALIGNMENT));
+    assert_eq!(pool.map(0, F, BLOCK_2M, DEVICE + READ), Ok(2));
+    let setup = pool.setup();
+    let mut pool = Pool::resume(setup, &mut words, &mut list);
+    assert_eq!(pool.audit(), Ok(Audit { tables: 3, mappings: 1 }));
+    // a refused format leaves the pool as it was, an accepted one empties it
+    assert_eq!(pool.reformat(5, P, 4), Err(Refusal::SETUP));
+    assert_eq!((pool.setup(), pool.audit().unwrap().mappings), (setup, 1));
+    pool.reformat(3, 0, 4).unwrap();
+    assert_eq!((pool.setup(), pool.audit().unwrap().mappings), (Setup { levels: 3, base: 0, tables: 4, free: 3 }, 0));
+}
+
+#[test]
+fn the_hosts_two_calls() {
+    for size in [PAGE, BLOCK_2M, BLOCK_1G] {
+        for attributes in 0..16 {
+            let word = frame_word(3 * BLOCK_1G, size, attributes).unwrap();
+            assert_eq!(word_meaning(word, size), Ok((3 * BLOCK_1G, attributes)));
+            assert_eq!(word_meaning(word ^ 1, size), Err(Refusal::DAMAGED));
+        }
+    }
+    assert_eq!(frame_word(0, PAGE, DEVICE + READ + WRITE).unwrap() % 4096, 0x4C7);
+    assert_eq!(frame_word(1, 1, 16), Err(Refusal::SIZE));
+    assert_eq!(frame_word(1 << 48, PAGE, 16), Err(Refusal::ATTRIBUTES));
+    assert_eq!(frame_word((1 << 48) + 1, PAGE, 15), Err(Refusal::RANGE));
+    assert_eq!(frame_word(1, PAGE, 15), Err(Refusal::ALIGNMENT));
+    assert_eq!(word_meaning(0, 0), Err(Refusal::SIZE));
+}
+
+#[test]
+fn refusals_say_their_number_and_why() {
+    let refusal: Box<dyn std::error::Error> = Box::new(Pool::owned(5, P, 4).unwrap_err());
+    assert_eq!(refusal.to_string(), "refusal 1, a setup number or a length breaks the rules");
+    assert_eq!(Refusal::NOT_THE_START.number(), 10);
+}

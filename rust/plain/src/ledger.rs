@@ -1,0 +1,125 @@
+//! The plainest oracle: it keeps nothing but the list of live mappings.
+//!
+//! It has no words, no tables and no free list, and counts the tables that mappings need from their addresses alone. It
+//! answers what a pool must answer on any history of calls from a fresh format, with good lengths and the setup handed on.
+
+use crate::{Counts, Found, Refusal, Removed};
+
+/// A live mapping.
+#[derive(Clone, Copy, Debug, PartialEq, Eq)]
+pub struct Mapping {
+    pub address: u64,
+    pub frame: u64,
+    pub size: u64,
+    pub attributes: u64,
+}
+
+/// The live mappings of a pool, in the order in which they came.
+#[derive(Clone, Debug)]
+pub struct Ledger {
+    levels: u64,
+    tables: u64,
+    mappings: Vec<Mapping>,
+}
+
+impl Ledger {
+    /// The ledger of a freshly formatted pool.
+    pub fn new(levels: u64, tables: u64) -> Ledger {
+        Ledger { levels, tables, mappings: Vec::new() }
+    }
+
+    pub fn mappings(&self) -> &[Mapping] {
+        &self.mappings
+    }
+
+    /// The number of free tables: all but the root and the needed ones.
+    pub fn free(&self) -> u64 {
+        self.tables - 1 - self.needed(&self.mappings)
+    }
+
+    /// Answers the number of tables taken.
+    pub fn map(&mut self, address: u64, frame: u64, size: u64, attributes: u64) -> Result<u64, Refusal> {
+        let end = |base: u64| u128::from(base) + u128::from(size);
+        if size != 0x1000 && size != 0x20_0000 && size != 0x4000_0000 {
+            return Err(Refusal::Size);
+        }
+        if attributes > 15 {
+            return Err(Refusal::Attributes);
+        }
+        if end(address) > self.space() || end(frame) > 1 << 48 {
+            return Err(Refusal::Range);
+        }
+        if address % size != 0 || frame % size != 0 {
+            return Err(Refusal::Alignment);
+        }
+        if self.mappings.iter().any(|m| m.address < address + size && address < m.address + m.size) {
+            return Err(Refusal::InUse);
+        }
+        let mut mappings = self.mappings.clone();
+        mappings.push(Mapping { address, frame, size, attributes });
+        let taken = self.needed(&mappings) - self.needed(&self.mappings);
+        if taken > self.free() {
+            return Err(Refusal::NoTables);
+        }
+        self.mappings = mappings;
+        Ok(taken)
+    }
+
+    pub fn unmap(&mut self, address: u64) -> Result<Removed, Refusal> {
+        if u128::from(address) >= self.space() {
+            return Err(Refusal::Range);
+        }
+        if address % 4096 != 0 {
+            return Err(Refusal::Alignment);
+        }
+        let at = self.holder(address).ok_or(Refusal::Empty)?;
+        if self.mappings[at].address != address {
+            return Err(Refusal::NotTheStart);
+        }
+        let before = self.needed(&self.mappings);
+        let Mapping { frame, size, attributes, .. } = self.mappings.remove(at);
+        Ok(Removed { frame, size, attributes, given: before - self.needed(&self.mappings) })
+    }
+
+    pub fn query(&self, address: u64) -> Result<Found, Refusal> {
+        if u128::from(address) >= self.space() {
+            return Err(Refusal::Range);
+        }
+        let Mapping { address: base, frame, size, attributes } = self.mappings[self.holder(address).ok_or(Refusal::Empty)?];
+        Ok(Found { base, frame, size, attributes })
+    }
+
+    /// A pool with a history is always accepted.
+    pub fn audit(&self) -> Counts {
+        Counts { tables: 1 + self.needed(&self.mappings), mappings: self.mappings.len() as u64 }
+    }
+
+    fn space(&self) -> u128 {
+        if self.levels == 3 {
+            1 << 39
+        } else {
+            1 << 48
+        }
+    }
+
+    /// The number of the mapping that holds an address.
+    fn holder(&self, address: u64) -> Option<usize> {
+        self.mappings.iter().position(|m| m.address <= address && address - m.address < m.size)
+    }
+
+    /// The number of tables below the root that mappings need: one for each region larger than a mapping that holds it.
+    fn needed(&self, mappings: &[Mapping]) -> u64 {
+        let sizes: &[u64] = if self.levels == 3 { &[1 << 30, 1 << 21] } else { &[1 << 39, 1 << 30, 1 << 21] };
+        let mut regions = Vec::new();
+        for mapping in mappings {
+            for &size in sizes {
+                if size > mapping.size {
+                    regions.push((size, mapping.address / size));
+                }
+            }
+        }
+        regions.sort_unstable();
+        regions.dedup();
+        regions.len() as u64
+    }
+}
