@@ -13,3 +13,4 @@ pub mod Others
 pub mod Demand3
 pub mod Rest
 pub mod Theorem
+pub mod Clauses

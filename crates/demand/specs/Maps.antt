@@ -137,7 +137,7 @@ module _ (G : Granule) (Z : Sane G) {p : Pool} {B : Ledger} (I : Sim G Z p B) wh
     page-is : page (entries G) g r ≡ v
     page-is = sym (page-of G Z g r) ∙ ap (pg G Z) start-is
 
-    region-is : anc (entries G) g v ≡ r
+    pub region-is : anc (entries G) g v ≡ r
     region-is = anc-size G Z a g
 
     framed : Framed G g b k
@@ -149,13 +149,13 @@ module _ (G : Granule) (Z : Sane G) {p : Pool} {B : Ledger} (I : Sim G Z p B) wh
     attrs-back : attrsOf x ≡ k
     attrs-back = payload-attrs G Z (P G Z I) (n G Z I) (p .numbers .levels) (al G Z I) b k (framed-paged Z framed) (F .some-attributes)
 
-    good-frame : Framed G g (baseOf x) (attrsOf x)
+    pub good-frame : Framed G g (baseOf x) (attrsOf x)
     good-frame = rw (base-back, attrs-back) framed
 
-    new-shown : shown G Z (mapping g r x) ≡ answers.mapping a b size k
+    pub new-shown : shown G Z (mapping g r x) ≡ answers.mapping a b size k
     new-shown = let p₁ = start-is in let p₂ = base-back in let p₃ = size-is in let p₄ = attrs-back in λ i. answers.mapping (p₁ i) (p₂ i) (p₃ i) (p₄ i)
 
-    low : g ≤ k₀ G Z I
+    pub low : g ≤ k₀ G Z I
     low = omega (arith, F .sized, Z .large-below, I .good .numbers .enough, root-at G Z I)
 
     overlap-is : anyOverlap a size (map (shown G Z) (I .L)) ≡ anyOverlap (r * sizeAt G g) (sizeAt G g) (map (shown G Z) (I .L))
@@ -197,22 +197,23 @@ module _ (G : Granule) (Z : Sane G) {p : Pool} {B : Ledger} (I : Sim G Z p B) wh
       need-is : tablesLacking G (p .numbers .levels) (map (shown G Z) (I .L)) (answers.mapping a b size k) ≡ s - g
       need-is = lacking ∙ lack-is (I .inv) g v s (E .ends .parent) vacant (E .ends .target low) (k₀ G Z I) (omega (arith, root-at G Z I)) ∙ omega (arith, E .ends .low)
 
-      s-low : s < 4
+      pub s-low : s < 4
       s-low = omega (arith, E .ends .low, root-at G Z I, few G Z I)
 
       module _ (room : s - g ≤ f) where
         abbrev t : ℕ
         t = atHeight (o .tables) s
 
-        t-is : t ≡ I .T (suc s) (anc (entries G) (suc s) v)
+        pub t-is : t ≡ I .T (suc s) (anc (entries G) (suc s) v)
         t-is = ap (λ (j : ℕ). getD (o .tables) j 0) (omega arith) ∙ E .ends .path-is (suc s) (omega arith) (omega (arith, E .ends .low, root-at G Z I))
 
         -- what growing comes to
         abbrev grown : Mem (A G Z (P G Z I) (n G Z I) (p .numbers .levels) (al G Z I))
         grown = grow (X G Z I) (A G Z (P G Z I) (n G Z I) (p .numbers .levels) (al G Z I)) (placeAt (p .list)) g v x s (p .words) t f
 
-        M : Mapped (X G Z I) (A G Z (P G Z I) (n G Z I) (p .numbers .levels) (al G Z I)) (placeAt (p .list)) g v x (I .L) f (s - g) grown
-        M = grow-ok (X G Z I) (A G Z (P G Z I) (n G Z I) (p .numbers .levels) (al G Z I)) (placeAt (p .list)) g v x s (record {
+        -- where growing starts
+        unfoldable pub ready : Ready (X G Z I) (A G Z (P G Z I) (n G Z I) (p .numbers .levels) (al G Z I)) (placeAt (p .list)) g v x (I .L) s
+        ready = record {
           m = p .words;
           t = t;
           f = f;
@@ -226,9 +227,13 @@ module _ (G : Granule) (Z : Sane G) {p : Pool} {B : Ledger} (I : Sim G Z p B) wh
           above = E .ends .target low;
           room = room;
           good = good-frame;
-        })
+        }
 
-        carried : performAll G (mapWrites G (P G Z I) (pathOf G a) (p .list) g (frameWord b g k) t f (s - g)) (memory (p .words) (p .list)) ≡ memory (grown .m) (p .list)
+        M : Mapped (X G Z I) (A G Z (P G Z I) (n G Z I) (p .numbers .levels) (al G Z I)) (placeAt (p .list)) g v x (I .L) f (s - g) grown
+        unfolding ready
+        M = grow-ok (X G Z I) (A G Z (P G Z I) (n G Z I) (p .numbers .levels) (al G Z I)) (placeAt (p .list)) g v x s ready
+
+        pub carried : performAll G (mapWrites G (P G Z I) (pathOf G a) (p .list) g (frameWord b g k) t f (s - g)) (memory (p .words) (p .list)) ≡ memory (grown .m) (p .list)
         carried = ap (λ (w : ℕ). performAll G (mapWrites G (P G Z I) (pathOf G a) (p .list) g w t f (s - g)) (memory (p .words) (p .list)))
             (ap (λ (z : ℕ). frameWord z g k) (sym base-back) ∙ ap (frameWord (baseOf x) g) (sym attrs-back))
             ∙ map-carried G Z (P G Z I) (n G Z I) (p .numbers .levels) (al G Z I) v (pathOf G a) (spot G Z (P G Z I) (n G Z I) (p .numbers .levels) (al G Z I) (few G Z I) (p .words) (R G Z I) a) (p .list) g x (s - g) s (omega (arith, E .ends .target low)) s-low (p .words) (p .list) t f

@@ -12,7 +12,6 @@ use lib.Seq.{getD-set-same, getD-set-other}
 use Rattle.laws.specs.Lists.{zeroed}
 use Rattle.laws.specs.ListLaws.{length-zeroed, getD-zeroed, getD-zeroed-before, getD-zeroed-after}
 use Rattle.path.specs.Geometry.{Granule, pageSize, entries, Sane}
-
 use Rattle.model.specs.Walk.{slot}
 use Rattle.tree.specs.Region.{Same, same?, upd, upd-at, upd-other, put1, put1-at, put1-other}
 use Rattle.tree.specs.Tree.{Geo}

@@ -44,7 +44,7 @@ module _ (G : Granule) (Z : Sane G) where
         go false e = record { answer = refl; sim = own-sim G Z I }
 
     -- unmap's tests say that the address is in the space
-    in-space : (a : ℕ) → unmapTests G (p .numbers .levels) a ≡ 0 → a < spaceOf G (p .numbers .levels)
+    pub in-space : (a : ℕ) → unmapTests G (p .numbers .levels) a ≡ 0 → a < spaceOf G (p .numbers .levels)
     unfolding unmapTests
     in-space a e = go (leb (spaceOf G (p .numbers .levels)) a) refl e
       where

@@ -76,14 +76,14 @@ module _ (G : Granule) (Z : Sane G) {p : Pool} {B : Ledger} (I : Sim G Z p B) (a
   abbrev way : ℕ → ℕ
   way = wayAt (o .tables)
 
-  low : h < top
+  pub low : h < top
   low = omega (arith, E .ends .low, root-at G Z I)
 
   -- the tables on the way
-  way-is : (j : ℕ) → h < j → j ≤ top → way j ≡ I .T j (anc (entries G) j v)
+  pub way-is : (j : ℕ) → h < j → j ≤ top → way j ≡ I .T j (anc (entries G) j v)
   way-is j l m = E .ends .path-is j l m
 
-  way-in : (j : ℕ) → h < j → j ≤ top → way j < n G Z I
+  pub way-in : (j : ℕ) → h < j → j ≤ top → way j < n G Z I
   way-in j l m = subst (λ (t : ℕ). t < n G Z I) (sym (way-is j l m)) (R G Z I .range j (anc (entries G) j v) (tables-above G Z I 0 a o E j l m))
 
   way-apart : (i j : ℕ) → h < i → i < j → j ≤ top → way i ≢ way j
@@ -103,17 +103,17 @@ module _ (G : Granule) (Z : Sane G) {p : Pool} {B : Ledger} (I : Sim G Z p B) (a
         let w : m.h ≡ h = covers-at (R G Z I) (I .inv .holds) (E .ends) m c u in
         (w, sym u ∙ ap (λ (j : ℕ). anc (entries G) j v) w)
 
-    dropped : dropAt a (map (shown G Z) (I .L)) ≡ map (shown G Z) (without h r (I .L))
+    pub dropped : dropAt a (map (shown G Z) (I .L)) ≡ map (shown G Z) (without h r (I .L))
     dropped = ap (λ (w : ℕ). dropAt w (map (shown G Z) (I .L))) (sym start-is) ∙ drop-without G Z h r (I .L) only
 
     -- the frame's word cleared
     abbrev words₁ : List ℕ
     words₁ = set (p .words) (slot G (way (suc h)) (r % entries G)) 0
 
-    at-up : I .T (suc h) (r / entries G) ≡ way (suc h)
+    pub at-up : I .T (suc h) (r / entries G) ≡ way (suc h)
     at-up = sym (way-is (suc h) (omega arith) low)
 
-    loose : Loose (X G Z I) (A G Z (P G Z I) (n G Z I) top (al G Z I)) v way (without h r (I .L)) (k₀ G Z I - h) (suc h)
+    unfoldable pub loose : Loose (X G Z I) (A G Z (P G Z I) (n G Z I) top (al G Z I)) v way (without h r (I .L)) (k₀ G Z I - h) (suc h)
     loose = record {
       m = words₁;
       q = p .list;
@@ -143,7 +143,7 @@ module _ (G : Granule) (Z : Sane G) {p : Pool} {B : Ledger} (I : Sim G Z p B) (a
     abbrev memory₁ : Memory
     memory₁ = performAll G (unmapWrites G (o .tables) (pathOf G a) h f given) (memory (p .words) (p .list))
 
-    carried : prunes.pool {A = A G Z (P G Z I) (n G Z I) top (al G Z I)} (memory₁ .words) (memory₁ .list) (f + given) ≡ pruned
+    pub carried : prunes.pool {A = A G Z (P G Z I) (n G Z I) top (al G Z I)} (memory₁ .words) (memory₁ .list) (f + given) ≡ pruned
     unfolding performAll
     carried =
         ap (λ (m : List ℕ). prunes.pool {A = A G Z (P G Z I) (n G Z I) top (al G Z I)} (performAll G (pruneWrites G (o .tables) (pathOf G a) h f given) (memory m (p .list)) .words) (performAll G (pruneWrites G (o .tables) (pathOf G a) h f given) (memory m (p .list)) .list) (f + given)) first

@@ -13,7 +13,6 @@ use borrow.Author.Tests.{leb-true, leb-false}
 use Rattle.laws.specs.Lists.{among}
 use Rattle.laws.specs.ListLaws.{among-mem, mem-at}
 use Rattle.path.specs.Geometry.{Granule, pageSize, entries, sizeAt, Sane}
-
 use Rattle.path.specs.Paths.{indexAt, pathOf}
 use Rattle.path.specs.PathLaws.{path-of-at}
 use Rattle.entry.specs.Words.{entryAt, Framed}

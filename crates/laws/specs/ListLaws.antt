@@ -2,7 +2,7 @@
 use Prim.Native.Nat.{ℕ, zero, suc, _+_, _-_, _≤_, _<_, zero-le, suc-le-suc}
 use mathlib.Core.Path.{_≡_, refl, sym, ap, _∙_, subst}
 use mathlib.Core.Logic.{⊎-elim}
-use mathlib.Core.Bool.{Bool, true, false, _&&_, _||_, not, true≢false, false≢true, and-eq-true-iff, and-true, or-true, or-false, and-assoc, or-assoc}
+use mathlib.Core.Bool.{Bool, true, false, _&&_, _||_, not, true≢false, false≢true, and-eq-true-iff, and-true, or-true, or-false, and-assoc, or-assoc, or-comm}
 use mathlib.Core.List.{List, [], _∷_, _++_, List·Memᴰ, List·Memᴰ·head as here, List·Memᴰ·tail as there, List·Memᴰ·not-nil, List·Memᴰ·cases-cons, List·Memᴰ·append-cases, Memᴰ·append-left, Memᴰ·append-right}
 use native.Mathlib.Nat.{not-suc-le-zero, le-of-suc-le-suc, suc-sub-suc, sub-zero, zero-sub}
 use native.Mathlib.Numerals.{add-one}
@@ -314,6 +314,17 @@ pub among-append : (x : ℕ) (xs ys : List ℕ) → among x (xs ++ ys) ≡ (amon
 unfolding among
 among-append x [] ys = refl
 among-append x (y ∷ xs) ys = ap (λ (b : Bool). eqb y x || b) (among-append x xs ys) ∙ sym (or-assoc (eqb y x) (among x xs) (among x ys))
+
+-- a 0 that becomes y: of the numbers above 0, y is the one more
+pub among-set : (x : ℕ) (xs : List ℕ) (i y : ℕ) → 0 < x → i < length xs → getD xs i 0 ≡ 0 → among x (set xs i y) ≡ (eqb y x || among x xs)
+unfolding among
+among-set x [] i y l h e = absurd (not-suc-le-zero h)
+among-set x (z ∷ xs) zero y l h e = ap (λ (b : Bool). eqb y x || b) (sym (ap (λ (b : Bool). b || among x xs) (ne-eqb z x (λ q. omega arith))))
+among-set x (z ∷ xs) (suc i) y l h e =
+    ap (λ (b : Bool). eqb z x || b) (among-set x xs i y l (le-of-suc-le-suc h) e)
+    ∙ sym (or-assoc (eqb z x) (eqb y x) (among x xs))
+    ∙ ap (λ (b : Bool). b || among x xs) (or-comm (eqb z x) (eqb y x))
+    ∙ or-assoc (eqb y x) (eqb z x) (among x xs)
 
 -- of four numbers the first three of which are others
 pub among-fourth : (x : ℕ) (xs : List ℕ) → length xs ≡ 4 → (getD xs 0 0 ≡ x → ⊥) → (getD xs 1 0 ≡ x → ⊥) → (getD xs 2 0 ≡ x → ⊥)

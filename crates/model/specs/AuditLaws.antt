@@ -9,10 +9,10 @@ use native.Mathlib.Decide.{decLt}
 use native.Mathlib.Omega.{arith}
 use lib.Dec.{eqb, ltb}
 use lib.ListN.{length, getD, take, drop, replicate, length-replicate, take-append-drop, List·getD-eq-default}
-use borrow.Author.Tests.{eq-eqb, ne-eqb, eqb-true, eqb-false, lt-ltb, ltb-true}
+use borrow.Author.Tests.{eq-eqb, eqb-true, eqb-false, lt-ltb, ltb-true}
 use Rattle.laws.specs.Lists.{part, allZero, distinct, down}
 use Rattle.laws.specs.ListLaws.{length-part-le, getD-part, allZero-at, allZero-replicate, allZero-part-at, allZero-part-of, mem-at, at-mem, distinct-head, distinct-tail, distinct-cons, distinct-append, distinct-left, distinct-right, distinct-apart, length-down, distinct-down}
-use Rattle.path.specs.Geometry.{Granule, Sane, entries, sizeAt}
+use Rattle.path.specs.Geometry.{Granule, Sane, entries}
 use Rattle.path.specs.Numbers.{goodNumbers, GoodNumbers}
 use Rattle.path.specs.Laws.{good-numbers, good-setup, setup-good}
 use Rattle.entry.specs.Words.{entryAt}
@@ -87,7 +87,12 @@ module _ (G : Granule) (ws : List ℕ) (t : ℕ) where
 
   -- the visit's test: not empty, unless it is the root
   visit-back : ofVisit (tableWords G ws t) t .ok ≡ true → t ≢ 0 → EmptyTable G ws t → ⊥
-  visit-back e n z = true≢false (sym e ∙ rw (ne-eqb t 0 n, zero-some z))
+  visit-back e n z = go (eqb t 0) (allZero (tableWords G ws t)) refl refl e
+    where
+      go : (a b : Bool) → eqb t 0 ≡ a → allZero (tableWords G ws t) ≡ b → (a || not b) ≡ true → ⊥
+      go true b p q e = n (eqb-true t 0 p)
+      go false true p q e = false≢true e
+      go false false p q e = true≢false (sym (zero-some z) ∙ q)
 
   visit-some : (t ≢ 0 → EmptyTable G ws t → ⊥) → ofVisit (tableWords G ws t) t .ok ≡ true
   visit-some f = go (eqb t 0) (allZero (tableWords G ws t)) refl refl
@@ -115,7 +120,7 @@ module _ {G : Granule} (S : Sane G) (ws : List ℕ) (P n h : ℕ) (below : ℕ �
   low-entries : (v : ℕ) (l : List ℕ) → Each (λ t. t < n) (ofEntries G P n h v below l .reached)
   unfolding ofEntries
   low-entries v [] = each-nil (λ t. t < n)
-  low-entries v (w ∷ l) = each-append (λ t. t < n) _ _ (low-entry v w _ refl) (low-entries (v + sizeAt G h) l)
+  low-entries v (w ∷ l) = each-append (λ t. t < n) _ _ (low-entry v w _ refl) (low-entries _ l)
 
   low-node : (t v : ℕ) → t < n → Each (λ u. u < n) (node G ws P n h below t v .reached)
   low-node t v l = each-cons (λ u. u < n) t _ l (low-entries v (tableWords G ws t))
@@ -152,7 +157,7 @@ module _ (G : Granule) (ws : List ℕ) (P n h : ℕ) (below : ℕ → ℕ → Fo
     entries-back v (w ∷ l) o =
         let (a, b) = and-eq-true-iff _ _ .0 o in
         let (p, q) = entry-back v (entryAt G P n h w) a in
-        let (r, s) = entries-back (v + sizeAt G h) l b in
+        let (r, s) = entries-back _ l b in
         (each-cons SoundWord w l p r, each-append (Used G ws) _ _ q s)
 
     node-back : (t v : ℕ) → node G ws P n h below t v .ok ≡ true → ((i : ℕ) → i < entries G → SoundWord (wordAt G ws t i)) × Each (Used G ws) (node G ws P n h below t v .reached)
@@ -179,7 +184,7 @@ module _ (G : Granule) (ws : List ℕ) (P n h : ℕ) (below : ℕ → ℕ → Fo
         let e = entryAt G P n h w in
         and-eq-true-iff _ _ .1 (
           entry-some v e (s w (here refl)) (each-left (Used G ws) _ _ u),
-          entries-some (v + sizeAt G h) l (λ x m. s x (there m)) (each-right (Used G ws) (ofEntry G h v below e .reached) _ u),
+          entries-some _ l (λ x m. s x (there m)) (each-right (Used G ws) (ofEntry G h v below e .reached) _ u),
         )
 
     node-some : (t v : ℕ) → ((i : ℕ) → i < entries G → SoundWord (wordAt G ws t i)) → Each (Used G ws) (node G ws P n h below t v .reached) → node G ws P n h below t v .ok ≡ true
@@ -298,7 +303,7 @@ module _ (G : Granule) (P n h : ℕ) (below : ℕ → ℕ → Found) where
   entries-empty v (w ∷ l) z =
       let (a, b) = and-eq-true-iff (eqb w 0) (allZero l) .0 z in
       let e : entryAt G P n h w ≡ Empty = ap (entryAt G P n h) (eqb-true w 0 a) ∙ entry-zero G P n h in
-      rw (e, entries-empty (v + sizeAt G h) l b)
+      rw (e, entries-empty _ l b)
 
   root-empty : (ws : List ℕ) (v : ℕ) → EmptyTable G ws 0 → node G ws P n h below 0 v ≡ ofVisit (tableWords G ws 0) 0
   root-empty ws v z = rw (entries-empty v (tableWords G ws 0) (zero-some G ws 0 z))

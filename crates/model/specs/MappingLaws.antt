@@ -121,7 +121,7 @@ module _ {G : Granule} (S : Sane G) (ws : List ℕ) (P n h : ℕ) (below : ℕ �
   unfolding ofEntries
   well-entries v [] a = each-nil (WellFormed G)
   well-entries v (w ∷ l) a =
-      each-append (WellFormed G) _ _ (well-entry v w _ refl a) (well-entries (v + sizeAt G h) l (add-mod-right v (sizeAt G h) ∙ a))
+      each-append (WellFormed G) _ _ (well-entry v w _ refl a) (well-entries _ l (add-mod-right v (sizeAt G h) ∙ a))
 
   well-node : (t v : ℕ) → v % sizeAt G (suc h) ≡ 0 → Each (WellFormed G) (node G ws P n h below t v .mappings)
   well-node t v a = well-entries v (tableWords G ws t) (divides a)

@@ -164,6 +164,17 @@ module _ (G : Geo) (A : Store G) (v : ℕ) (tb : ℕ → ℕ) where
       go i l z zero e = absurd (o .inv .ren .leaf r (ap (λ (k : ℕ). o .S k r) (sym e) ∙ o .stands))
       go i l z (suc h′) e = settle h′ r (r * G.K + i) (I (suc h′) e) (digits-div r l) (full i l z h′ e)
 
+  -- at the root's height nothing is left to look at, and that is rest
+  pub rested : {L : List Mapping} {h : ℕ} (o : Loose L zero h)
+      → Inv G (A .rd (o .m)) (A .pl (o .q)) (o .f) (o .T) (o .S) L G.top 0
+  rested {L} {h} o = subst₂ (λ (a b : ℕ). Inv G (A .rd (o .m)) (A .pl (o .q)) (o .f) (o .T) (o .S) L a b) e z (o .inv)
+    where
+      e : h ≡ G.top
+      e = omega arith
+
+      z : anc G.K h v ≡ 0
+      z = o .inv .ren .only (anc G.K h v) (λ q. table≢empty (o .stands) (ap (λ (k : ℕ). o .S k (anc G.K h v)) e ∙ q))
+
   -- what `prune` does from where it is loose
   abbrev Prunes : List Mapping → ℕ → ℕ → Type 0
   Prunes L d h = (o : Loose L d h) → Pruned L (prune d h (o .m) (o .q) (o .f))
@@ -171,19 +182,7 @@ module _ (G : Geo) (A : Store G) (v : ℕ) (tb : ℕ → ℕ) where
   -- pruning keeps the ledger and comes to rest
   pub prune-ok : {L : List Mapping} (d h : ℕ) (o : Loose L d h) → Pruned L (prune d h (o .m) (o .q) (o .f))
   unfolding prune off
-  prune-ok {L} zero h o = record {
-    T = o .T;
-    S = o .S;
-    ok = o .ok;
-    okᶠ = o .okᶠ;
-    inv = subst₂ (λ (a b : ℕ). Inv G (A .rd (o .m)) (A .pl (o .q)) (o .f) (o .T) (o .S) L a b) e z (o .inv);
-  }
-    where
-      e : h ≡ G.top
-      e = omega arith
-
-      z : anc G.K h v ≡ 0
-      z = o .inv .ren .only (anc G.K h v) (λ q. table≢empty (o .stands) (ap (λ (k : ℕ). o .S k (anc G.K h v)) e ∙ q))
+  prune-ok zero h o = record { T = o .T; S = o .S; ok = o .ok; okᶠ = o .okᶠ; inv = rested o }
   prune-ok {L} (suc d) h o = go (bare? (A .rd (o .m)) (tb h) G.K) (λ o. prune-ok d (suc h) o)
     where
       go : (b : Dec (Bare (A .rd (o .m)) (tb h) G.K)) → Prunes L d (suc h)

@@ -45,7 +45,7 @@ pub empty≢frame : {e : Ent} {x : ℕ} → e ≡ empty → e ≡ frame x → �
 empty≢frame p q = let z : _≡_ {A = ℕ} 0 1 = cc in omega arith
 
 -- an entry is a table or not
-table? : (e : Ent) → Dec (e ≡ table)
+pub table? : (e : Ent) → Dec (e ≡ table)
 table? empty = no (λ p. table≢empty p refl)
 table? (frame x) = no (λ p. table≢frame p refl)
 table? table = yes refl

@@ -50,7 +50,7 @@ impl Coverage {
     pub fn count(&mut self, step: &Step, answer: Option<&Answer>, with_ledger: bool, memory: &Memory) {
         let last_damage = self.last_damage.take();
         match *step {
-            Step::Word { damage, .. } | Step::Place { damage, .. } => self.last_damage = Some(damage),
+            Step::Word { damage, .. } | Step::Place { damage, .. } => self.last_damage = damage,
             Step::Memory { .. } => {}
             Step::Call { ref call, words, places } => {
                 let answer = answer.expect("a call has an answer");

@@ -19,7 +19,7 @@ pub enum Damage {
     Cycle,
     /// An entry names a random table.
     Alias,
-    /// An entry names a free table.
+    /// An entry names the last free table.
     LinkFree,
     /// An entry becomes the word of a frame of another size.
     FrameLevel,
@@ -75,8 +75,8 @@ impl Damage {
         let depth = random.below(walk.tables().len() as u64) as usize;
         let left = setup.levels - depth as u64;
         let entry = walk.tables()[depth] * 512 + (address >> (12 + 9 * (left - 1))) as usize % 512;
-        let to_word = |at: usize, word: u64| Some(Step::Word { at, word, damage: self });
-        let to_place = |at: usize, number: u64| Some(Step::Place { at, number: number as u32, damage: self });
+        let to_word = |at: usize, word: u64| Some(Step::Word { at, word, damage: Some(self) });
+        let to_place = |at: usize, number: u64| Some(Step::Place { at, number: number as u32, damage: Some(self) });
         let table = |number: u64| setup.base.wrapping_add(number.wrapping_mul(4096)).wrapping_add(3);
         // a place of the list that counts, where there is one
         let place = if free == 0 { None } else { Some(random.below(free as u64) as usize) };
@@ -93,7 +93,7 @@ impl Damage {
             }
             Damage::Cycle => to_word(entry, table(random.pick(walk.tables().get(1..=depth).filter(|t| !t.is_empty())?) as u64)),
             Damage::Alias => to_word(entry, table(1 + random.below(setup.tables))),
-            Damage::LinkFree => to_word(entry, table(u64::from(memory.list[place?]))),
+            Damage::LinkFree => to_word(entry, table(u64::from(memory.list[free.checked_sub(1)?]))),
             Damage::FrameLevel => to_word(entry, frame(random, random_size(random))),
             Damage::FrameOff => {
                 let off =
@@ -115,7 +115,11 @@ impl Damage {
             }
             Damage::PastTheFree => to_place(free + random.below((memory.list.len() - free) as u64) as usize, random.number()),
             Damage::PastThePool => {
-                to_word(512 * tables + random.below((memory.words.len() - 512 * tables) as u64) as usize, random.number())
+                let spare = memory.words.len() - 512 * tables;
+                if spare == 0 {
+                    return None;
+                }
+                to_word(512 * tables + random.below(spare as u64) as usize, random.number())
             }
         }
     }
@@ -126,7 +130,8 @@ pub fn random_size(random: &Random) -> u64 {
     random.pick(&[SIZES[0], SIZES[0], SIZES[0], SIZES[1], SIZES[1], SIZES[2]])
 }
 
-/// The word of a random frame.
+/// The word of a random frame. Some bases are so round that they fit every region, up to 512 GiB.
 pub fn frame(random: &Random, size: u64) -> u64 {
-    plain::frame_word(random.below(LIMIT) & !(size - 1), size, random.below(16))
+    let round = if random.percent(20) { 1 << 39 } else { size };
+    plain::frame_word(random.below(LIMIT) & !(round - 1), size, random.below(16))
 }

@@ -69,8 +69,6 @@ impl Source {
         }
         if self.kind == Kind::Damaged && self.random.percent(8) {
             if let Some(step) = self.damage(world) {
-                let setup = world.setup;
-                self.queue.push_back(lend(Call::Audit { setup }, setup.tables));
                 return step;
             }
         }
@@ -105,7 +103,7 @@ impl Source {
         self.queue.push_back(Step::Memory { words, places });
         // format has something to clear
         for at in [0, 511, words - 513, words - 1] {
-            self.queue.push_back(Step::Word { at, word: random.number(), damage: Damage::Garbage });
+            self.queue.push_back(Step::Word { at, word: random.number(), damage: None });
         }
         self.queue.push_back(lend(Call::Format { levels, base, tables }, tables));
         if self.kind == Kind::Wild {
@@ -162,20 +160,35 @@ impl Source {
                     9 => frame(random, size) ^ 1 << random.below(64),
                     _ => 0,
                 };
-                self.queue.push_back(Step::Word { at: (512 * table + index) as usize, word, damage: Damage::Garbage });
+                self.queue.push_back(Step::Word { at: (512 * table + index) as usize, word, damage: None });
             }
         }
         for at in 0..setup.tables as usize {
             let number = random.below(setup.tables + 1) as u32;
-            self.queue.push_back(Step::Place { at, number, damage: Damage::FreeOutside });
+            self.queue.push_back(Step::Place { at, number, damage: None });
         }
         self.free = Some(random.pick(&[random.number() % setup.tables, setup.tables - 1]));
     }
 
-    /// Some damage to the pool, if there is one to damage.
+    /// Some damage to the pool, and an audit after it. Most of it is mended then.
     fn damage(&mut self, world: &World) -> Option<Step> {
+        let (mut setup, memory) = (world.setup, &world.memory);
         let address = self.address();
-        self.random.pick(&Damage::ALL).step(&self.random, world.setup, &world.memory, address)
+        let step = self.random.pick(&Damage::ALL).step(&self.random, setup, memory, address)?;
+        let mended = match step {
+            Step::Word { at, .. } => Step::Word { at, word: memory.words[at], damage: None },
+            Step::Place { at, .. } => Step::Place { at, number: memory.list[at], damage: None },
+            _ => return None,
+        };
+        if matches!(step, Step::Word { damage: Some(Damage::LinkFree), .. }) && self.random.percent(50) {
+            // nothing is wrong then but that the table is empty
+            setup.free -= 1;
+        }
+        self.queue.push_back(lend(Call::Audit { setup }, setup.tables));
+        if self.random.percent(70) {
+            self.queue.push_back(mended);
+        }
+        Some(step)
     }
 
     /// A call on the pool.

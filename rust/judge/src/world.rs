@@ -18,10 +18,10 @@ pub struct Memory {
 pub enum Step {
     /// New memory of so many words and places, all zero.
     Memory { words: usize, places: usize },
-    /// A word is overwritten from outside.
-    Word { at: usize, word: u64, damage: Damage },
+    /// A word is overwritten from outside, as some kind of damage or as part of making a pool.
+    Word { at: usize, word: u64, damage: Option<Damage> },
     /// A place of the free list is overwritten from outside.
-    Place { at: usize, number: u32, damage: Damage },
+    Place { at: usize, number: u32, damage: Option<Damage> },
     /// A call, which is lent the first so many words and places.
     Call { call: Call, words: usize, places: usize },
 }

@@ -69,7 +69,7 @@ sub-if2 c = omega (arith, numbers (c .before .before .before .before .before .be
 
 returns-2 : tie.Need-returns-2
 returns-2 c =
-    whole-miscount (at (c .before .before .before .before .before .before .before .before .before .before)) (good (c .before .before .before .before .before .before .before .before .before .before)) _ _ _ (rw (c .before .before .before .r .given .1) at (c .before .before .before .before .before .before .table-check .ensures)) (c .if2 .taken)
+    whole-miscount (at (c .before .before .before .before .before .before .before .before .before .before)) (good (c .before .before .before .before .before .before .before .before .before .before)) _ _ _ (rw (c .before .before .before .r .given .1) at (c .before .before .before .before .before .before .table-check .ensures)) (λ e. omega (arith, e, c .if2 .taken))
 
 slice-aggregate-free-check : tie.Need-slice-aggregate-free-check
 slice-aggregate-free-check c = search needs
@@ -90,7 +90,7 @@ enum-told c = search needs
 returns-4 : tie.Need-returns-4
 returns-4 c =
     whole-sound (at (c .before .before .before .before .before .before .before .before .before .before .before .before .before .before)) (good (c .before .before .before .before .before .before .before .before .before .before .before .before .before .before)) _ _ _ (rw (c .before .before .before .before .before .before .before .r .given .1) at (c .before .before .before .before .before .before .before .before .before .before .table-check .ensures))
-    (c .before .before .before .before .if2 .left)
+    (omega (arith, c .before .before .before .before .if2 .left))
     (sym (not-false _ (c .if3 .left)) ∙ c .before .before .free-check .ensures)
 
 returns-5 : tie.Need-returns-5

@@ -1,0 +1,106 @@
+-- The ledger's tests, as facts about its mappings.
+use mathlib.Core.Path.{_≡_, refl, ap, sym, _∙_}
+use mathlib.Core.Logic.{_≢_, _⊎_, inl, inr, ⊎-elim, _↔_}
+use mathlib.Core.Bool.{Bool, true, false, cond, false≢true}
+use mathlib.Core.List.{List, [], _∷_, List·Memᴰ, List·Memᴰ·head as here, List·Memᴰ·tail as there, List·Memᴰ·not-nil, List·Memᴰ·cases-cons, List·Memᴰ·append-cases}
+use mathlib.Core.Option.{some, none}
+use Prim.Native.Nat.{ℕ, zero, suc, _<_}
+use native.Mathlib.Omega.{arith}
+use lib.Dec.{ltb, eqb}
+use borrow.Author.Tests.{ltb-true, leb-true, lt-ltb, le-leb, eqb-true, eqb-false}
+use Rattle.path.specs.Geometry.{Granule, sizeAt, Sane}
+use Rattle.path.specs.Laws.{size-injective}
+use Rattle.path.specs.Paths.{baseAt}
+use Rattle.model.specs.Answers.{Mapping}
+use Rattle.model.specs.Ledger.{overlaps, anyOverlap, holdsAddress, coverOf, dropAt, Region, region, regionsOf, hasRegion, newRegions, regionsNeeded}
+use Rattle.demand.specs.Shown.{and-true, true-and, or-true, true-or}
+use Rattle.upstream.specs.State.{Overlap, Within}
+
+-- some mapping shares a byte with the range exactly where the test says so
+pub any-overlap : (a size : ℕ) (L : List Mapping) → (anyOverlap a size L ≡ true) ↔ ((m : Mapping) × List·Memᴰ m L × Overlap (m .at) (m .size) a size)
+unfolding anyOverlap
+any-overlap a size L = (from L, to L)
+  where
+    from : (L : List Mapping) → anyOverlap a size L ≡ true → (m : Mapping) × List·Memᴰ m L × Overlap (m .at) (m .size) a size
+    from [] e = absurd (false≢true e)
+    from (k ∷ L) e = ⊎-elim (λ d. let (p, q) = and-true _ _ d in (k, here refl, (ltb-true _ _ q, ltb-true _ _ p))) (λ d. let (m, i, o) = from L d in (m, there i, o)) (or-true _ _ e)
+
+    to : (L : List Mapping) → (m : Mapping) × List·Memᴰ m L × Overlap (m .at) (m .size) a size → anyOverlap a size L ≡ true
+    to [] (m, i, o) = absurd (List·Memᴰ·not-nil i)
+    to (k ∷ L) (m, i, (p, q)) = true-or (overlaps a size k) (anyOverlap a size L)
+        (⊎-elim (λ e. inl (ap (overlaps a size) (sym e) ∙ true-and (lt-ltb _ _ q) (lt-ltb _ _ p))) (λ j. inr (to L (m, j, (p, q)))) (List·Memᴰ·cases-cons i))
+
+-- the mapping that the search for an address finds is one that holds it
+pub cover-some : (a : ℕ) (L : List Mapping) (m : Mapping) → coverOf a L ≡ some m → List·Memᴰ m L × Within a m
+unfolding coverOf
+cover-some a [] m e = let z : _≡_ {A = ℕ} 0 1 = cc in absurd (omega arith)
+cover-some a (k ∷ L) m e = go (holdsAddress a k) refl e (cover-some a L m)
+  where
+    go : (b : Bool) → holdsAddress a k ≡ b → cond b (some k) (coverOf a L) ≡ some m → (coverOf a L ≡ some m → List·Memᴰ m L × Within a m) → List·Memᴰ m (k ∷ L) × Within a m
+    go true q e ih = let z : k ≡ m = cc in let (x, y) = and-true _ _ q in let w : Within a k = (leb-true _ _ x, ltb-true _ _ y) in (here (sym z), rw z at w)
+    go false q e ih = let (x, y) = ih e in (there x, y)
+
+-- where it finds none, no mapping holds the address
+pub cover-none : (a : ℕ) (L : List Mapping) → coverOf a L ≡ none → (m : Mapping) → List·Memᴰ m L → Within a m → ⊥
+unfolding coverOf
+cover-none a [] e m i w = List·Memᴰ·not-nil i
+cover-none a (k ∷ L) e m i w = go (holdsAddress a k) refl e (cover-none a L)
+  where
+    go : (b : Bool) → holdsAddress a k ≡ b → cond b (some k) (coverOf a L) ≡ none → (coverOf a L ≡ none → (m : Mapping) → List·Memᴰ m L → Within a m → ⊥) → ⊥
+    go true q e ih = let z : _≡_ {A = ℕ} 0 1 = cc in omega arith
+    go false q e ih = ⊎-elim (λ z. false≢true (sym q ∙ rw (← z) (true-and (le-leb _ _ (w .0)) (lt-ltb _ _ (w .1))))) (λ j. ih e m j w) (List·Memᴰ·cases-cons i)
+
+-- the ledger without the mapping at an address has the others, and nothing else
+pub drop-has : (a : ℕ) (L : List Mapping) (m : Mapping) → List·Memᴰ m (dropAt a L) ↔ (List·Memᴰ m L × (m .at ≢ a))
+unfolding dropAt
+drop-has a [] m = (λ i. absurd (List·Memᴰ·not-nil i), λ i. i .0)
+drop-has a (k ∷ L) m = go (eqb (k .at) a) refl (drop-has a L m)
+  where
+    go : (b : Bool) → eqb (k .at) a ≡ b → List·Memᴰ m (dropAt a L) ↔ (List·Memᴰ m L × (m .at ≢ a))
+        → List·Memᴰ m (cond b (dropAt a L) (k ∷ dropAt a L)) ↔ (List·Memᴰ m (k ∷ L) × (m .at ≢ a))
+    go true q ih = (
+      λ i. let (x, y) = ih .0 i in (there x, y),
+      λ (i, d). ⊎-elim (λ e. absurd (d (ap (λ (z : Mapping). z .at) e ∙ eqb-true _ _ q))) (λ j. ih .1 (j, d)) (List·Memᴰ·cases-cons i),
+    )
+    go false q ih = (
+      λ i. ⊎-elim (λ e. (here e, λ z. eqb-false _ _ q (ap (λ (z : Mapping). z .at) (sym e) ∙ z))) (λ j. let (x, y) = ih .0 j in (there x, y)) (List·Memᴰ·cases-cons i),
+      λ (i, d). ⊎-elim (λ e. here e) (λ j. there (ih .1 (j, d))) (List·Memᴰ·cases-cons i),
+    )
+
+-- a region that a mapping needs a table for is larger than the mapping and holds it
+regions-from : (G : Granule) (m : Mapping) (k : ℕ) (q : Region) → List·Memᴰ q (regionsOf G m k) → (j : ℕ) × (m .size < sizeAt G j) × (q ≡ region (sizeAt G j) (baseAt G (m .at) j))
+unfolding regionsOf
+regions-from G m zero q i = absurd (List·Memᴰ·not-nil i)
+regions-from G m (suc k) q i = go (ltb (m .size) (sizeAt G (suc k))) refl i (regions-from G m k q)
+  where
+    From : Type 0
+    From = (j : ℕ) × (m .size < sizeAt G j) × (q ≡ region (sizeAt G j) (baseAt G (m .at) j))
+
+    go : (b : Bool) → ltb (m .size) (sizeAt G (suc k)) ≡ b
+        → List·Memᴰ q (cond b (region (sizeAt G (suc k)) (baseAt G (m .at) (suc k)) ∷ regionsOf G m k) (regionsOf G m k)) → (List·Memᴰ q (regionsOf G m k) → From) → From
+    go true e i ih = ⊎-elim (λ z. (suc k, ltb-true _ _ e, z)) ih (List·Memᴰ·cases-cons i)
+    go false e i ih = ih i
+
+new-from : (q : Region) (Q R : List Region) → List·Memᴰ q (newRegions Q R) → List·Memᴰ q Q
+unfolding newRegions
+new-from q [] R i = i
+new-from q (r ∷ Q) R i = go (hasRegion r R) i (new-from q Q R)
+  where
+    go : (b : Bool) → List·Memᴰ q (cond b (newRegions Q R) (r ∷ newRegions Q R)) → (List·Memᴰ q (newRegions Q R) → List·Memᴰ q Q) → List·Memᴰ q (r ∷ Q)
+    go true i ih = there (ih i)
+    go false i ih = ⊎-elim (λ e. here e) (λ j. there (ih j)) (List·Memᴰ·cases-cons i)
+
+-- a region that live mappings need a table for holds one of them, which is smaller
+pub needed-mapping : (G : Granule) → Sane G → (k : ℕ) (L : List Mapping) (h a : ℕ) → List·Memᴰ (region (sizeAt G h) a) (regionsNeeded G k L)
+    → (m : Mapping) × List·Memᴰ m L × (m .size < sizeAt G h) × (baseAt G (m .at) h ≡ a)
+unfolding regionsNeeded
+needed-mapping G Z k [] h a i = absurd (List·Memᴰ·not-nil i)
+needed-mapping G Z k (m ∷ L) h a i = ⊎-elim own (λ j. let (x, y, u, v) = needed-mapping G Z k L h a j in (x, there y, u, v))
+    (List·Memᴰ·append-cases (newRegions (regionsOf G m k) (regionsNeeded G k L)) i)
+  where
+    own : List·Memᴰ (region (sizeAt G h) a) (newRegions (regionsOf G m k) (regionsNeeded G k L))
+        → (x : Mapping) × List·Memᴰ x (m ∷ L) × (x .size < sizeAt G h) × (baseAt G (x .at) h ≡ a)
+    own i =
+        let (j, l, e) = regions-from G m k (region (sizeAt G h) a) (new-from (region (sizeAt G h) a) (regionsOf G m k) (regionsNeeded G k L) i) in
+        let z : h ≡ j = size-injective G Z h j (ap (λ (q : Region). q .size) e) in
+        (m, here refl, rw z l, ap (baseAt G (m .at)) z ∙ ap (λ (q : Region). q .first) (sym e))

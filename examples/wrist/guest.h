@@ -1,0 +1,28 @@
+/* What a guest of the wrist unit may ask of the hypervisor: HVC with the number in x0. All registers come back as they were. */
+#ifndef GUEST_H
+#define GUEST_H
+
+#include <stdint.h>
+
+enum { TELL, GIVE, WAIT, END };
+
+/* the guest's first instruction: guests.ld puts it at the start of the guest's page */
+#define ENTRY __attribute__((section(".text.entry")))
+
+static inline void ask(uint64_t what, uint64_t a, uint64_t b) {
+    register uint64_t x0 __asm__("x0") = what;
+    register uint64_t x1 __asm__("x1") = a;
+    register uint64_t x2 __asm__("x2") = b;
+    __asm__ volatile("hvc #0" : : "r"(x0), "r"(x1), "r"(x2) : "memory");
+}
+
+/* Prints a text and a number. */
+static inline void tell(const char *text, uint64_t number) { ask(TELL, (uint64_t)text, number); }
+/* Gives up the mapping at the address. */
+static inline void give(volatile void *address) { ask(GIVE, (uint64_t)address, 0); }
+/* Lets the other guest go on. */
+static inline void wait(void) { ask(WAIT, 0, 0); }
+/* Is done. */
+static inline void end(void) { ask(END, 0, 0); }
+
+#endif

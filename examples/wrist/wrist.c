@@ -1,0 +1,171 @@
+/* A wrist unit in miniature: a hypervisor with two guests, whose memory is given and taken back by Oakabut.
+ *
+ * It runs at EL2 on the board of arm/board, which has the console, the switch to a guest and the registers of stage 2. What stands
+ * here is what every host has: a pool, one function for each call that changes it, and a trap handler that asks oak_query and maps on
+ * demand. Both guests live in one space, take turns, and know nothing of this:
+ *
+ *     scan  0x00001000  its program  r-x                sync  0x40001000  its program      r-x
+ *           0x00002000  its data     rw-                      0x40002000  its data         rw-
+ *           0x00200000  its store    rw-, on demand           0x40003000  the scan's data  r--
+ *                                                             0x40200000  its buffer       rw-, on demand
+ *
+ * Each guest needs a table for its GiB and one for its first 2 MiB, and one more for what comes on demand. With the root that makes
+ * seven, and the pool has six: whoever comes last has to wait until the other gives its page up. */
+#include "board.h"
+#include "guest.h"
+#include "oakabut.h"
+
+/* ---- the pool: lent memory, and the setup that every call takes and hands back */
+
+enum { LEVELS = 3, TABLES = 6 };
+#define POOL UINT64_C(0x44000000)
+
+static uint64_t *const words = (uint64_t *)POOL; /* our MMU is off, so this is also the address at which the machine reads them */
+static uint32_t list[TABLES];
+static oak_setup setup;
+#define LENT words, 512 * TABLES, list, TABLES
+
+static const char *letters(uint64_t attributes) {
+    static const char *const all[] = {"---", "r--", "-w-", "rw-", "--x", "r-x", "-wx", "rwx"};
+    return all[attributes & (OAK_READ | OAK_WRITE | OAK_EXECUTE)];
+}
+
+/* After every call the machine has to see what changed, which is the host's part; and this host has the pool audited. */
+static void after_call(void) {
+    oak_audited counted;
+    stage2_changed();
+    uint64_t refusal = oak_audit(&setup, LENT, &counted);
+    if (refusal == 0) say("      audit: tables %u, free %u, mappings %u\n", counted.tables, setup.free, counted.mappings);
+    else say("      AUDIT: %u\n", refusal);
+}
+
+/* Maps a page, and answers the refusal. */
+static uint64_t map(uint64_t address, uint64_t frame, uint64_t attributes) {
+    static uint64_t words_before[512 * TABLES];
+    static uint32_t list_before[TABLES];
+    oak_mapped answer;
+    memcpy(words_before, words, sizeof words_before);
+    memcpy(list_before, list, sizeof list_before);
+    uint64_t refusal = oak_map(&setup, LENT, address, frame, OAK_4_KIB, attributes, &answer);
+    say("   map %x to %x %s: ", address, frame, letters(attributes));
+    if (refusal == 0) {
+        say("takes %u\n", answer.taken);
+    } else {
+        int as_before = memcmp(words_before, words, sizeof words_before) == 0 && memcmp(list_before, list, sizeof list_before) == 0 &&
+                        memcmp(&answer.setup, &setup, sizeof setup) == 0;
+        say("refused with %u, %s\n", refusal, as_before ? "and every word, list place and setup number is as before" : "BUT SOMETHING CHANGED");
+    }
+    setup = answer.setup;
+    after_call();
+    return refusal;
+}
+
+/* Unmaps what starts at the address, and answers how many tables came back. */
+static uint64_t unmap(uint64_t address) {
+    oak_unmapped answer;
+    uint64_t refusal = oak_unmap(&setup, LENT, address, &answer);
+    if (refusal == 0) say("   unmap %x from %x: gives %u\n", address, answer.frame, answer.given);
+    else say("   unmap %x: refused with %u\n", address, refusal);
+    setup = answer.setup;
+    after_call();
+    return answer.given;
+}
+
+/* ---- the guests */
+
+struct guest {
+    const char *name;
+    enum { READY, SHORT_OF_A_TABLE, DONE } state;
+    uint64_t first, last;            /* its part of the space */
+    uint64_t on_demand, frame;       /* the page that it gets when it first uses it, and from where */
+    struct registers registers;
+};
+static struct guest scan = {"scan", READY, 0, 0x3FFFFFFF, 0x00200000, 0x45002000, {.pc = 0x1000, .sp = 0x3000, .pstate = AT_EL1}};
+static struct guest sync = {
+    "sync", READY, 0x40000000, 0x7FFFFFFF, 0x40200000, 0x46002000, {.pc = 0x40001000, .sp = 0x40003000, .pstate = AT_EL1}};
+
+/* Copies a guest's text. The guest names it by an address in its own space: query says where that is, and whether it may be read. */
+static void copy_text(uint64_t address, char *text, uint64_t room) {
+    oak_found found;
+    uint64_t length = 0;
+    if (oak_query(&setup, LENT, address, &found) == 0 && (found.attributes & OAK_READ) != 0) {
+        const char *from = (const char *)(found.frame + (address - found.base));
+        uint64_t left = found.size - (address - found.base);
+        while (length + 1 < room && length < left && from[length] != 0) text[length] = from[length], length++;
+    }
+    text[length] = 0;
+}
+
+/* What a guest asks for by HVC. Answers whether it goes on. */
+static int called(struct guest *guest) {
+    uint64_t what = guest->registers.x[0], a = guest->registers.x[1], b = guest->registers.x[2];
+    char text[64];
+    switch (what) {
+    case TELL:
+        copy_text(a, text, sizeof text);
+        say("%s: %s %u\n", guest->name, text, b);
+        return 1;
+    case GIVE:
+        say("%s gives %x up\n", guest->name, a);
+        if (a < guest->first || a > guest->last || unmap(a) == 0) return 1;
+        if (scan.state == SHORT_OF_A_TABLE) scan.state = READY;
+        if (sync.state == SHORT_OF_A_TABLE) sync.state = READY;
+        return 1;
+    case WAIT: return 0;
+    default:
+        say("%s is done\n", guest->name);
+        guest->state = DONE;
+        return 0;
+    }
+}
+
+/* An access that stage 2 did not let pass. Answers whether the guest goes on. */
+static int trapped(struct guest *guest, struct trap trap) {
+    static const char *const verbs[] = {[READ] = "reads", [WRITE] = "writes", [FETCH] = "executes"};
+    oak_found found;
+    uint64_t refusal = oak_query(&setup, LENT, trap.address, &found);
+    say("%s %s %x: ", guest->name, verbs[trap.cause], trap.address);
+    if (trap.not_mapped != (refusal != 0)) say("THE MACHINE SEES IT OTHERWISE: ");
+
+    if (refusal != 0 && trap.address - trap.address % OAK_4_KIB == guest->on_demand) {
+        say("query says %u, and the page is its own\n", refusal);
+        if (map(guest->on_demand, guest->frame, OAK_READ | OAK_WRITE) == 0) return 1; /* it makes the access again */
+        guest->state = SHORT_OF_A_TABLE;
+        return 0;
+    }
+    if (refusal == 0) say("query says %s, so it may not\n", letters(found.attributes));
+    else say("query says %u, and nothing is meant to be there\n", refusal);
+    /* The instruction is passed over; after a jump the guest is back where it jumped from. */
+    guest->registers.pc = trap.cause == FETCH ? guest->registers.x[30] : guest->registers.pc + 4;
+    return 1;
+}
+
+static int goes_on(struct guest *guest) {
+    run_guest(&guest->registers);
+    struct trap trap = why();
+    if (trap.cause == CALLED) return called(guest);
+    if (trap.cause != OTHER) return trapped(guest, trap);
+    say("%s does what it should not, and is stopped\n", guest->name);
+    guest->state = DONE;
+    return 0;
+}
+
+int main(void) {
+    uint64_t refusal = oak_format(LEVELS, POOL, TABLES, LENT, &setup);
+    say("format: answers %u, %u levels, %u tables at %x\n", refusal, setup.levels, setup.tables, setup.base);
+    after_call();
+    map(0x00001000, 0x45000000, OAK_READ | OAK_EXECUTE); /* guests.ld has the two programs loaded into these frames */
+    map(0x00002000, 0x45001000, OAK_READ | OAK_WRITE);
+    map(0x40001000, 0x46000000, OAK_READ | OAK_EXECUTE);
+    map(0x40002000, 0x46001000, OAK_READ | OAK_WRITE);
+    map(0x40003000, 0x45001000, OAK_READ);
+    stage2_on(LEVELS, POOL);
+
+    struct guest *guest = &sync;
+    while (scan.state == READY || sync.state == READY) {
+        while (guest->state == READY && goes_on(guest)) continue;
+        guest = guest == &sync ? &scan : &sync;
+    }
+    say("the wrist unit is off\n");
+    return 0;
+}
