@@ -164,7 +164,7 @@ small-table G ws P n (suc h) t v =
     rw (pow-succ' (suc (entries G)) (suc h))
     (small-node G P n (suc h) (λ c u. ofTable G ws P n h c u) (suc (entries G) ^ suc h) (one-le-pow (suc h) (suc (entries G)) (omega arith)) (small-table G ws P n h) ws t v)
 
-pub room-table : (ws : List ℕ) (P n h t : ℕ) → h < 4 → Room (atTable four ws P n h t) 0 0
+pub room-table : (ws : List ℕ) (P n h t : ℕ) → h < four .most → Room (atTable four ws P n h t) 0 0
 room-table ws P n h t l =
     let s = small-table four ws P n h t 0 in
     let p : 513 ^ suc h ≤ 513 ^ 4 = pow-le-pow-right (lit< tt) l in

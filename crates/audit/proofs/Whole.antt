@@ -12,7 +12,7 @@ use borrow.Author.Tests.{eq-eqb, ne-eqb}
 use Rattle.laws.specs.Lists.{allZero, among, distinct}
 use Rattle.laws.specs.ListLaws.{allZero-at, allZero-replicate, distinct-left}
 use Rattle.path.specs.Geometry.{Granule, four}
-use Rattle.path.specs.Numbers.{GoodSetup}
+use Rattle.path.specs.Numbers.{mostTables, GoodSetup}
 use Rattle.path.specs.Laws.{four-sane, good-setup}
 use Rattle.model.specs.Answers.{Pool, audited, refused}
 use Rattle.model.specs.Calls.{goodPool}
@@ -119,38 +119,38 @@ module _ (p : Pool) (g : goodPool four p ≡ true) where
   abbrev all : Seen
   all = atTable four (p .words) (p .numbers .base) (p .numbers .tables) (p .numbers .levels - 1) 0
 
-  pub root-fit : TableFit (blank 64) (p .numbers .tables) 0 (p .numbers .levels - 1)
+  pub root-fit : TableFit (blank mostTables) (p .numbers .tables) 0 (p .numbers .levels - 1)
   root-fit =
       record {
-        marked = rw (length-replicate {A = ℕ} 64 0) (N .numbers .few);
+        marked = rw (length-replicate {A = ℕ} mostTables 0) (N .numbers .few);
         inside = N .numbers .some-table;
         low = omega (arith, N .numbers .not-more, N .numbers .enough);
       }
 
-  reached-small : Each (λ t. t < 64) (reachedOf four p)
+  reached-small : Each (λ t. t < mostTables) (reachedOf four p)
   reached-small t m = omega (arith, N .numbers .few, pool-reached-low four-sane p g t m)
 
   damaged : soundPool four p ≡ false → refused 8 ≡ auditW four p
   unfolding auditW
   damaged e = sym (rw (g, e))
 
-  pub whole-clash : (K : List ℕ) → Answers all (blank 64) Damaged K → refused 8 ≡ auditW four p
+  pub whole-clash : (K : List ℕ) → Answers all (blank mostTables) Damaged K → refused 8 ≡ auditW four p
   unfolding soundPool
-  whole-clash K h = damaged (go (ofPool four p .ok) refl (clashed all (blank 64) K h))
+  whole-clash K h = damaged (go (ofPool four p .ok) refl (clashed all (blank mostTables) K h))
     where
-      go : (o : Bool) → ofPool four p .ok ≡ o → cond o (mark (blank 64) (reachedOf four p)) clash ≡ clash
+      go : (o : Bool) → ofPool four p .ok ≡ o → cond o (mark (blank mostTables) (reachedOf four p)) clash ≡ clash
           → (o && (distinct (reachedOf four p ++ freeOf p) && (freeSound four (p .words) (p .numbers .tables) (freeOf p) && eqb (length (reachedOf four p) + p .numbers .free) (p .numbers .tables)))) ≡ false
-      go true o e = rw (left-not (reachedOf four p) (freeOf p) (sym (blank-distinct 64 (reachedOf four p) reached-small) ∙ ap passed e))
+      go true o e = rw (left-not (reachedOf four p) (freeOf p) (sym (blank-distinct mostTables (reachedOf four p) reached-small) ∙ ap passed e))
       go false o e = refl
 
-  module _ (a b : ℕ) (K : List ℕ) (h : Answers all (blank 64) (Counts a b) K) where
+  module _ (a b : ℕ) (K : List ℕ) (h : Answers all (blank mostTables) (Counts a b) K) where
     counts : (a ≡ length (reachedOf four p)) × (b ≡ length (mappingsOf four p))
-    counts = let (_, x, y) = ended all (blank 64) K a b h in (x, y)
+    counts = let (_, x, y) = ended all (blank mostTables) K a b h in (x, y)
 
-    sound-tree : (ofPool four p .ok ≡ true) × (mark (blank 64) (reachedOf four p) ≡ marks K)
-    sound-tree = go (ofPool four p .ok) refl (ended all (blank 64) K a b h .0)
+    sound-tree : (ofPool four p .ok ≡ true) × (mark (blank mostTables) (reachedOf four p) ≡ marks K)
+    sound-tree = go (ofPool four p .ok) refl (ended all (blank mostTables) K a b h .0)
       where
-        go : (o : Bool) → ofPool four p .ok ≡ o → cond o (mark (blank 64) (reachedOf four p)) clash ≡ marks K → (ofPool four p .ok ≡ true) × (mark (blank 64) (reachedOf four p) ≡ marks K)
+        go : (o : Bool) → ofPool four p .ok ≡ o → cond o (mark (blank mostTables) (reachedOf four p)) clash ≡ marks K → (ofPool four p .ok ≡ true) × (mark (blank mostTables) (reachedOf four p) ≡ marks K)
         go true q e = (q, e)
         go false q e = absurd (let z : _≡_ {A = ℕ} 0 1 = cc in omega arith)
 
@@ -158,19 +158,19 @@ module _ (p : Pool) (g : goodPool four p ≡ true) where
     frees : freePass four (p .words) (p .numbers .tables) K (freeOf p) ≡ (distinct (reachedOf four p ++ freeOf p) && freeSound four (p .words) (p .numbers .tables) (freeOf p))
     frees = free-parts four (p .words) (p .numbers .tables) K (freeOf p) ∙ go (freeSound four (p .words) (p .numbers .tables) (freeOf p)) refl
       where
-        small : freeSound four (p .words) (p .numbers .tables) (freeOf p) ≡ true → Each (λ t. t < 64) (reachedOf four p ++ freeOf p)
+        small : freeSound four (p .words) (p .numbers .tables) (freeOf p) ≡ true → Each (λ t. t < mostTables) (reachedOf four p ++ freeOf p)
         small e =
-            each-append (λ t. t < 64) (reachedOf four p) (freeOf p) reached-small
+            each-append (λ t. t < mostTables) (reachedOf four p) (freeOf p) reached-small
             (λ t m. omega (arith, N .numbers .few, free-back four (p .words) (p .numbers .tables) (freeOf p) e t m .0))
 
-        joined : mark (blank 64) (reachedOf four p ++ freeOf p) ≡ mark K (freeOf p)
-        joined = mark-append (blank 64) (reachedOf four p) (freeOf p) ∙ rw (sound-tree .1)
+        joined : mark (blank mostTables) (reachedOf four p ++ freeOf p) ≡ mark K (freeOf p)
+        joined = mark-append (blank mostTables) (reachedOf four p) (freeOf p) ∙ rw (sound-tree .1)
 
         go : (o : Bool) → freeSound four (p .words) (p .numbers .tables) (freeOf p) ≡ o
             → (o && passed (mark K (freeOf p))) ≡ (distinct (reachedOf four p ++ freeOf p) && o)
         go true e =
             ap passed (sym joined)
-            ∙ blank-distinct 64 (reachedOf four p ++ freeOf p) (small e)
+            ∙ blank-distinct mostTables (reachedOf four p ++ freeOf p) (small e)
             ∙ sym (and-true (distinct (reachedOf four p ++ freeOf p)))
         go false e = sym (and-false (distinct (reachedOf four p ++ freeOf p)))
 

@@ -66,14 +66,15 @@ freePass G ws n M [] = true
 freePass G ws n M (t ∷ ts) =
     ltb t n && (eqb (getD M t 0) 0 && (allZero (tableWords G ws t) && freePass G ws n (set M t 1) ts))
 
--- what is asked: a mark for each table, a table of the pool, one of four heights, and an entry of the table
+-- what a check of table t asks: a mark for each table of the pool, one of those, and the height of some level
 pub record TableFit (M : List ℕ) (n t h : ℕ) : Type 0 where
   pub marked : n ≤ length M
   pub inside : t < n
-  pub low : h < 4
+  pub low : h < four .most
 
+-- what a check of an entry asks: the same, and that entries are left
 pub record EntryFit (M : List ℕ) (n h left : ℕ) : Type 0 where
   pub marked : n ≤ length M
-  pub low : h < 4
+  pub low : h < four .most
   pub some-left : 0 < left
   pub few-left : left ≤ entries four

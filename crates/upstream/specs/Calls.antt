@@ -39,10 +39,11 @@ giving G p a = let o = walkTo G p 0 a in freed G (p .words) (o .tables) (pathOf 
 abbrev pub writesOfUnmap : Granule → Pool → ℕ → List Write
 writesOfUnmap G p a = let o = walkTo G p 0 a in unmapWrites G (o .tables) (pathOf G a) (o .left) (p .numbers .free) (giving G p a)
 
--- the answers of map and unmap are no others
+-- a number of tables taken is no refusal
 pub took-not : {t k : ℕ} → took t ≡ refused k → ⊥
 took-not e = let z : _≡_ {A = ℕ} 0 1 = cc in omega arith
 
+-- nor is a frame removed
 pub gave-not : {b s x t k : ℕ} → gave b s x t ≡ refused k → ⊥
 gave-not e = let z : _≡_ {A = ℕ} 0 1 = cc in omega arith
 

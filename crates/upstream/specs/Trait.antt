@@ -292,6 +292,7 @@ module _ (G : Granule) (Z : Sane G) where
     unfolding auditL
     view-held = accepted-holds G Z p _ _ (rests G Z (holds-sim G Z H) .audit)
 
+    -- the ledger's levels are good
     pub levels-low : G .fewest ≤ A .levels
     levels-low = rw (← H .levels-are) (H .good .numbers .enough)
 

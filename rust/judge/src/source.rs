@@ -34,7 +34,7 @@ pub struct Source {
     sweep: Option<usize>,
     /// Whether maps or unmaps are more frequent now.
     growing: bool,
-    /// The free count of a wild pool until a call is accepted with it.
+    /// The free count of a wild pool, in place of the one that its format gave.
     free: Option<u64>,
 }
 
@@ -61,9 +61,6 @@ impl Source {
             return step;
         }
         self.left -= 1;
-        if self.free.is_some_and(|free| world.setup.free == free) {
-            self.free = None;
-        }
         if self.random.percent(4) {
             self.growing = !self.growing;
         }
@@ -91,8 +88,8 @@ impl Source {
         self.kind = random.pick(&[Kind::Fresh, Kind::Fresh, Kind::Fresh, Kind::Damaged, Kind::Damaged, Kind::Wild]);
         let levels = 3 + random.below(2);
         let most = if self.kind == Kind::Wild { 8 } else { MAX_TABLES };
-        let tables = random.pick(&[1, 2, 3, 4, 5, 6, 8, 1 + random.number() % 12, 1 + random.number() % most, most]);
-        let base = random.pick(&[0, 0x4000_0000, LIMIT - 4096 * tables, random.number() % (1 << 36) * 4096 % (LIMIT / 2)]);
+        let tables = random.pick(&[1, 2, 3, 4, 5, 6, 8, 1 + random.below(12), 1 + random.below(most), most]);
+        let base = random.pick(&[0, 0x4000_0000, LIMIT - 4096 * tables, random.below(LIMIT / 2) & !4095]);
         self.left = 20 + random.below(if self.kind == Kind::Fresh { 400 } else { 100 });
         self.growing = true;
         self.sweep = None;
@@ -167,7 +164,7 @@ impl Source {
             let number = random.below(setup.tables + 1) as u32;
             self.queue.push_back(Step::Place { at, number, damage: None });
         }
-        self.free = Some(random.pick(&[random.number() % setup.tables, setup.tables - 1]));
+        self.free = Some(random.pick(&[random.below(setup.tables), setup.tables - 1]));
     }
 
     /// Some damage to the pool, and an audit after it. Most of it is mended then.
@@ -259,7 +256,9 @@ impl Source {
     /// The setup that a call goes in with: the pool's, or one that is not right.
     fn setup(&mut self, world: &World) -> Setup {
         let mut setup = world.setup;
-        setup.free = self.free.unwrap_or(setup.free);
+        if let (Some(free), true) = (self.free, setup.free + 1 == setup.tables) {
+            setup.free = free;
+        }
         if self.kind == Kind::Fresh && self.random.percent(99) || self.random.percent(92) {
             return setup;
         }

@@ -1,5 +1,4 @@
--- `table_check` and `entry_check`, which call each other, meet their contracts. A table's measure is its levels left, an entry's the levels left
--- below it and the entries left in its table.
+-- `table_check` and `entry_check`, which call each other, meet their contracts.
 use Prim.Native.Nat.{ℕ, _+_, _-_, _*_, _<_}
 use mathlib.Core.Path.{refl, sym, _∙_}
 use native.Mathlib.Omega.{arith}
@@ -21,6 +20,7 @@ use Rattle.pool.proofs.word.Reads as word-reads
 use Rattle.audit.proofs.+entry_check+table_check.{statement}
 use Rattle.audit.proofs.+entry_check+table_check.Tie.{close}
 
+-- 513 for each level left, and one for each entry left, of which a table has 512
 abbrev μ-entry-check : Measures 2 entry-check-kinds.ps ℕ
 μ-entry-check κs a = a .1 .1 .1 .1 .1 .0 * 513 + a .1 .1 .1 .1 .1 .1 .0
 

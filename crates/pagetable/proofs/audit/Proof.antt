@@ -1,0 +1,23 @@
+-- `pagetable::audit` is `audit::audit`, whose promise gives the ledger's. Assumes nothing.
+use mathlib.Core.Path.{ap}
+use borrow.Author.Needs.{needs}
+use Rattle.path.specs.Geometry.{four}
+use Rattle.path.specs.Laws.{four-sane}
+use Rattle.model.specs.Answers.{Answer, pool, done}
+use Rattle.demand.specs.Demand3.{auditC}
+use Rattle.demand.specs.Clauses.{by-ledger}
+use Rattle.pagetable.proofs.audit.Statement.{statement}
+use Rattle.pagetable.proofs.audit.Tie as tie
+
+audit-requires : tie.Need-audit-requires
+audit-requires c κs = search needs
+
+returns : tie.Need-returns
+returns c =
+    let e = c .audit .ensures in
+    let a = c .before .before .before .args in
+    let p = pool (a .s) (a .words .now) (a .list .now) in
+    (e, by-ledger four four-sane p auditC _ (ap (λ (x : Answer). done x p) e))
+
+pub audit-spec : {M : Type 1} → statement M
+audit-spec = tie.close (tie.spec audit-requires returns)

@@ -1,0 +1,25 @@
+-- `pagetable::format` is `change::format`, whose promise gives the ledger's. Assumes nothing.
+use borrow.Author.Needs.{needs}
+use Rattle.path.specs.Geometry.{four}
+use Rattle.path.specs.Laws.{four-sane}
+use Rattle.demand.specs.Clauses.{format-by-ledger}
+use Rattle.pagetable.proofs.format.Statement.{statement}
+use Rattle.pagetable.proofs.format.Tie as tie
+
+format-requires : tie.Need-format-requires
+format-requires c κs = search needs
+
+same-length : tie.Need-same-length
+same-length c = search needs
+
+same-length-2 : tie.Need-same-length-2
+same-length-2 c = search needs
+
+returns : tie.Need-returns
+returns c =
+    let e = c .before .before .before .before .format .ensures in
+    let a = c .before .before .before .before .before .before .before .before .before .args in
+    (e, format-by-ledger four four-sane (a .words .now) (a .list .now) (a .levels) (a .base) (a .tables) _ e)
+
+pub format-spec : {M : Type 1} → statement M
+format-spec = tie.close (tie.spec format-requires same-length same-length-2 returns)

@@ -1,0 +1,24 @@
+-- `pagetable::map` is `change::map`, whose promise gives the ledger's. Assumes nothing.
+use borrow.Author.Needs.{needs}
+use Rattle.path.specs.Geometry.{four}
+use Rattle.path.specs.Laws.{four-sane}
+use Rattle.model.specs.Answers.{pool}
+use Rattle.demand.specs.Demand3.{mapC}
+use Rattle.demand.specs.Clauses.{by-ledger}
+use Rattle.pagetable.proofs.map.Statement.{statement}
+use Rattle.pagetable.proofs.map.Tie as tie
+
+map-requires : tie.Need-map-requires
+map-requires c κs = search needs
+
+same-length : tie.Need-same-length
+same-length c = search needs
+
+returns : tie.Need-returns
+returns c =
+    let e = c .before .before .map .ensures in
+    let a = c .before .before .before .before .before .before .args in
+    (e, by-ledger four four-sane (pool (a .s) (a .words .now) (a .list .now)) (mapC (a .address) (a .frame) (a .size) (a .attributes)) _ e)
+
+pub map-spec : {M : Type 1} → statement M
+map-spec = tie.close (tie.spec map-requires same-length returns)
