@@ -1,0 +1,68 @@
+-- The hardware's walk, computed: over the pool of document 01's cases 1 to 4, and one device page more.
+use Prim.Native.Nat.{ℕ, _-_, _/_}
+use mathlib.Core.Path.{_≡_, refl}
+use mathlib.Core.Bool.{true, false, cond}
+use mathlib.Core.List.{List}
+use mathlib.Core.Option.{Option, some, none}
+use lib.Dec.{leb}
+use lib.ListN.{length, getD}
+use Rattle.path.specs.Geometry.{four}
+use Rattle.model.specs.Cases.{Both, format, map}
+use Rattle.demand.specs.Demand3.{mapC}
+use Rattle.hardware.specs.Machine.{Translation, walk, stage2, zerosFrom, singles, writesOf}
+use Rattle.hardware.specs.Machine.{nGnRE, writeBack, device, normal, outerShareable, innerShareable}
+
+-- the cases, and a device page beside them
+abbrev pages : Both
+pages = map (map (map format 0 0x80000000 4096 3) 0x1000 0x80001000 4096 5) 0x200000 0x80200000 0x200000 3
+
+abbrev all : Both
+all = map pages 0x3000 0x9000000 4096 11
+
+-- a memory with these words from 0x40000000 on, and zeros elsewhere
+abbrev memoryOf : List ℕ → ℕ → ℕ
+memoryOf ws p = cond (leb 0x40000000 p) (getD ws ((p - 0x40000000) / 8) 0) 0
+
+abbrev translated : ℕ → Option Translation
+translated a = stage2 four 3 0x40000000 (λ _. memoryOf (all .pool .after .words)) a
+
+pub record Examples : Type 0 where
+  -- in a page that may be read and run
+  pub page : translated 0x1ABC ≡ some (record {
+    address = 0x80001ABC;
+    readable = true;
+    writable = false;
+    runsAtEL1 = true;
+    runsAtEL0 = true;
+    kind = normal writeBack writeBack;
+    shared = innerShareable;
+  })
+  -- in a block of 2 MiB that may be read and written
+  pub block : translated 0x201234 ≡ some (record {
+    address = 0x80201234;
+    readable = true;
+    writable = true;
+    runsAtEL1 = false;
+    runsAtEL0 = false;
+    kind = normal writeBack writeBack;
+    shared = innerShareable;
+  })
+  -- in a device page
+  pub radio : translated 0x3008 ≡ some (record {
+    address = 0x9000008;
+    readable = true;
+    writable = true;
+    runsAtEL1 = false;
+    runsAtEL0 = false;
+    kind = device nGnRE;
+    shared = outerShareable;
+  })
+  -- where nothing is mapped, and past the space
+  pub hole : translated 0x2000 ≡ none
+  pub past : translated 0x8000000000 ≡ none
+  -- the single writes of case 2: two tables wiped and linked, and the frame's word
+  pub writes : length (writesOf four (format .pool .after) (mapC 0 0x80000000 4096 3)) ≡ 1027
+
+pub examples : Examples
+unfolding format map walk zerosFrom singles
+examples = record { page = refl; block = refl; radio = refl; hole = refl; past = refl; writes = refl }

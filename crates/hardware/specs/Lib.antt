@@ -1,0 +1,12 @@
+pub mod Machine
+pub mod Fields
+pub mod Trees
+pub mod Mixed
+pub mod Plans
+pub mod Links
+pub mod Views
+pub mod Watch
+pub mod MapSeen
+pub mod UnmapSeen
+pub mod Theorem
+pub mod Examples

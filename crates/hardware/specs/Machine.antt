@@ -1,0 +1,325 @@
+-- The machine beside us: what the Arm stage 2 hardware makes of a pool's words, what a ledger says of an address, and the promise that the two
+-- agree, at rest and after every single write of every call.
+--
+-- The hardware's walk is written from the bit fields of the Arm Architecture Reference Manual (VMSAv8-64, stage 2) and uses nothing of our own
+-- reading of a word. It is that of 48-bit output addresses, the access flag and dirty state not managed by hardware (VTCR_EL2.HA and HD are 0),
+-- MemAttr as without HCR_EL2.FWB, XN as with FEAT_XNX (without it bit 53, which our words never set, is not read). What stage 1 makes of an
+-- address before, and what it adds to the attributes, is not said.
+--
+-- Not said either: a contract fixes the lent memory at a call's end, and not in which order the compiled stores are made (the promise holds for any
+-- order); a 64-bit store is taken to be seen whole or not at all, and of two stores to one word the later one to stay; and what was read before
+-- may be kept by a TLB, or by a walk that is still under way while a later call uses a table again, until the host has it dropped.
+use Prim.Native.Nat.{ℕ, zero, suc, _+_, _-_, _*_, _/_, _%_, _^_, _≤_, _<_}
+use mathlib.Core.Path.{_≡_}
+use mathlib.Core.Logic.{_⊎_}
+use mathlib.Core.Bool.{Bool, true, false, cond}
+use mathlib.Core.List.{List, [], _∷_, _++_}
+use mathlib.Core.Option.{Option, some, none, Option·map}
+use lib.Dec.{ltb, leb, eqb}
+use lib.ListN.{length, getD, take}
+use Rattle.path.specs.Geometry.{Granule, entries, heightOf}
+use Rattle.path.specs.Paths.{pathOf}
+use Rattle.path.specs.declared.Setup.{Setup}
+use Rattle.entry.specs.Words.{frameWord}
+use Rattle.model.specs.Answers.{Mapping, mapping, Answer, formatted, took, gave, found, audited, refused, Pool}
+use Rattle.model.specs.Walk.{slot, atHeight}
+use Rattle.model.specs.Writes.{Write, store, wipe, give, memory, performAll, mapWrites, unmapWrites}
+use Rattle.model.specs.Calls.{walkTo}
+use Rattle.model.specs.Ledger.{Ledger, holdsAddress, coverOf}
+use Rattle.demand.specs.Holds.{Holds}
+use Rattle.demand.specs.Demand3.{Call, formatC, mapC, unmapC, queryC, auditC, stepW, stepL, poolAfter, ledgerAfter}
+
+-- ---- the hardware
+
+-- n bits of a word or of an address, from bit i upward
+abbrev pub bits : ℕ → ℕ → ℕ → ℕ
+bits i n w = w / 2 ^ i % 2 ^ n
+
+-- Device memory: whether accesses are gathered, whether they are reordered, whether writes are acknowledged early
+pub data Device : Type 0 where
+  nGnRnE : Device
+  nGnRE : Device
+  nGRE : Device
+  GRE : Device
+
+-- how the caches treat Normal memory
+pub data Cached : Type 0 where
+  reserved : Cached
+  nonCacheable : Cached
+  writeThrough : Cached
+  writeBack : Cached
+
+pub data Kind : Type 0 where
+  device : Device → Kind
+  -- in the outer caches, in the inner ones
+  normal : Cached → Cached → Kind
+
+pub data Shared : Type 0 where
+  nonShareable : Shared
+  unpredictable : Shared
+  outerShareable : Shared
+  innerShareable : Shared
+
+-- what an address is translated to
+pub record Translation : Type 0 where
+  pub address : ℕ
+  pub readable : Bool
+  pub writable : Bool
+  pub runsAtEL1 : Bool
+  pub runsAtEL0 : Bool
+  pub kind : Kind
+  pub shared : Shared
+
+-- MemAttr[1:0] of Device memory
+abbrev pub deviceOf : ℕ → Device
+deviceOf zero = nGnRnE
+deviceOf (suc zero) = nGnRE
+deviceOf (suc (suc zero)) = nGRE
+deviceOf (suc (suc (suc n))) = GRE
+
+-- MemAttr[3:2] and MemAttr[1:0] of Normal memory
+abbrev pub cachedOf : ℕ → Cached
+cachedOf zero = reserved
+cachedOf (suc zero) = nonCacheable
+cachedOf (suc (suc zero)) = writeThrough
+cachedOf (suc (suc (suc n))) = writeBack
+
+-- MemAttr[3:2] and MemAttr[1:0]: it is Device memory where the first is 00
+abbrev pub kindOf : ℕ → ℕ → Kind
+kindOf zero low = device (deviceOf low)
+kindOf (suc high) low = normal (cachedOf (suc high)) (cachedOf low)
+
+-- SH
+abbrev pub shareOf : ℕ → Shared
+shareOf zero = nonShareable
+shareOf (suc zero) = unpredictable
+shareOf (suc (suc zero)) = outerShareable
+shareOf (suc (suc (suc n))) = innerShareable
+
+-- Device memory is outer shareable whatever SH says
+abbrev pub sharedOf : Kind → ℕ → Shared
+sharedOf (device d) sh = outerShareable
+sharedOf (normal o i) sh = shareOf sh
+
+-- what a word makes of a walk: a fault, a translation, or the address of the table to go on to
+pub data Step : Type 0 where
+  fault : Step
+  hit : Translation → Step
+  next : ℕ → Step
+
+-- A word of height h stands for an address's bits from this one upward: with 4 KiB 12, 21, 30 and 39. (An entry of the last level has height 0.)
+abbrev pub shift : Granule → ℕ → ℕ
+shift G h = G .page + G .index * h
+
+-- A page or a block, for address a. Bit 10 is the access flag; without it the access faults. The output address is bits 47 down to the height's
+-- own; bit 6 lets read and bit 7 write (S2AP); bits 54:53 are XN (00 lets both run, 01 EL0 alone, 10 none, 11 EL1 alone); bits 5:2 are MemAttr;
+-- bits 9:8 are SH.
+abbrev pub leaf : Granule → ℕ → ℕ → ℕ → Step
+leaf G a h w =
+    cond (eqb (bits 10 1 w) 1)
+    (hit (record {
+      address = bits (shift G h) (48 - shift G h) w * 2 ^ shift G h + a % 2 ^ shift G h;
+      readable = eqb (bits 6 1 w) 1;
+      writable = eqb (bits 7 1 w) 1;
+      runsAtEL1 = eqb (bits 54 1 w) (bits 53 1 w);
+      runsAtEL0 = eqb (bits 54 1 w) 0;
+      kind = kindOf (bits 4 2 w) (bits 2 2 w);
+      shared = sharedOf (kindOf (bits 4 2 w) (bits 2 2 w)) (bits 8 2 w);
+    }))
+    fault
+
+-- Bit 1 of a valid word tells, at the last level, a page from nothing, and above it a table from a block. A table's address is bits 47:12. There is
+-- no block larger than 1 GiB. (12 and 1 GiB are those of the 4 KiB granule.)
+abbrev pub valid : Granule → ℕ → ℕ → ℕ → Step
+valid G a zero w = cond (eqb (bits 1 1 w) 1) (leaf G a zero w) fault
+valid G a (suc h) w =
+    cond (eqb (bits 1 1 w) 1)
+    (next (bits (G .page) (48 - G .page) w * 2 ^ G .page))
+    (cond (leb (suc h) (G .large)) (leaf G a (suc h) w) fault)
+
+-- bit 0 tells whether a word is valid
+abbrev pub stepBy : Granule → ℕ → ℕ → ℕ → Step
+stepBy G a h w = cond (eqb (bits 0 1 w) 1) (valid G a h w) fault
+
+abbrev pub onStep : Step → (ℕ → Option Translation) → Option Translation
+onStep fault go = none
+onStep (hit t) go = some t
+onStep (next b) go = go b
+
+-- The walk for address a from the table at address b, whose words have height h; `none` is a fault. `mem h` is the memory, in 64-bit words by
+-- their addresses, as it is when the word of height h is read.
+unfoldable pub walk : Granule → (ℕ → ℕ → ℕ) → ℕ → ℕ → ℕ → Option Translation
+walk G mem a zero b = onStep (stepBy G a zero (mem zero (b + 8 * bits (shift G zero) (G .index) a))) (λ _. none)
+walk G mem a (suc h) b =
+    onStep (stepBy G a (suc h) (mem (suc h) (b + 8 * bits (shift G (suc h)) (G .index) a))) (λ c. walk G mem a h c)
+
+-- The translation of address a by a tree of so many levels, its root at address b. Four levels start at level 0, three at level 1. An address with
+-- a bit above those of the first index faults.
+abbrev pub stage2 : Granule → ℕ → ℕ → (ℕ → ℕ → ℕ) → ℕ → Option Translation
+stage2 G levels b mem a = cond (ltb a (2 ^ shift G levels)) (walk G mem a (levels - 1) b) none
+
+-- in this memory the words stand from address b on, eight bytes each; elsewhere anything stands
+abbrev pub Stands : ℕ → List ℕ → (ℕ → ℕ) → Type 0
+Stands b ws mem = (i : ℕ) → i < length ws → mem (b + 8 * i) ≡ getD ws i 0
+
+-- ---- the ledger
+
+-- the memory that the attribute 8, device, asks for: Device-nGnRE
+abbrev pub deviceKind : Kind
+deviceKind = device nGnRE
+
+-- and that of other mappings: Normal, write-back
+abbrev pub normalKind : Kind
+normalKind = normal writeBack writeBack
+
+-- what a mapping says of an address in it: attribute 1 is read, 2 write, 4 execute, 8 device
+abbrev pub saysOf : ℕ → Mapping → Translation
+saysOf a m = record {
+  address = m .frame + (a - m .at);
+  readable = eqb (m .attributes % 2) 1;
+  writable = eqb (m .attributes / 2 % 2) 1;
+  runsAtEL1 = eqb (m .attributes / 4 % 2) 1;
+  runsAtEL0 = eqb (m .attributes / 4 % 2) 1;
+  kind = cond (eqb (m .attributes / 8 % 2) 1) deviceKind normalKind;
+  shared = cond (eqb (m .attributes / 8 % 2) 1) outerShareable innerShareable;
+}
+
+-- what live mappings say of an address: what the one that holds it says, and a fault where none does
+abbrev pub told : List Mapping → ℕ → Option Translation
+told L a = Option·map (saysOf a) (coverOf a L)
+
+-- the hardware, set up with a pool's levels and base, translates every address as these mappings say
+abbrev pub Reads : Granule → Setup → (ℕ → ℕ → ℕ) → List Mapping → Type 0
+Reads G s mem L = (a : ℕ) → stage2 G (s .levels) (s .base) mem a ≡ told L a
+
+-- ---- a call's single writes
+
+-- k words from place i on to 0, one after the other
+unfoldable pub zerosFrom : ℕ → ℕ → List Write
+zerosFrom i zero = []
+zerosFrom i (suc k) = store i 0 ∷ zerosFrom (suc i) k
+
+-- k free-list places from place i on: k - 1 down to 0
+unfoldable pub placesFrom : ℕ → ℕ → List Write
+placesFrom i zero = []
+placesFrom i (suc k) = give i k ∷ placesFrom (suc i) k
+
+-- a planned write as single writes: a table is filled with zeros word by word
+abbrev pub single : Granule → Write → List Write
+single G (store i x) = store i x ∷ []
+single G (wipe t) = zerosFrom (slot G t 0) (entries G)
+single G (give i t) = give i t ∷ []
+
+unfoldable pub singles : Granule → List Write → List Write
+singles G [] = []
+singles G (w ∷ ws) = single G w ++ singles G ws
+
+-- whether an answer is no refusal
+abbrev pub accepts : Answer → Bool
+accepts formatted = true
+accepts (took t) = true
+accepts (gave b s k t) = true
+accepts (found m) = true
+accepts (audited t m) = true
+accepts (refused k) = false
+
+-- the tables that an answer says were taken or given back
+abbrev pub tablesIn : Answer → ℕ
+tablesIn formatted = 0
+tablesIn (took t) = t
+tablesIn (gave b s k t) = t
+tablesIn (found m) = 0
+tablesIn (audited t m) = 0
+tablesIn (refused k) = 0
+
+-- the single writes of an accepted call that takes or gives back t tables
+abbrev pub plan : Granule → Pool → Call → ℕ → List Write
+plan G p (formatC levels base tables) t = zerosFrom 0 (length (p .words)) ++ placesFrom 0 tables
+plan G p (mapC a b size k) t =
+    let g = heightOf G size in
+    let o = walkTo G p g a in
+    singles G
+    (mapWrites G (p .numbers .base) (pathOf G a) (p .list) g (frameWord b g k) (atHeight (o .tables) (o .left)) (p .numbers .free) t)
+plan G p (unmapC a) t =
+    let o = walkTo G p 0 a in singles G (unmapWrites G (o .tables) (pathOf G a) (o .left) (p .numbers .free) t)
+plan G p (queryC a) t = []
+plan G p auditC t = []
+
+-- a refused call writes nothing
+abbrev pub writesOf : Granule → Pool → Call → List Write
+writesOf G p c = let answer = stepW G p c .answer in cond (accepts answer) (plan G p c (tablesIn answer)) []
+
+-- the pool's words after these writes
+abbrev pub wordsAfter : Granule → Pool → List Write → List ℕ
+wordsAfter G p ws = performAll G ws (memory (p .words) (p .list)) .words
+
+-- the part of a list of writes that has become visible, told write by write; past the end of what is told nothing has
+abbrev pub visible : List Bool → List Write → List Write
+visible [] ws = []
+visible (b ∷ bs) [] = []
+visible (true ∷ bs) (w ∷ ws) = w ∷ visible bs ws
+visible (false ∷ bs) (w ∷ ws) = visible bs ws
+
+-- ---- the promise
+
+-- single writes ws to the pool p that take its live mappings from L to L′
+module _ (G : Granule) (p : Pool) (L L′ : List Mapping) (ws : List Write) where
+  -- this memory holds the pool's words as they are after some of the writes
+  abbrev Shows : List Write → (ℕ → ℕ) → Type 0
+  Shows xs mem = Stands (p .numbers .base) (wordsAfter G p xs) mem
+
+  -- after each write: up to one of them every address reads as before the call, and from that one on every address reads as after it
+  pub record Switch : Type 0 where
+    pub at : ℕ
+    pub old : (j : ℕ) → j ≤ at → (mem : ℕ → ℕ) → Shows (take j ws) mem → Reads G (p .numbers) (λ _. mem) L
+    pub new : (j : ℕ) → at < j → (mem : ℕ → ℕ) → Shows (take j ws) mem → Reads G (p .numbers) (λ _. mem) L′
+
+  -- in any order: where any part of the writes has become visible, every address reads as before the call, or every address as after it
+  abbrev pub AnyOrder : Type 0
+  AnyOrder =
+      (seen : List Bool) (mem : ℕ → ℕ) → Shows (visible seen ws) mem → Reads G (p .numbers) (λ _. mem) L ⊎ Reads G (p .numbers) (λ _. mem) L′
+
+  -- overtaken: a walk that reads the word of each height at a time of its own, when some part of the writes has become visible (the first j of them
+  -- are such a part), gives what its address read before the call, or what it reads after it
+  abbrev pub Overtaken : Type 0
+  Overtaken =
+      (seen : ℕ → List Bool) (mem : ℕ → ℕ → ℕ) → ((h : ℕ) → Shows (visible (seen h) ws) (mem h))
+      → (a : ℕ) → let t = stage2 G (p .numbers .levels) (p .numbers .base) mem a in (t ≡ told L a) ⊎ (t ≡ told L′ a)
+
+-- a call whose writes change what is read at once: any but format, which clears the words one after the other, so that its addresses fault in turn
+abbrev pub AtOnce : Call → Type 0
+AtOnce (formatC levels base tables) = ⊥
+AtOnce (mapC a b size k) = Unit {0}
+AtOnce (unmapC a) = Unit {0}
+AtOnce (queryC a) = Unit {0}
+AtOnce auditC = Unit {0}
+
+-- whether a mapping, if there is one, holds an address
+abbrev pub heldBy : ℕ → Option Mapping → Bool
+heldBy x none = false
+heldBy x (some m) = holdsAddress x m
+
+-- whether a call may change what an address reads: map those of its range, unmap those of the mapping that holds its address, format all
+abbrev pub concerns : Ledger → Call → ℕ → Bool
+concerns A (formatC levels base tables) x = true
+concerns A (mapC a b size k) x = holdsAddress x (mapping a b size k)
+concerns A (unmapC a) x = heldBy x (coverOf a (A .live))
+concerns A (queryC a) x = false
+concerns A auditC x = false
+
+-- the call c on a pool p that holds the ledger A
+pub record Machine (G : Granule) (p : Pool) (A : Ledger) (c : Call) : Type 0 where
+  -- at rest every address, past the space too, reads as the ledger says
+  pub rest : (mem : ℕ → ℕ) → Stands (p .numbers .base) (p .words) mem → Reads G (p .numbers) (λ _. mem) (A .live)
+  -- the call's single writes, one after the other, are what it does to the lent memory
+  pub whole : performAll G (writesOf G p c) (memory (p .words) (p .list)) ≡ memory (stepW G p c .after .words) (stepW G p c .after .list)
+  -- after each of them, in whatever order they become visible, and while a walk is under way, the ledger is read, or the one after the call
+  pub each-write : AtOnce c → Switch G p (A .live) (stepL G A c .after .live) (writesOf G p c)
+  pub any-order : AtOnce c → AnyOrder G p (A .live) (stepL G A c .after .live) (writesOf G p c)
+  pub overtaken : Overtaken G p (A .live) (stepL G A c .after .live) (writesOf G p c)
+  -- and outside the mapping concerned the two say the same
+  pub outside : (x : ℕ) → concerns A c x ≡ false → told (stepL G A c .after .live) x ≡ told (A .live) x
+
+-- for a pool that holds a ledger, as that of a fresh format and every pool that the audit accepts do: after any calls, for any call next
+abbrev pub Promise : Granule → Type 0
+Promise G = (p : Pool) (A : Ledger) → Holds G p A → (cs : List Call) (c : Call) → Machine G (poolAfter G p cs) (ledgerAfter G A cs) c

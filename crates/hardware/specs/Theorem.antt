@@ -1,0 +1,212 @@
+-- The promise of Machine is kept: for every call after any calls, from any pool that holds a ledger.
+use mathlib.Core.Path.{_≡_, refl, ap, sym, _∙_, subst}
+use mathlib.Core.Logic.{_≢_, inl}
+use mathlib.Core.Bool.{Bool, true, false, cond}
+use mathlib.Core.List.{List, [], _∷_, _++_, map}
+use Prim.Native.Nat.{ℕ, zero, suc, _-_, _<_}
+use native.Mathlib.Omega.{arith}
+use lib.ListN.{length, take, replicate}
+use Rattle.laws.specs.Lists.{down}
+use Rattle.laws.specs.ListLaws.{allZero-at, allZero-replicate, getD-down}
+use Rattle.path.specs.Geometry.{Granule, Sane, four}
+use Rattle.path.specs.Laws.{four-sane}
+use Rattle.path.specs.Numbers.{GoodNumbers}
+use Rattle.model.specs.Answers.{Mapping, mapping, Answer, Pool, Done}
+use Rattle.model.specs.Walk.{slot}
+use Rattle.model.specs.Writes.{Write, Memory, memory, performAll}
+use Rattle.model.specs.Ledger.{Ledger, coverOf, dropAt}
+use Rattle.tree.specs.Region.{Same, same?, upd, upd-at, upd-other}
+use Rattle.tree.specs.Tree.{Ent, empty, table, table≢empty}
+use Rattle.tree.specs.Inv.{Inv}
+use Rattle.tree.specs.Fresh.{T₀, S₀, fresh}
+use Rattle.demand.specs.Shown.{shown}
+use Rattle.demand.specs.Memories.{readAt, placeAt}
+use Rattle.demand.specs.Sims.{Sim, holds-sim}
+use Rattle.demand.specs.Queries.{n, k₀, X, R, own, ledger-is, root-at}
+use Rattle.demand.specs.Maps.{own-sim}
+use Rattle.demand.specs.Theorem.{step-alike, after-sim}
+use Rattle.demand.specs.Demand3.{Call, formatC, mapC, unmapC, queryC, auditC, stepW, stepL}
+use Rattle.hardware.specs.Machine.{told, Stands, Reads, zerosFrom, placesFrom, accepts, tablesIn, plan, writesOf, wordsAfter, visible}
+use Rattle.hardware.specs.Machine.{AtOnce, concerns, Machine, Promise}
+use Rattle.hardware.specs.Trees.{Within, within-same}
+use Rattle.hardware.specs.Plans.{Each, each-append, each-zeros, Sound, Clears, clears-sound, places-clear}
+use Rattle.hardware.specs.Views.{no-write, MapView, map-takes, map-refuses, map-view, UnmapView, unmap-gives, unmap-refuses, unmap-view}
+use Rattle.hardware.specs.Views.{FormatView, format-clears, format-refuses, format-view, format-carries}
+use Rattle.hardware.specs.Views.{writes-carried, map-live, unmap-live, format-live}
+use Rattle.hardware.specs.Watch.{Seen, at-rest, overtaken-up, overtaken-down}
+use Rattle.hardware.specs.MapSeen.{map-seen}
+use Rattle.hardware.specs.UnmapSeen.{unmap-seen, unmap-outside}
+
+-- the live mappings after a call, by its answer
+abbrev liveBy : List Mapping → Call → Answer → List Mapping
+liveBy L (formatC levels base tables) r = cond (accepts r) [] L
+liveBy L (mapC a b size k) r = cond (accepts r) (mapping a b size k ∷ L) L
+liveBy L (unmapC a) r = cond (accepts r) (dropAt a L) L
+liveBy L (queryC a) r = L
+liveBy L auditC r = L
+
+live-by : (G : Granule) (A : Ledger) (c : Call) → stepL G A c .after .live ≡ liveBy (A .live) c (stepL G A c .answer)
+live-by G A (formatC levels base tables) = format-live G A levels base tables
+live-by G A (mapC a b size k) = map-live G A a b size k
+live-by G A (unmapC a) = unmap-live G A a
+live-by G A (queryC a) = refl
+live-by G A auditC = refl
+
+module _ (G : Granule) (Z : Sane G) {p : Pool} {A : Ledger} (I : Sim G Z p A) where
+  abbrev live : List Mapping
+  live = map (shown G Z) (I .L)
+
+  -- without a write nothing changes
+  still : (mem : ℕ → ℕ) (ws : List Write) → ws ≡ [] → Stands (p .numbers .base) (wordsAfter G p ws) mem → Reads G (p .numbers) (λ _. mem) live
+  unfolding performAll
+  still mem ws e S = at-rest G Z I mem (subst (λ (l : List Write). Stands (p .numbers .base) (wordsAfter G p l) mem) e S)
+
+  idle : (One : Type 0) → Seen G p live live [] One
+  idle One = record {
+    each-write = λ _. record { at = 0; old = λ j l mem S. still mem (take j []) (none j) S; new = λ j l mem S. still mem (take j []) (none j) S };
+    any-order = λ _ seen mem S. inl (still mem (visible seen []) (hidden seen) S);
+    overtaken = overtaken-up G Z I (p .words) (R G Z I) (I .inv .holds) [] tt within-same;
+  }
+    where
+      none : (j : ℕ) → take {A = Write} j [] ≡ []
+      none zero = refl
+      none (suc j) = refl
+
+      hidden : (seen : List Bool) → visible seen [] ≡ []
+      hidden [] = refl
+      hidden (b ∷ bs) = refl
+
+  idle-or : (b : Bool) (One : Type 0) → Seen G p live live (cond b [] []) One
+  idle-or b One = subst (λ (ws : List Write). Seen G p live live ws One) (sym (no-write b)) (idle One)
+
+  -- format: the words go to 0 one after the other, and with them the tree that only its root is left of
+  module _ (levels base tables : ℕ) (N : GoodNumbers G levels base tables (length (p .words)) (length (p .list))) where
+    abbrev zeros : List ℕ
+    zeros = replicate (length (p .words)) 0
+
+    abbrev ws : List Write
+    ws = zerosFrom 0 (length (p .words)) ++ placesFrom 0 tables
+
+    some : 0 < n G Z I
+    some = I .good .numbers .some-table
+
+    -- the root alone
+    abbrev T₁ : ℕ → ℕ → ℕ
+    T₁ = T₀ (X G Z I) (k₀ G Z I) (root-at G Z I) some
+
+    abbrev S₁ : ℕ → ℕ → Ent
+    S₁ = S₀ (X G Z I) (k₀ G Z I) (root-at G Z I) some
+
+    zero-words : (t i : ℕ) → readAt G zeros t i ≡ 0
+    zero-words t i = allZero-at zeros (allZero-replicate (length (p .words))) (slot G t i)
+
+    bare : Inv (X G Z I) (readAt G zeros) (placeAt (down (n G Z I))) (n G Z I - 1) T₁ S₁ [] (p .numbers .levels) 0
+    bare =
+        fresh (X G Z I) (k₀ G Z I) (root-at G Z I) some (readAt G zeros) (placeAt (down (n G Z I))) zero-words
+        (λ i l. getD-down (n G Z I) i (omega arith))
+
+    within : Within T₁ S₁ (I .T) (I .S)
+    within = record { stays = λ h r d. stays h r d (same? top 0 h r); number = λ h r e. number h r e (same? top 0 h r) }
+      where
+        top : ℕ
+        top = p .numbers .levels
+
+        E₀ : ℕ → ℕ → Ent
+        E₀ = λ _ _. empty
+
+        stays : (h r : ℕ) → upd E₀ top 0 table h r ≢ empty → Dec (Same top 0 h r) → I .S h r ≡ upd E₀ top 0 table h r
+        stays h r d (yes s) =
+            let e = R G Z I .root in
+            let q = s .0 in
+            let z = s .1 in
+            let u : I .S h r ≡ table = cc in
+            u ∙ sym (upd-at E₀ top 0 table h r s)
+        stays h r d (no s) = absurd (d (upd-other E₀ top 0 table h r s))
+
+        number : (h r : ℕ) → upd E₀ top 0 table h r ≡ table → Dec (Same top 0 h r) → I .T h r ≡ 0
+        number h r e (yes s) = let u = R G Z I .root-at in let q = s .0 in let z = s .1 in cc
+        number h r e (no s) = absurd (table≢empty e (upd-other E₀ top 0 table h r s))
+
+    clears : Each Clears ws
+    clears =
+        each-append Clears (zerosFrom 0 (length (p .words))) (placesFrom 0 tables)
+        (each-zeros Clears 0 (length (p .words)) (λ j _ _. refl)) (places-clear tables 0)
+
+    sound : Each (Sound (p .words) zeros) ws
+    sound =
+        subst (λ (z : List ℕ). Each (Sound (p .words) z) ws) (ap (λ (m : Memory). m .words) (format-carries G p levels base tables _ (format-clears N)))
+        (clears-sound G (p .words) ws clears (memory (p .words) (p .list)))
+
+    format-seen : Seen G p live [] ws ⊥
+    format-seen = record {
+      each-write = λ z. absurd z;
+      any-order = λ z. absurd z;
+      overtaken = overtaken-down G Z I zeros (bare .ren) (bare .holds) ws sound within;
+    }
+
+  -- every call, by its answer
+  abbrev By : Call → Done → Type 0
+  By c d = Seen G p live (liveBy live c (d .answer)) (cond (accepts (d .answer)) (plan G p c (tablesIn (d .answer))) []) (AtOnce c)
+
+  seen : (c : Call) → By c (stepW G p c)
+  seen (formatC levels base tables) = go (stepW G p (formatC levels base tables)) (format-view G p levels base tables)
+    where
+      go : (d : Done) → FormatView G p levels base tables d → By (formatC levels base tables) d
+      go d (format-clears N) = format-seen levels base tables N
+      go d format-refuses = idle ⊥
+  seen (mapC a b size k) = go (stepW G p (mapC a b size k)) (map-view G p a b size k)
+    where
+      go : (d : Done) → MapView G p a b size k d → By (mapC a b size k) d
+      go d (map-takes Y) = map-seen G Z I a b size k Y (Unit {0})
+      go d (map-refuses j) = idle (Unit {0})
+  seen (unmapC a) = go (stepW G p (unmapC a)) (unmap-view G p a)
+    where
+      go : (d : Done) → UnmapView G p a d → By (unmapC a) d
+      go d (unmap-gives b k Y) = unmap-seen G Z I a b k Y (Unit {0})
+      go d (unmap-refuses j) = idle (Unit {0})
+  seen (queryC a) = idle-or (accepts (stepW G p (queryC a) .answer)) (Unit {0})
+  seen auditC = idle-or (accepts (stepW G p auditC .answer)) (Unit {0})
+
+  -- and outside the mapping concerned
+  elsewhere : (c : Call) (x : ℕ) → concerns (own G Z I) c x ≡ false → told (liveBy live c (stepW G p c .answer)) x ≡ told live x
+  unfolding coverOf
+  elsewhere (formatC levels base tables) x e = let z : _≡_ {A = ℕ} 0 1 = cc in absurd (omega arith)
+  elsewhere (mapC a b size k) x e = go (accepts (stepW G p (mapC a b size k) .answer))
+    where
+      go : (y : Bool) → told (cond y (mapping a b size k ∷ live) live) x ≡ told live x
+      go true = rw e
+      go false = refl
+  elsewhere (unmapC a) x e = go (stepW G p (unmapC a)) (unmap-view G p a)
+    where
+      go : (d : Done) → UnmapView G p a d → told (cond (accepts (d .answer)) (dropAt a live) live) x ≡ told live x
+      go d (unmap-gives b k Y) = unmap-outside G Z I a b k Y x e
+      go d (unmap-refuses j) = refl
+  elsewhere (queryC a) x e = refl
+  elsewhere auditC x e = refl
+
+  -- the ledger's mappings after the call
+  after-is : (c : Call) → liveBy live c (stepW G p c .answer) ≡ stepL G (own G Z I) c .after .live
+  after-is c = ap (liveBy live c) (step-alike G Z (own-sim G Z I) c .answer) ∙ sym (live-by G (own G Z I) c)
+
+  machine-own : (c : Call) → Machine G p (own G Z I) c
+  machine-own c = record {
+    rest = at-rest G Z I;
+    whole = writes-carried G p c;
+    each-write = S .each-write;
+    any-order = S .any-order;
+    overtaken = S .overtaken;
+    outside = λ x e. ap (λ (L : List Mapping). told L x) (sym (after-is c)) ∙ elsewhere c x e;
+  }
+    where
+      S : Seen G p live (stepL G (own G Z I) c .after .live) (writesOf G p c) (AtOnce c)
+      S = subst (λ (L : List Mapping). Seen G p live L (writesOf G p c) (AtOnce c)) (after-is c) (seen c)
+
+  pub machine : (c : Call) → Machine G p A c
+  machine c = subst (λ (B : Ledger). Machine G p B c) (sym (ledger-is G Z I)) (machine-own c)
+
+-- for every sane granule, so for three and four levels of 4 KiB
+pub promise : (G : Granule) → Sane G → Promise G
+promise G Z p A H cs c = machine G Z (after-sim G Z cs (holds-sim G Z H)) c
+
+pub promise-four : Promise four
+promise-four = promise four four-sane

@@ -1,0 +1,304 @@
+-- What an accepted call has found, on any pool; that its single writes are what it does to the lent memory; and the ledger after it, by its answer.
+use mathlib.Core.Path.{_≡_, refl, ap, sym, _∙_, subst}
+use mathlib.Core.Bool.{Bool, true, false, cond}
+use mathlib.Core.List.{List, [], _∷_, _++_, append-nil}
+use mathlib.Core.Option.{Option, some, none}
+use Prim.Native.Nat.{ℕ, _+_, _-_, _*_, _%_, _≤_}
+use native.Mathlib.Omega.{arith}
+use lib.Dec.{ltb, eqb}
+use lib.ListN.{length, replicate, drop-of-length-le}
+use borrow.Author.Tests.{ltb-false, eqb-true}
+use Rattle.laws.specs.Lists.{zeroed, down}
+use Rattle.laws.specs.ListLaws.{zeroed-is}
+use Rattle.path.specs.Geometry.{Granule, entries, sizeAt, heightOf}
+use Rattle.path.specs.Numbers.{goodNumbers, GoodNumbers}
+use Rattle.path.specs.Laws.{good-numbers, good-setup}
+use Rattle.path.specs.Paths.{pathOf}
+use Rattle.entry.specs.Words.{frameWord}
+use Rattle.entry.specs.declared.Entry.{Entry}
+use Rattle.entry.specs.declared.Entry.the-variants.{Empty, Table, Frame, Damaged}
+use Rattle.model.specs.declared.Walked.{Walked}
+use Rattle.model.specs.Answers.{Mapping, mapping, formatted, took, gave, refused, Pool, pool, setup, Done, done, refuse}
+use Rattle.model.specs.Walk.{atHeight}
+use Rattle.model.specs.Writes.{Write, memory, performAll, mapWrites, mayTake, freed, unmapWrites}
+use Rattle.model.specs.Calls.{goodPool, written, walkTo, formatW, mapTests, mapHere, mapAt, mapW, unmapTests, unmapHere, unmapAt, unmapW}
+use Rattle.model.specs.Ledger.{Ledger, ledger, withLive, anyOverlap, coverOf, dropAt, freeTables, tablesLacking}
+use Rattle.model.specs.Ledger.{Entered, entered, formatL, mapL, unmapOf, unmapL}
+use Rattle.demand.specs.Demand3.{Call, formatC, mapC, unmapC, queryC, auditC, goOn, stepW}
+use Rattle.hardware.specs.Machine.{zerosFrom, placesFrom, accepts, tablesIn, plan, writesOf}
+use Rattle.hardware.specs.Plans.{Each, InRange, perform-append, zeros-carried, singles-carried, places-carried, map-range, prune-range}
+
+-- the single writes of a call that came to d
+abbrev writesBy : Granule → Pool → Call → Done → List Write
+writesBy G p c d = cond (accepts (d .answer)) (plan G p c (tablesIn (d .answer))) []
+
+-- carried out, they leave what it left
+abbrev Carries : Granule → Pool → Call → Done → Type 0
+Carries G p c d = performAll G (writesBy G p c d) (memory (p .words) (p .list)) ≡ memory (d .after .words) (d .after .list)
+
+-- a call that changes nothing writes nothing, whatever it answers
+pub no-write : (b : Bool) → _≡_ {A = List Write} (cond b [] []) []
+no-write true = refl
+no-write false = refl
+
+module _ (G : Granule) (p : Pool) where
+  abbrev f : ℕ
+  f = p .numbers .free
+
+  -- ---- map
+
+  module _ (a b size k : ℕ) where
+    abbrev g : ℕ
+    g = heightOf G size
+
+    abbrev o : Walked
+    o = walkTo G p g a
+
+    abbrev need : ℕ
+    need = o .left - g
+
+    abbrev planned : List Write
+    planned =
+        mapWrites G (p .numbers .base) (pathOf G a) (p .list) g (frameWord b g k) (atHeight (o .tables) (o .left)) f need
+
+    -- an accepted map: no test refuses, the walk ended at an empty entry, and there are tables to take
+    pub record Took : Type 0 where
+      pub good : goodPool G p ≡ true
+      pub tests : mapTests G (p .numbers .levels) a b size k ≡ 0
+      pub vacant : o .entry ≡ Empty
+      pub room : need ≤ f
+      pub may : mayTake (p .list) (p .numbers .tables) (o .tables) f need ≡ true
+
+    abbrev taking : Done
+    taking = done (took need) (written G p planned (f - need))
+
+    -- what a map comes to
+    pub data MapView : Done → Type 0 where
+      map-takes : Took → MapView taking
+      map-refuses : (n : ℕ) → MapView (refuse n p)
+
+    pub map-view : MapView (mapW G p a b size k)
+    unfolding mapW mapAt mapHere
+    map-view = first (goodPool G p) refl
+      where
+        no : ℕ
+        no = mapTests G (p .numbers .levels) a b size k
+
+        may : Bool
+        may = mayTake (p .list) (p .numbers .tables) (o .tables) f need
+
+        last : goodPool G p ≡ true → no ≡ 0 → o .entry ≡ Empty → need ≤ f → (y : Bool) → may ≡ y → MapView (cond y taking (refuse 8 p))
+        last q r e l true s = map-takes (record { good = q; tests = r; vacant = e; room = l; may = s })
+        last q r e l false s = map-refuses 8
+
+        third : goodPool G p ≡ true → no ≡ 0 → o .entry ≡ Empty → (y : Bool) → ltb f need ≡ y
+            → MapView (cond y (refuse 7 p) (cond may taking (refuse 8 p)))
+        third q r e true s = map-refuses 7
+        third q r e false s = last q r e (ltb-false f need s) may refl
+
+        at : goodPool G p ≡ true → no ≡ 0 → (e : Entry) → o .entry ≡ e → MapView (mapAt G p a b g k o e)
+        at q r Empty e = third q r e (ltb f need) refl
+        at q r (Frame c d) e = map-refuses 6
+        at q r (Table c) e = map-refuses 6
+        at q r Damaged e = map-refuses 8
+
+        second : goodPool G p ≡ true → (y : Bool) → eqb no 0 ≡ y → MapView (cond y (mapAt G p a b g k o (o .entry)) (refuse no p))
+        second q true r = at q (eqb-true no 0 r) (o .entry) refl
+        second q false r = map-refuses no
+
+        first : (y : Bool) → goodPool G p ≡ y → MapView (cond y (cond (eqb no 0) (mapAt G p a b g k o (o .entry)) (refuse no p)) (refuse 1 p))
+        first true q = second q (eqb no 0) refl
+        first false q = map-refuses 1
+
+    pub map-carries : (d : Done) → MapView d → Carries G p (mapC a b size k) d
+    unfolding performAll
+    map-carries d (map-takes T) =
+        let long = sym (good-setup (T .good) .numbers .words-are) in
+        singles-carried G planned (memory (p .words) (p .list))
+        (subst (λ (n : ℕ). Each (InRange G n) planned) long (map-range G (p .numbers .base) (p .numbers .tables) (pathOf G a) (p .list) g (frameWord b g k) need _ f (o .tables) (T .may)))
+    map-carries d (map-refuses n) = refl
+
+  -- ---- unmap
+
+  module _ (a : ℕ) where
+    abbrev o₀ : Walked
+    o₀ = walkTo G p 0 a
+
+    -- the tables that it gives back
+    abbrev pub given : ℕ
+    given = freed G (p .words) (o₀ .tables) (pathOf G a) (o₀ .left) (p .numbers .levels - 1 - o₀ .left)
+
+    abbrev planned₀ : List Write
+    planned₀ = unmapWrites G (o₀ .tables) (pathOf G a) (o₀ .left) f given
+
+    -- an accepted unmap: no test refuses, and the walk ended at a frame whose mapping starts at the address
+    pub record Gave (b k : ℕ) : Type 0 where
+      pub good : goodPool G p ≡ true
+      pub tests : unmapTests G (p .numbers .levels) a ≡ 0
+      pub framed : o₀ .entry ≡ Frame b k
+      pub starts : a % sizeAt G (o₀ .left) ≡ 0
+
+    abbrev giving : ℕ → ℕ → Done
+    giving b k = done (gave b (sizeAt G (o₀ .left)) k given) (written G p planned₀ (f + given))
+
+    -- what an unmap comes to
+    pub data UnmapView : Done → Type 0 where
+      unmap-gives : (b k : ℕ) → Gave b k → UnmapView (giving b k)
+      unmap-refuses : (n : ℕ) → UnmapView (refuse n p)
+
+    pub unmap-view : UnmapView (unmapW G p a)
+    unfolding unmapW unmapAt unmapHere
+    unmap-view = first (goodPool G p) refl
+      where
+        no : ℕ
+        no = unmapTests G (p .numbers .levels) a
+
+        room : (b k : ℕ) → Gave b k → (y : Bool) → UnmapView (cond y (refuse 8 p) (giving b k))
+        room b k R true = unmap-refuses 8
+        room b k R false = unmap-gives b k R
+
+        start : (b k : ℕ) → goodPool G p ≡ true → no ≡ 0 → o₀ .entry ≡ Frame b k → (y : Bool) → eqb (a % sizeAt G (o₀ .left)) 0 ≡ y
+            → UnmapView (cond y (unmapHere G p a b k o₀ given) (refuse 10 p))
+        start b k q r e true s =
+            room b k (record { good = q; tests = r; framed = e; starts = eqb-true _ 0 s }) (ltb (p .numbers .tables - 1) (f + given))
+        start b k q r e false s = unmap-refuses 10
+
+        at : goodPool G p ≡ true → no ≡ 0 → (e : Entry) → o₀ .entry ≡ e → UnmapView (unmapAt G p a o₀ e)
+        at q r (Frame b k) e = start b k q r e (eqb (a % sizeAt G (o₀ .left)) 0) refl
+        at q r Empty e = unmap-refuses 9
+        at q r (Table c) e = unmap-refuses 8
+        at q r Damaged e = unmap-refuses 8
+
+        second : goodPool G p ≡ true → (y : Bool) → eqb no 0 ≡ y → UnmapView (cond y (unmapAt G p a o₀ (o₀ .entry)) (refuse no p))
+        second q true r = at q (eqb-true no 0 r) (o₀ .entry) refl
+        second q false r = unmap-refuses no
+
+        first : (y : Bool) → goodPool G p ≡ y → UnmapView (cond y (cond (eqb no 0) (unmapAt G p a o₀ (o₀ .entry)) (refuse no p)) (refuse 1 p))
+        first true q = second q (eqb no 0) refl
+        first false q = unmap-refuses 1
+
+    pub unmap-carries : (d : Done) → UnmapView d → Carries G p (unmapC a) d
+    unfolding performAll
+    unmap-carries d (unmap-gives b k R) =
+        singles-carried G planned₀ (memory (p .words) (p .list)) (tt, prune-range G (length (p .words)) (o₀ .tables) (pathOf G a) given (o₀ .left) f)
+    unmap-carries d (unmap-refuses n) = refl
+
+  -- ---- format
+
+  module _ (levels base tables : ℕ) where
+    abbrev zeros : List ℕ
+    zeros = replicate (length (p .words)) 0
+
+    abbrev formatting : Done
+    formatting = done formatted (pool (setup levels base tables (tables - 1)) zeros (down tables))
+
+    -- what a format comes to
+    pub data FormatView : Done → Type 0 where
+      format-clears : GoodNumbers G levels base tables (length (p .words)) (length (p .list)) → FormatView formatting
+      format-refuses : FormatView (done (refused 1) p)
+
+    pub format-view : FormatView (stepW G p (formatC levels base tables))
+    unfolding formatW
+    format-view = go (goodNumbers G levels base tables (length (p .words)) (length (p .list))) refl
+      where
+        came : Bool → Done
+        came y = cond y formatting (refuse 1 (pool (setup 0 0 0 0) (p .words) (p .list)))
+
+        go : (y : Bool) → goodNumbers G levels base tables (length (p .words)) (length (p .list)) ≡ y → FormatView (goOn p (came y) (came y .answer))
+        go true e = format-clears (good-numbers e)
+        go false e = format-refuses
+
+    all-zero : zeroed (p .words) 0 (length (p .words)) ≡ zeros
+    all-zero =
+        zeroed-is (p .words) 0 (length (p .words)) (omega arith)
+        ∙ ap (λ (l : List ℕ). zeros ++ l) (drop-of-length-le (p .words) {i = length (p .words)} (omega arith))
+        ∙ append-nil zeros
+
+    pub format-carries : (d : Done) → FormatView d → Carries G p (formatC levels base tables) d
+    unfolding performAll
+    format-carries d (format-clears N) =
+        let first = zeros-carried G (length (p .words)) 0 (p .words) (p .list) (omega arith) ∙ ap (λ (ws : List ℕ). memory ws (p .list)) all-zero in
+        perform-append G (zerosFrom 0 (length (p .words))) (placesFrom 0 tables) (memory (p .words) (p .list))
+        ∙ ap (performAll G (placesFrom 0 tables)) first
+        ∙ places-carried G tables 0 zeros (p .list) (omega (arith, N .places-are))
+    format-carries d format-refuses = refl
+
+  -- a call's single writes are what it does to the lent memory, whatever the pool
+  pub writes-carried : (c : Call)
+      → performAll G (writesOf G p c) (memory (p .words) (p .list)) ≡ memory (stepW G p c .after .words) (stepW G p c .after .list)
+  unfolding performAll
+  writes-carried (formatC levels base tables) = format-carries levels base tables _ (format-view levels base tables)
+  writes-carried (mapC a b size k) = map-carries a b size k _ (map-view a b size k)
+  writes-carried (unmapC a) = unmap-carries a _ (unmap-view a)
+  writes-carried (queryC a) =
+      ap (λ (ws : List Write). performAll G ws (memory (p .words) (p .list))) (no-write (accepts (stepW G p (queryC a) .answer)))
+  writes-carried auditC = ap (λ (ws : List Write). performAll G ws (memory (p .words) (p .list))) (no-write (accepts (stepW G p auditC .answer)))
+
+-- ---- the ledger after a call, by its answer
+
+-- the mappings are M where the answer is no refusal, and those of A where it is
+abbrev By : Ledger → List Mapping → Entered → Type 0
+By A M e = e .after .live ≡ cond (accepts (e .answer)) M (A .live)
+
+-- by either of two
+by : (A : Ledger) (M : List Mapping) (b : Bool) (x y : Entered) → By A M x → By A M y → By A M (cond b x y)
+by A M true x y p q = p
+by A M false x y p q = q
+
+module _ (G : Granule) (A : Ledger) where
+  pub map-live : (a b size k : ℕ) → By A (mapping a b size k ∷ A .live) (mapL G A a b size k)
+  unfolding mapL
+  map-live a b size k = by A M (eqb no 0) other (entered (refused no) A) (by A M met six rest refl (by A M short seven taken refl refl)) refl
+    where
+      no : ℕ
+      no = mapTests G (A .levels) a b size k
+
+      need : ℕ
+      need = tablesLacking G (A .levels) (A .live) (mapping a b size k)
+
+      M : List Mapping
+      M = mapping a b size k ∷ A .live
+
+      met : Bool
+      met = anyOverlap a size (A .live)
+
+      short : Bool
+      short = ltb (freeTables G A) need
+
+      six : Entered
+      six = entered (refused 6) A
+
+      seven : Entered
+      seven = entered (refused 7) A
+
+      taken : Entered
+      taken = entered (took need) (withLive A M)
+
+      rest : Entered
+      rest = cond short seven taken
+
+      other : Entered
+      other = cond met six rest
+
+  pub unmap-live : (a : ℕ) → By A (dropAt a (A .live)) (unmapL G A a)
+  unfolding unmapL unmapOf
+  unmap-live a = by A M (eqb no 0) (unmapOf G A a (coverOf a (A .live))) (entered (refused no) A) (on (coverOf a (A .live))) refl
+    where
+      no : ℕ
+      no = unmapTests G (A .levels) a
+
+      M : List Mapping
+      M = dropAt a (A .live)
+
+      on : (m : Option Mapping) → By A M (unmapOf G A a m)
+      on none = refl
+      on (some m) =
+          let B = withLive A M in
+          let given = freeTables G B - freeTables G A in
+          by A M (eqb (m .at) a) (entered (gave (m .frame) (m .size) (m .attributes) given) B) (entered (refused 10) A) refl refl
+
+  pub format-live : (levels base tables : ℕ) → By A [] (formatL G A levels base tables)
+  unfolding formatL
+  format-live levels base tables =
+      let good = goodNumbers G levels base tables (entries G * A .tables) (A .tables) in
+      by A [] good (entered formatted (ledger levels base tables [])) (entered (refused 1) A) refl refl
