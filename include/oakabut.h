@@ -1,12 +1,20 @@
-/* Oakabut for C: the entry words of Arm stage 2 page tables (VMSAv8-64, 4 KiB granule), in plain numbers.
+/* Oakabut for C: Arm stage 2 page tables (VMSAv8-64, 4 KiB granule) in memory that the caller lends, and their entry words.
  *
- * The two functions are in liboakabut.a (`rt staticlib oakabut` makes it). They take and give numbers alone: they read and write
- * no memory, keep nothing between calls, call nothing and answer for every input. C, C++ and freestanding code may include this.
+ * The functions are in liboakabut.a (`rt staticlib oakabut` makes it), for 64-bit hosts. They answer for every number, keep nothing
+ * between calls, and read and write what their pointers name and no other memory. The archive needs one thing from its host: memset,
+ * as the C library has it. C, C++ and freestanding code may include this.
  *
- * An answer below OAK_REFUSALS is a refusal, and no other answer is below it. */
+ * A pool is n tables of 512 words. Table t starts at word 512 * t and stands at the address base + 4096 * t; table 0 is the root.
+ * The free list has n places, of which the first `free` are the numbers of free tables. The host gives both runs with every call,
+ * and the setup that the last oak_format, oak_map or oak_unmap handed back.
+ *
+ * Pointers. Each must be valid and aligned, also where a length is 0; a null pointer never is. The answer, the setup and the two lent
+ * runs must not overlap: oak_map(&m.setup, ..., &m) is wrong, a copy of the setup is right. Nobody else may write to them during a
+ * call. Lengths count elements, not bytes. */
 #ifndef OAKABUT_H
 #define OAKABUT_H
 
+#include <stddef.h>
 #include <stdint.h>
 
 #ifdef __cplusplus
@@ -26,11 +34,20 @@ extern "C" {
 
 /* The refusals. */
 #define OAK_REFUSALS UINT64_C(16)
+#define OAK_REFUSED_SETUP UINT64_C(1)      /* a setup number or a length breaks the rules */
 #define OAK_REFUSED_SIZE UINT64_C(2)       /* the size is none of the three */
 #define OAK_REFUSED_ATTRIBUTES UINT64_C(3) /* the attributes are above 15 */
-#define OAK_REFUSED_END UINT64_C(4)        /* base + size is above 2^48 */
-#define OAK_REFUSED_BASE UINT64_C(5)       /* the base is not a multiple of the size */
-#define OAK_REFUSED_WORD UINT64_C(8)       /* the word is no frame's at the size */
+#define OAK_REFUSED_END UINT64_C(4)        /* an address is past the space, or a frame past 2^48 */
+#define OAK_REFUSED_BASE UINT64_C(5)       /* an address or a frame's base is not aligned */
+#define OAK_REFUSED_MAPPED UINT64_C(6)     /* something is mapped there */
+#define OAK_REFUSED_TABLES UINT64_C(7)     /* too few tables are free */
+#define OAK_REFUSED_DAMAGED UINT64_C(8)    /* the pool is damaged, or the word is no frame's at the size */
+#define OAK_REFUSED_EMPTY UINT64_C(9)      /* nothing is mapped there */
+#define OAK_REFUSED_INSIDE UINT64_C(10)    /* the mapping there starts at another address */
+
+/* ---- the entry words, in plain numbers: no memory is read or written
+ *
+ * An answer below OAK_REFUSALS is a refusal, and no other answer is below it. */
 
 /* The entry word of the frame that starts at base.
  *
@@ -44,13 +61,139 @@ uint64_t oak_frame_word(uint64_t base, uint64_t size, uint64_t attributes);
 /* The meaning of a word as the entry of a frame of that size.
  *
  * Answers base + 16 + attributes of the one frame for which oak_frame_word(base, size, attributes) is the word, or:
- *   OAK_REFUSED_SIZE  size is none of OAK_4_KIB, OAK_2_MIB and OAK_1_GIB
- *   OAK_REFUSED_WORD  no frame of that size has the word: it is 0, a table's word, or damaged */
+ *   OAK_REFUSED_SIZE     size is none of OAK_4_KIB, OAK_2_MIB and OAK_1_GIB
+ *   OAK_REFUSED_DAMAGED  no frame of that size has the word: it is 0, a table's word, or damaged */
 uint64_t oak_word_meaning(uint64_t word, uint64_t size);
 
 /* The two parts of a meaning that is not a refusal. */
 #define OAK_MEANING_BASE(meaning) (((meaning) - UINT64_C(16)) & ~UINT64_C(15))
 #define OAK_MEANING_ATTRIBUTES(meaning) (((meaning) - UINT64_C(16)) & UINT64_C(15))
+
+/* ---- the calls on a pool
+ *
+ * Each returns 0 or the number of a refusal, and always writes the whole answer. Where it refuses, the answer is zeros, but for the
+ * setup that oak_map and oak_unmap hand back as it was; and the words and the list stay as they were.
+ *
+ * The space is 2^39 for three levels and 2^48 for four. Sums do not wrap. */
+
+typedef struct {
+    uint64_t levels; /* 3 or 4 */
+    uint64_t base;   /* the address of table 0: a multiple of 4096, base + 4096 * tables at most 2^48 */
+    uint64_t tables; /* 1 to 64 */
+    uint64_t free;   /* how many tables are free: at most tables - 1 */
+} oak_setup;
+
+typedef struct {
+    oak_setup setup;
+    uint64_t taken; /* how many tables the mapping took */
+} oak_mapped;
+
+typedef struct {
+    oak_setup setup;
+    uint64_t frame;      /* the base of the frame removed */
+    uint64_t size;       /* its size */
+    uint64_t attributes; /* its attributes */
+    uint64_t given;      /* how many tables came back */
+} oak_unmapped;
+
+typedef struct {
+    uint64_t base;  /* where the mapping starts */
+    uint64_t frame; /* the base of its frame */
+    uint64_t size;
+    uint64_t attributes;
+} oak_found;
+
+typedef struct {
+    uint64_t tables;   /* the tables reached from the root, which counts */
+    uint64_t mappings; /* the frames reached */
+} oak_audited;
+
+/* Empties the pool: all words become 0, place i of the list tables - 1 - i, and every table but the root is free.
+ *
+ * Answers the setup, or four zeros and:
+ *   OAK_REFUSED_SETUP  levels, base or tables breaks its rule, words_len is not 512 * tables, or list_len is not tables */
+uint64_t oak_format(uint64_t levels, uint64_t base, uint64_t tables, uint64_t *words, size_t words_len, uint32_t *list, size_t list_len,
+                    oak_setup *answer);
+
+/* Maps a frame at an address. Missing tables are taken from the end of the free list, top first, and filled with zeros.
+ *
+ * Answers the new setup and the tables taken, or the first of these that applies:
+ *   OAK_REFUSED_SETUP       a setup number breaks its rule, words_len is not 512 * tables, or list_len is not tables
+ *   OAK_REFUSED_SIZE        size is none of OAK_4_KIB, OAK_2_MIB and OAK_1_GIB
+ *   OAK_REFUSED_ATTRIBUTES  attributes is above 15
+ *   OAK_REFUSED_END         address + size is above the space, or frame + size above 2^48
+ *   OAK_REFUSED_BASE        address or frame is not a multiple of size
+ *   OAK_REFUSED_MAPPED or OAK_REFUSED_DAMAGED, whichever the walk from the root finds first: it meets a frame, or the entry it comes
+ *                           to is a table or a frame; it meets a damaged word, or comes to the same table twice
+ *   OAK_REFUSED_TABLES      the mapping needs more tables than are free
+ *   OAK_REFUSED_DAMAGED     a table to be taken is not 1 to tables - 1, is taken twice, or stands on the path */
+uint64_t oak_map(const oak_setup *s, uint64_t *words, size_t words_len, const uint32_t *list, size_t list_len, uint64_t address,
+                 uint64_t frame, uint64_t size, uint64_t attributes, oak_mapped *answer);
+
+/* Removes the mapping that starts at an address. Tables that this leaves empty, from the deepest up and never the root, go back to the
+ * end of the free list.
+ *
+ * Answers the new setup, the frame removed and the tables given back, or the first of these that applies:
+ *   OAK_REFUSED_SETUP    a setup number breaks its rule, words_len is not 512 * tables, or list_len is not tables
+ *   OAK_REFUSED_END      address is not below the space
+ *   OAK_REFUSED_BASE     address is not a multiple of 4096
+ *   OAK_REFUSED_DAMAGED  the walk from the root meets a damaged word, or comes to the same table twice
+ *   OAK_REFUSED_EMPTY    the walk ends at an empty entry
+ *   OAK_REFUSED_INSIDE   the walk ends at a frame whose mapping does not start at address
+ *   OAK_REFUSED_DAMAGED  giving back would make more than tables - 1 free */
+uint64_t oak_unmap(const oak_setup *s, uint64_t *words, size_t words_len, uint32_t *list, size_t list_len, uint64_t address,
+                   oak_unmapped *answer);
+
+/* The mapping that holds an address.
+ *
+ * Answers it, or the first of these that applies:
+ *   OAK_REFUSED_SETUP    a setup number breaks its rule, words_len is not 512 * tables, or list_len is not tables
+ *   OAK_REFUSED_END      address is not below the space
+ *   OAK_REFUSED_DAMAGED  the walk from the root meets a damaged word, or comes to the same table twice
+ *   OAK_REFUSED_EMPTY    the walk ends at an empty entry */
+uint64_t oak_query(const oak_setup *s, const uint64_t *words, size_t words_len, const uint32_t *list, size_t list_len, uint64_t address,
+                   oak_found *answer);
+
+/* Whether the pool keeps every rule: no damaged word, no table reached twice, none empty but the root, the free numbers distinct, 1 to
+ * tables - 1 and not reached, the free tables all zero, and every table free or reached.
+ *
+ * Answers the counts, or the first of these that applies:
+ *   OAK_REFUSED_SETUP    a setup number breaks its rule, words_len is not 512 * tables, or list_len is not tables
+ *   OAK_REFUSED_DAMAGED  a rule is broken */
+uint64_t oak_audit(const oak_setup *s, const uint64_t *words, size_t words_len, const uint32_t *list, size_t list_len,
+                   oak_audited *answer);
+
+/* The library has each answer as a run of 64-bit numbers without a gap, and lengths of 64 bits. */
+#ifdef __cplusplus
+#define OAK_HOLDS(fact) static_assert(fact, #fact)
+#else
+#define OAK_HOLDS(fact) _Static_assert(fact, #fact)
+#endif
+OAK_HOLDS(sizeof(size_t) == 8);
+OAK_HOLDS(sizeof(void *) == 8);
+OAK_HOLDS(sizeof(oak_setup) == 32);
+OAK_HOLDS(offsetof(oak_setup, levels) == 0);
+OAK_HOLDS(offsetof(oak_setup, base) == 8);
+OAK_HOLDS(offsetof(oak_setup, tables) == 16);
+OAK_HOLDS(offsetof(oak_setup, free) == 24);
+OAK_HOLDS(sizeof(oak_mapped) == 40);
+OAK_HOLDS(offsetof(oak_mapped, setup) == 0);
+OAK_HOLDS(offsetof(oak_mapped, taken) == 32);
+OAK_HOLDS(sizeof(oak_unmapped) == 64);
+OAK_HOLDS(offsetof(oak_unmapped, setup) == 0);
+OAK_HOLDS(offsetof(oak_unmapped, frame) == 32);
+OAK_HOLDS(offsetof(oak_unmapped, size) == 40);
+OAK_HOLDS(offsetof(oak_unmapped, attributes) == 48);
+OAK_HOLDS(offsetof(oak_unmapped, given) == 56);
+OAK_HOLDS(sizeof(oak_found) == 32);
+OAK_HOLDS(offsetof(oak_found, base) == 0);
+OAK_HOLDS(offsetof(oak_found, frame) == 8);
+OAK_HOLDS(offsetof(oak_found, size) == 16);
+OAK_HOLDS(offsetof(oak_found, attributes) == 24);
+OAK_HOLDS(sizeof(oak_audited) == 16);
+OAK_HOLDS(offsetof(oak_audited, tables) == 0);
+OAK_HOLDS(offsetof(oak_audited, mappings) == 8);
+#undef OAK_HOLDS
 
 #ifdef __cplusplus
 }

@@ -135,10 +135,10 @@ static void refusals(void) {
         frame(s - 1, s, 3, OAK_REFUSED_BASE);
         frame(s / 2, s, 3, OAK_REFUSED_BASE);
         frame(LIMIT - s - 1, s, 3, OAK_REFUSED_BASE);
-        meaning(0, s, OAK_REFUSED_WORD);
-        meaning(MOST, s, OAK_REFUSED_WORD);
-        meaning(UINT64_C(0x40001003), s, OAK_REFUSED_WORD);
-        meaning(model_word(0, s, 3) + LIMIT, s, OAK_REFUSED_WORD);
+        meaning(0, s, OAK_REFUSED_DAMAGED);
+        meaning(MOST, s, OAK_REFUSED_DAMAGED);
+        meaning(UINT64_C(0x40001003), s, OAK_REFUSED_DAMAGED);
+        meaning(model_word(0, s, 3) + LIMIT, s, OAK_REFUSED_DAMAGED);
     }
     frame(4096, OAK_2_MIB, 3, OAK_REFUSED_BASE);
     frame(OAK_2_MIB, OAK_1_GIB, 3, OAK_REFUSED_BASE);

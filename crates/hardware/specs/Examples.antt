@@ -2,14 +2,15 @@
 use Prim.Native.Nat.{ℕ, _-_, _/_}
 use mathlib.Core.Path.{_≡_, refl}
 use mathlib.Core.Bool.{true, false, cond}
-use mathlib.Core.List.{List}
+use mathlib.Core.List.{List, []}
 use mathlib.Core.Option.{Option, some, none}
 use lib.Dec.{leb}
 use lib.ListN.{length, getD}
 use Rattle.path.specs.Geometry.{four}
 use Rattle.model.specs.Cases.{Both, format, map}
-use Rattle.demand.specs.Demand3.{mapC}
-use Rattle.hardware.specs.Machine.{Translation, walk, stage2, zerosFrom, singles, writesOf}
+use Rattle.model.specs.Ledger.{coverOf}
+use Rattle.demand.specs.Demand3.{mapC, unmapC}
+use Rattle.hardware.specs.Machine.{Translation, walk, stage2, zerosFrom, singles, writesOf, concerns}
 use Rattle.hardware.specs.Machine.{nGnRE, writeBack, device, normal, outerShareable, innerShareable}
 
 -- the cases, and a device page beside them
@@ -62,7 +63,22 @@ pub record Examples : Type 0 where
   pub past : translated 0x8000000000 ≡ none
   -- the single writes of case 2: two tables wiped and linked, and the frame's word
   pub writes : length (writesOf four (format .pool .after) (mapC 0 0x80000000 4096 3)) ≡ 1027
+  -- a refused call has none: case 5
+  pub refused : writesOf four (all .pool .after) (mapC 0x201000 0x80000000 4096 3) ≡ []
+  -- what an unmap may change: what its mapping's addresses read
+  pub concerned : concerns (all .ledger .after) (unmapC 0x200000) 0x201234 ≡ true
+  pub unconcerned : concerns (all .ledger .after) (unmapC 0x200000) 0x1234 ≡ false
 
 pub examples : Examples
-unfolding format map walk zerosFrom singles
-examples = record { page = refl; block = refl; radio = refl; hole = refl; past = refl; writes = refl }
+unfolding format map walk zerosFrom singles coverOf
+examples = record {
+  page = refl;
+  block = refl;
+  radio = refl;
+  hole = refl;
+  past = refl;
+  writes = refl;
+  refused = refl;
+  concerned = refl;
+  unconcerned = refl;
+}

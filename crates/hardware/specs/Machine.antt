@@ -107,39 +107,83 @@ pub data Step : Type 0 where
   hit : Translation → Step
   next : ℕ → Step
 
+-- The bit fields of a word w.
+-- bit 0: the word is valid
+abbrev pub validBit : ℕ → ℕ
+validBit w = bits 0 1 w
+
+-- bit 1: at the last level a page, above it a table and not a block
+abbrev pub tableBit : ℕ → ℕ
+tableBit w = bits 1 1 w
+
+-- bits 5:2, MemAttr, in two halves
+abbrev pub memLow : ℕ → ℕ
+memLow w = bits 2 2 w
+
+abbrev pub memHigh : ℕ → ℕ
+memHigh w = bits 4 2 w
+
+-- bits 7:6, S2AP: it may be read, it may be written
+abbrev pub readBit : ℕ → ℕ
+readBit w = bits 6 1 w
+
+abbrev pub writeBit : ℕ → ℕ
+writeBit w = bits 7 1 w
+
+-- bits 9:8, SH
+abbrev pub shareBits : ℕ → ℕ
+shareBits w = bits 8 2 w
+
+-- bit 10: the access flag
+abbrev pub accessFlag : ℕ → ℕ
+accessFlag w = bits 10 1 w
+
+-- bits 54:53, XN: 00 lets both run, 01 EL0 alone, 10 none, 11 EL1 alone
+abbrev pub neverLow : ℕ → ℕ
+neverLow w = bits 53 1 w
+
+abbrev pub neverHigh : ℕ → ℕ
+neverHigh w = bits 54 1 w
+
+-- bits 47 down to bit s: an output address, or a table's
+abbrev pub addressFrom : ℕ → ℕ → ℕ
+addressFrom s w = bits s (48 - s) w * 2 ^ s
+
 -- A word of height h stands for an address's bits from this one upward: with 4 KiB 12, 21, 30 and 39. (An entry of the last level has height 0.)
 abbrev pub shift : Granule → ℕ → ℕ
 shift G h = G .page + G .index * h
 
--- A page or a block, for address a. Bit 10 is the access flag; without it the access faults. The output address is bits 47 down to the height's
--- own; bit 6 lets read and bit 7 write (S2AP); bits 54:53 are XN (00 lets both run, 01 EL0 alone, 10 none, 11 EL1 alone); bits 5:2 are MemAttr;
--- bits 9:8 are SH.
+-- the index of address a among the words of height h
+abbrev pub indexBits : Granule → ℕ → ℕ → ℕ
+indexBits G a h = bits (shift G h) (G .index) a
+
+-- the translation of address a by a page or block: the frame's address, and a's bits below the height's own
+abbrev pub outputOf : Granule → ℕ → ℕ → ℕ → ℕ
+outputOf G a h w = addressFrom (shift G h) w + a % 2 ^ shift G h
+
+-- a page or a block; without the access flag it faults
 abbrev pub leaf : Granule → ℕ → ℕ → ℕ → Step
 leaf G a h w =
-    cond (eqb (bits 10 1 w) 1)
+    cond (eqb (accessFlag w) 1)
     (hit (record {
-      address = bits (shift G h) (48 - shift G h) w * 2 ^ shift G h + a % 2 ^ shift G h;
-      readable = eqb (bits 6 1 w) 1;
-      writable = eqb (bits 7 1 w) 1;
-      runsAtEL1 = eqb (bits 54 1 w) (bits 53 1 w);
-      runsAtEL0 = eqb (bits 54 1 w) 0;
-      kind = kindOf (bits 4 2 w) (bits 2 2 w);
-      shared = sharedOf (kindOf (bits 4 2 w) (bits 2 2 w)) (bits 8 2 w);
+      address = outputOf G a h w;
+      readable = eqb (readBit w) 1;
+      writable = eqb (writeBit w) 1;
+      runsAtEL1 = eqb (neverHigh w) (neverLow w);
+      runsAtEL0 = eqb (neverHigh w) 0;
+      kind = kindOf (memHigh w) (memLow w);
+      shared = sharedOf (kindOf (memHigh w) (memLow w)) (shareBits w);
     }))
     fault
 
--- Bit 1 of a valid word tells, at the last level, a page from nothing, and above it a table from a block. A table's address is bits 47:12. There is
--- no block larger than 1 GiB. (12 and 1 GiB are those of the 4 KiB granule.)
+-- A valid word. At the last level it is a page or nothing; above it a table, or a block, and there is no block larger than 1 GiB (with 4 KiB).
 abbrev pub valid : Granule → ℕ → ℕ → ℕ → Step
-valid G a zero w = cond (eqb (bits 1 1 w) 1) (leaf G a zero w) fault
+valid G a zero w = cond (eqb (tableBit w) 1) (leaf G a zero w) fault
 valid G a (suc h) w =
-    cond (eqb (bits 1 1 w) 1)
-    (next (bits (G .page) (48 - G .page) w * 2 ^ G .page))
-    (cond (leb (suc h) (G .large)) (leaf G a (suc h) w) fault)
+    cond (eqb (tableBit w) 1) (next (addressFrom (G .page) w)) (cond (leb (suc h) (G .large)) (leaf G a (suc h) w) fault)
 
--- bit 0 tells whether a word is valid
 abbrev pub stepBy : Granule → ℕ → ℕ → ℕ → Step
-stepBy G a h w = cond (eqb (bits 0 1 w) 1) (valid G a h w) fault
+stepBy G a h w = cond (eqb (validBit w) 1) (valid G a h w) fault
 
 abbrev pub onStep : Step → (ℕ → Option Translation) → Option Translation
 onStep fault go = none
@@ -149,14 +193,17 @@ onStep (next b) go = go b
 -- The walk for address a from the table at address b, whose words have height h; `none` is a fault. `mem h` is the memory, in 64-bit words by
 -- their addresses, as it is when the word of height h is read.
 unfoldable pub walk : Granule → (ℕ → ℕ → ℕ) → ℕ → ℕ → ℕ → Option Translation
-walk G mem a zero b = onStep (stepBy G a zero (mem zero (b + 8 * bits (shift G zero) (G .index) a))) (λ _. none)
-walk G mem a (suc h) b =
-    onStep (stepBy G a (suc h) (mem (suc h) (b + 8 * bits (shift G (suc h)) (G .index) a))) (λ c. walk G mem a h c)
+walk G mem a zero b = onStep (stepBy G a zero (mem zero (b + 8 * indexBits G a zero))) (λ _. none)
+walk G mem a (suc h) b = onStep (stepBy G a (suc h) (mem (suc h) (b + 8 * indexBits G a (suc h)))) (λ c. walk G mem a h c)
 
--- The translation of address a by a tree of so many levels, its root at address b. Four levels start at level 0, three at level 1. An address with
--- a bit above those of the first index faults.
+-- the addresses that so many levels translate are below this: 2^39 or 2^48
+abbrev pub inputEnd : Granule → ℕ → ℕ
+inputEnd G levels = 2 ^ shift G levels
+
+-- The translation of address a by a tree of so many levels, its root at address b. Four levels start at level 0, three at level 1. An address past
+-- the end faults.
 abbrev pub stage2 : Granule → ℕ → ℕ → (ℕ → ℕ → ℕ) → ℕ → Option Translation
-stage2 G levels b mem a = cond (ltb a (2 ^ shift G levels)) (walk G mem a (levels - 1) b) none
+stage2 G levels b mem a = cond (ltb a (inputEnd G levels)) (walk G mem a (levels - 1) b) none
 
 -- in this memory the words stand from address b on, eight bytes each; elsewhere anything stands
 abbrev pub Stands : ℕ → List ℕ → (ℕ → ℕ) → Type 0

@@ -262,7 +262,7 @@ module _ (G : Granule) (Z : Sane G) {p : Pool} {B : Ledger} (I : Sim G Z p B) (a
   map-seen One =
       subst (λ (L : List answers.Mapping). Seen G p live L ws One) after
       (record {
-        each-write = λ _. record { at = length front; old = until; new = since };
+        each-write = λ _. record { at = length front; old = λ j l. until j (omega arith); new = λ j l. since j (omega arith) };
         any-order = λ _. any-order-up G Z I new R′ H′ ws sound Q g v x more others;
         overtaken = overtaken-up G Z I new R′ H′ ws sound Q;
       })

@@ -4,7 +4,7 @@ use mathlib.Core.Path.{_≡_, refl, ap, sym, _∙_, subst}
 use mathlib.Core.Logic.{_≢_, _⊎_, inl, inr, ⊎-elim}
 use mathlib.Core.List.{List, map}
 use mathlib.Core.Option.{Option, some, none, Option·map}
-use Prim.Native.Nat.{ℕ, zero, suc, _+_, _*_, _/_, _%_, _^_, _≤_, _<_}
+use Prim.Native.Nat.{ℕ, zero, suc, _+_, _*_, _/_, _%_, _≤_, _<_}
 use native.Mathlib.Nat.{mod-lt, div-eq-of-lt, lt-div-mul-add}
 use native.Mathlib.Omega.{arith}
 use native.Mathlib.Decide.{ℕ-discrete, decLt, le-ind}
@@ -22,7 +22,7 @@ use Rattle.tree.specs.Ledger.{first-none, query-none, query-some}
 use Rattle.demand.specs.Shown.{shown, pg, anc-size, cover-lookup, baseOf, attrsOf}
 use Rattle.demand.specs.Sims.{Sim}
 use Rattle.demand.specs.Queries.{P, n, k₀, al, X, root-at}
-use Rattle.hardware.specs.Machine.{bits, shift, Translation, Step, fault, hit, next, stepBy, onStep, walk, stage2, saysOf, told}
+use Rattle.hardware.specs.Machine.{indexBits, inputEnd, Translation, Step, fault, hit, next, stepBy, onStep, walk, stage2, saysOf, told}
 use Rattle.hardware.specs.Fields.{step-frame, step-zero, step-table}
 use Rattle.hardware.specs.Trees.{Within, new-zero}
 
@@ -51,16 +51,16 @@ module _ (G : Granule) (Z : Sane G) {p : Pool} {A : Ledger} (I : Sim G Z p A) wh
   gives mem a = stage2 G top (P G Z I) mem a
 
   -- the index that the hardware takes from an address
-  index-is : (a h : ℕ) → bits (shift G h) (G .index) a ≡ anc K h (pg G Z a) % K
+  index-is : (a h : ℕ) → indexBits G a h ≡ anc K h (pg G Z a) % K
   unfolding sizeAt
   index-is a h = ap (λ (x : ℕ). x % K) (sym (anc-size G Z a h))
 
   -- the addresses below the space
-  in-space : (a : ℕ) → a < 2 ^ shift G top → anc K top (pg G Z a) ≡ 0
+  in-space : (a : ℕ) → a < inputEnd G top → anc K top (pg G Z a) ≡ 0
   unfolding sizeAt
-  in-space a l = anc-size G Z a top ∙ div-eq-of-lt l
+  in-space a l = anc-size G Z a top ∙ div-eq-of-lt (omega arith)
 
-  space-in : (a : ℕ) → anc K top (pg G Z a) ≡ 0 → a < 2 ^ shift G top
+  space-in : (a : ℕ) → anc K top (pg G Z a) ≡ 0 → a < inputEnd G top
   unfolding sizeAt
   space-in a e =
       let q : a / sizeAt G top ≡ 0 = sym (anc-size G Z a top) ∙ e in
@@ -116,7 +116,7 @@ module _ (G : Granule) (Z : Sane G) {p : Pool} {A : Ledger} (I : Sim G Z p A) wh
     frame-space v h x s =
         R .only (anc K top v) (table≢empty (chain R v h (λ z. empty≢frame z s) top (frame-low R h (anc K h v) x s) (omega arith)))
 
-    tells-past : (a : ℕ) → (a < 2 ^ shift G top → ⊥) → tells L a ≡ none
+    tells-past : (a : ℕ) → (a < inputEnd G top → ⊥) → tells L a ≡ none
     tells-past a d = tells-none a (λ h x s. d (space-in a (frame-space (pg G Z a) h x s)))
 
   -- ---- two trees, the first within the second, and memories in which each word is that of the one or that of the other
@@ -253,7 +253,7 @@ module _ (G : Granule) (Z : Sane G) {p : Pool} {A : Ledger} (I : Sim G Z p A) wh
             inl (λ a i. ap (λ (x : ℕ). onStep (stepBy G a h x) (on a)) z
             ∙ sym (nothing-yet a h (ap (S′ (suc h)) (at-up a i) ∙ q) (λ s. d (ap (S (suc h)) (sym (at-up a i)) ∙ s))))
 
-        one-word : Either (λ a. onStep (stepBy G a h (mem h (place t + 8 * bits (shift G h) (G .index) a))) (on a))
+        one-word : Either (λ a. onStep (stepBy G a h (mem h (place t + 8 * indexBits G a h))) (on a))
         one-word =
             along _ made
             (λ a i. ap (λ (j : ℕ). onStep (stepBy G a h (mem h (place t + 8 * j))) (on a)) (index-is a h ∙ ap (λ (x : ℕ). x % K) (at a i)))
@@ -293,19 +293,19 @@ module _ (G : Granule) (Z : Sane G) {p : Pool} {A : Ledger} (I : Sim G Z p A) wh
         (cc, rw u (omega arith))
 
     gives-in : (v a : ℕ) → anc K top v ≡ 0 → anc K top (pg G Z a) ≡ anc K top v → gives mem a ≡ walk G mem a k (root v)
-    gives-in v a e q = rw (lt-ltb a (2 ^ shift G top) (space-in a (q ∙ e)), root-is v e .1)
+    gives-in v a e q = rw (lt-ltb a (inputEnd G top) (space-in a (q ∙ e)), root-is v e .1)
 
-    gives-past : (a : ℕ) → (a < 2 ^ shift G top → ⊥) → gives mem a ≡ none
-    gives-past a d = rw (le-ltb a (2 ^ shift G top) (omega arith))
+    gives-past : (a : ℕ) → (a < inputEnd G top → ⊥) → gives mem a ≡ none
+    gives-past a d = rw (le-ltb a (inputEnd G top) (omega arith))
 
     -- each address reads the one ledger or the other
     pub each-address : (a : ℕ) → (gives mem a ≡ tells L a) ⊎ (gives mem a ≡ tells L′ a)
-    each-address a = go (decLt a (2 ^ shift G top))
+    each-address a = go (decLt a (inputEnd G top))
       where
         v : ℕ
         v = pg G Z a
 
-        go : Dec (a < 2 ^ shift G top) → (gives mem a ≡ tells L a) ⊎ (gives mem a ≡ tells L′ a)
+        go : Dec (a < inputEnd G top) → (gives mem a ≡ tells L a) ⊎ (gives mem a ≡ tells L′ a)
         go (yes l) =
             let e = in-space a l in
             ⊎-elim (λ q. inl (gives-in v a e refl ∙ q a refl)) (λ q. inr (gives-in v a e refl ∙ q .0 a refl))

@@ -214,7 +214,7 @@ module _ (G : Granule) (Z : Sane G) {p : Pool} {B : Ledger} (I : Sim G Z p B) (a
   unmap-seen One =
       subst (λ (L : List answers.Mapping). Seen G p live L ws One) after
       (record {
-        each-write = λ _. record { at = 0; old = until; new = since };
+        each-write = λ _. record { at = 0; old = λ j l. until j (omega arith); new = λ j l. since j (omega arith) };
         any-order = λ _. any-order-down G Z I new R′ H′ ws sound Q h v x more others;
         overtaken = overtaken-down G Z I new R′ H′ ws sound Q;
       })

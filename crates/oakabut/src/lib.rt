@@ -5,7 +5,6 @@ use model::MapAnswer;
 use model::QueryAnswer;
 use model::UnmapAnswer;
 use path::Setup;
-
 ghost use mathlib.Core.Path.{_≡_};
 ghost use Rattle.path.specs.Geometry.{four};
 ghost use Rattle.entry.specs.Host.{hostWord, hostMeaning};
@@ -92,7 +91,16 @@ fn unmapped(a: UnmapAnswer, s: Setup) -> [u64; 8]
             size,
             attributes,
             tables,
-        } => [s.levels, s.base, s.tables, s.free, frame, size, attributes, tables],
+        } => [
+            s.levels,
+            s.base,
+            s.tables,
+            s.free,
+            frame,
+            size,
+            attributes,
+            tables,
+        ],
         UnmapAnswer::Refused(_) => [s.levels, s.base, s.tables, s.free, 0, 0, 0, 0],
     }
 }
@@ -223,12 +231,7 @@ pub extern "C" fn oak_query(
 
 // Answers whether the pool keeps every rule, with the counts of its tables and mappings.
 #[no_mangle]
-pub extern "C" fn oak_audit(
-    s: &[u64; 4],
-    words: &[u64],
-    list: &[u32],
-    answer: &mut [u64; 2],
-) -> u64
+pub extern "C" fn oak_audit(s: &[u64; 4], words: &[u64], list: &[u32], answer: &mut [u64; 2]) -> u64
     ensures number { λ r. ⌜ r ≡ numberOf (auditW four (pool (setupAt (now (s .entry))) (now (words .entry)) (now (list .entry)))) ⌝ }
     ensures places { λ _. ⌜ now (answer .exit) ≡ auditedPlaces (auditW four (pool (setupAt (now (s .entry))) (now (words .entry)) (now (list .entry)))) ⌝ }
 {

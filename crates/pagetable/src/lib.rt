@@ -6,7 +6,6 @@ use model::Mapped;
 use model::QueryAnswer;
 use model::Unmapped;
 use path::Setup;
-
 ghost use mathlib.Core.Path.{_≡_};
 ghost use Rattle.path.specs.Geometry.{four};
 ghost use Rattle.model.specs.Answers.{pool, done, saysFormat, saysMap, saysUnmap, saysQuery, saysAudit};

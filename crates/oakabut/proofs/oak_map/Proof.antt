@@ -31,7 +31,7 @@ returns c =
     let a = c .before .before .before .before .before .before .before .before .before .before .before .args in
     let t = c .before .before .before .before .before .before .map .result .setup in
     let e = c .before .before .before .before .before .before .map .ensures .0
-        ∙ ap (λ (z : Setup). mapW four (pool z (a .words .now) (a .list .now)) (a .address) (a .frame) (a .size) (a .attributes)) (c .before .before .before .before .before .before .before .before .setup-at .ensures) in
+    ∙ ap (λ (z : Setup). mapW four (pool z (a .words .now) (a .list .now)) (a .address) (a .frame) (a .size) (a .attributes)) (c .before .before .before .before .before .before .before .before .setup-at .ensures) in
     record {
       number-is = c .map-number .ensures ∙ ap (λ (d : Done). numberOf (d .answer)) e;
       places-are = ap (λ (x : ℕ). t .levels ∷ t .base ∷ t .tables ∷ t .free ∷ x ∷ []) (c .before .before .taken .ensures) ∙ ap (λ (d : Done). mappedPlaces (d .answer) (d .after .numbers)) e;

@@ -1,0 +1,26 @@
+/* README.md shows this program. */
+#include "oakabut.h"
+#include <stdio.h>
+
+static uint64_t words[4 * 512]; /* four tables, which stand at 0x40000000 for the machine */
+static uint32_t list[4];        /* the free ones among them */
+
+int main(void) {
+    oak_setup setup;
+    oak_mapped mapped;
+    oak_found found;
+    int passed = 0;
+
+    /* three levels: a space of 2^39 bytes */
+    passed += oak_format(3, 0x40000000, 4, words, 4 * 512, list, 4, &setup) == 0;
+
+    /* a page at address 0, which takes two tables; the setup that comes back is for the next call */
+    passed += oak_map(&setup, words, 4 * 512, list, 4, 0, 0x80000000, OAK_4_KIB, OAK_READ + OAK_WRITE, &mapped) == 0;
+    setup = mapped.setup;
+
+    passed += oak_query(&setup, words, 4 * 512, list, 4, 0x123, &found) == 0 && found.frame == 0x80000000;
+    passed += oak_query(&setup, words, 4 * 512, list, 4, 0x1000, &found) == 9; /* nothing is mapped there */
+
+    printf("%d passed, %d failed\n", passed, 4 - passed);
+    return passed != 4;
+}
