@@ -60,17 +60,22 @@ fn line_end(s: State, line: &mut [u64; 20], counts: &mut [u64; 11], words: &mut 
     text::next_line(text::counted(step(t, line, words, list), line[0]))
 }
 
+// A byte of the list.
+fn turn(s: State, b: u8, line: &mut [u64; 20], counts: &mut [u64; 11], words: &mut [u64], list: &mut [u32]) -> State {
+    if b == b'\n' {
+        line_end(s, line, counts, words, list)
+    } else {
+        text::byte(s, b, line)
+    }
+}
+
 // The whole list, byte by byte.
 fn replay(list_text: &[u8], counts: &mut [u64; 11], words: &mut [u64], list: &mut [u32]) -> State {
     let mut line = [0u64; 20];
     let mut s = text::start();
     let mut i = 0;
     while i < list_text.len() {
-        if list_text[i] == b'\n' {
-            s = line_end(s, &mut line, counts, words, list);
-        } else {
-            s = text::byte(s, list_text[i], &mut line);
-        }
+        s = turn(s, list_text[i], &mut line, counts, words, list);
         i += 1;
     }
     s
