@@ -52,13 +52,23 @@ fn format(line: &[u64; 20], words: &mut [u64], list: &mut [u32]) -> bool {
 }
 
 fn map(line: &[u64; 20], words: &mut [u64], list: &[u32]) -> bool {
-    let d = pagetable::map(setup(line), words, list, line[7], line[8], line[9], line[10]);
+    let d = pagetable::map(
+        setup(line),
+        words,
+        list,
+        line[7],
+        line[8],
+        line[9],
+        line[10],
+    );
     let a = d.answer;
     let told = match a {
         MapAnswer::Taken(t) => [0, t],
         MapAnswer::Refused(k) => [k, 0],
     };
-    told[0] == line[11] && same(d.setup, line[12], line[13], line[14], line[15]) && told[1] == line[16]
+    told[0] == line[11]
+        && same(d.setup, line[12], line[13], line[14], line[15])
+        && told[1] == line[16]
 }
 
 fn unmap(line: &[u64; 20], words: &mut [u64], list: &mut [u32]) -> bool {
@@ -76,7 +86,11 @@ fn unmap(line: &[u64; 20], words: &mut [u64], list: &mut [u32]) -> bool {
     if t[0] != line[8] {
         return false;
     }
-    same(d.setup, line[9], line[10], line[11], line[12]) && t[1] == line[13] && t[2] == line[14] && t[3] == line[15] && t[4] == line[16]
+    same(d.setup, line[9], line[10], line[11], line[12])
+        && t[1] == line[13]
+        && t[2] == line[14]
+        && t[3] == line[15]
+        && t[4] == line[16]
 }
 
 fn query(line: &[u64; 20], words: &[u64], list: &[u32]) -> bool {

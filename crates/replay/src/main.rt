@@ -16,7 +16,10 @@ const PLACES: usize = 65;
 // What the list asks for, by the first number of a line.
 fn step(s: State, line: &[u64; 20], words: &mut [u64], list: &mut [u32]) -> State {
     match line[0] {
-        0 => text::told(memory::renew(s, line[1] as usize, line[2] as usize, words, list), true),
+        0 => text::told(
+            memory::renew(s, line[1] as usize, line[2] as usize, words, list),
+            true,
+        ),
         1 => text::told(s, memory::set_word(words, line[1] as usize, line[2])),
         2 => text::told(s, memory::set_place(list, line[1] as usize, line[2])),
         3 => text::told(s, entry::frame_word(line[1], line[2], line[3]) == line[4]),
@@ -44,7 +47,13 @@ fn called(s: State, line: &[u64; 20], words: &mut [u64], list: &mut [u32]) -> bo
 }
 
 // The end of a line: what it says is carried out, unless it is a comment or differs in length.
-fn line_end(s: State, line: &mut [u64; 20], counts: &mut [u64; 11], words: &mut [u64], list: &mut [u32]) -> State {
+fn line_end(
+    s: State,
+    line: &mut [u64; 20],
+    counts: &mut [u64; 11],
+    words: &mut [u64],
+    list: &mut [u32],
+) -> State {
     let t = text::last(s, line);
     if t.numbers == 0 {
         return text::next_line(t);
@@ -61,7 +70,14 @@ fn line_end(s: State, line: &mut [u64; 20], counts: &mut [u64; 11], words: &mut 
 }
 
 // A byte of the list.
-fn turn(s: State, b: u8, line: &mut [u64; 20], counts: &mut [u64; 11], words: &mut [u64], list: &mut [u32]) -> State {
+fn turn(
+    s: State,
+    b: u8,
+    line: &mut [u64; 20],
+    counts: &mut [u64; 11],
+    words: &mut [u64],
+    list: &mut [u32],
+) -> State {
     if b == b'\n' {
         line_end(s, line, counts, words, list)
     } else {

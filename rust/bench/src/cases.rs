@@ -102,7 +102,9 @@ fn changes(pool: &mut Pool, pages: &[u64], removal: bool) -> Batch {
     Batch { sum, ..if removal { removed } else { mapped } }
 }
 
-fn change_case(name: String, levels: u64, tables: u64, before: Vec<(u64, u64)>, pages: Vec<u64>, removal: bool, rounds: usize) -> Case {
+fn change_case(
+    name: String, levels: u64, tables: u64, before: Vec<(u64, u64)>, pages: Vec<u64>, removal: bool, rounds: usize,
+) -> Case {
     Case {
         name,
         make: Box::new(move |side| pool_with(side, levels, tables, &before)),

@@ -65,9 +65,8 @@ impl Pool {
     pub fn unmap(&mut self, address: u64) -> u64 {
         let (w, l) = (&mut self.words, &mut self.list);
         let mut answer = Unmapped { setup: NO_SETUP, frame: 0, size: 0, attributes: 0, given: 0 };
-        let refusal = unsafe {
-            (self.side.unmap)(&self.setup, w.as_mut_ptr(), w.len(), l.as_mut_ptr(), l.len(), address, &mut answer)
-        };
+        let refusal =
+            unsafe { (self.side.unmap)(&self.setup, w.as_mut_ptr(), w.len(), l.as_mut_ptr(), l.len(), address, &mut answer) };
         self.setup = answer.setup;
         one(&[refusal, answer.setup.free, answer.frame, answer.size, answer.attributes, answer.given])
     }

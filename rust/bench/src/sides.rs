@@ -22,13 +22,8 @@ pub struct Side {
 }
 
 /// The proved library.
-pub const OURS: Side = Side {
-    format: raw::oak_format,
-    map: raw::oak_map,
-    unmap: raw::oak_unmap,
-    query: raw::oak_query,
-    audit: raw::oak_audit,
-};
+pub const OURS: Side =
+    Side { format: raw::oak_format, map: raw::oak_map, unmap: raw::oak_unmap, query: raw::oak_query, audit: raw::oak_audit };
 
 /// The plain program.
 pub const PLAIN: Side = Side { format: plain_format, map: plain_map, unmap: plain_unmap, query: plain_query, audit: plain_audit };
