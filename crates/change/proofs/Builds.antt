@@ -16,22 +16,22 @@ use Rattle.change.specs.declared.Step.{Step}
 use Rattle.change.specs.declared.Step.the-variants as S
 use Rattle.change.proofs.Plans.{planned-append}
 
--- of a plan of eight steps, the first i and the writes `more` are `all` the writes; the steps after them are nothing
+-- of a plan of seven steps, the first i and the writes `more` are `all` the writes; the steps after them are nothing
 pub record Filling (p : List Step) (i : ℕ) (more all : List Write) : Type 0 where
-  pub long : length p ≡ 8
+  pub long : length p ≡ 7
   pub rest : planned (drop i p) ≡ []
   pub whole : planned (take i p) ++ more ≡ all
 
 -- a plan of nothing
 abbrev pub nothing : List Step
-nothing = S.Nothing ∷ S.Nothing ∷ S.Nothing ∷ S.Nothing ∷ S.Nothing ∷ S.Nothing ∷ S.Nothing ∷ S.Nothing ∷ []
+nothing = S.Nothing ∷ S.Nothing ∷ S.Nothing ∷ S.Nothing ∷ S.Nothing ∷ S.Nothing ∷ S.Nothing ∷ []
 
 pub filling-start : (all : List Write) → Filling nothing 0 all all
 unfolding planned
 filling-start all = record { long = refl; rest = refl; whole = refl }
 
 -- the next step is s
-pub filling-next : {p : List Step} {i : ℕ} (s : Step) {more all : List Write} → i < 8 → Filling p i (writes s ++ more) all → Filling (set p i s) (i + 1) more all
+pub filling-next : {p : List Step} {i : ℕ} (s : Step) {more all : List Write} → i < 7 → Filling p i (writes s ++ more) all → Filling (set p i s) (i + 1) more all
 unfolding planned
 filling-next {p} {i} s {more} h F =
     let l : i < length p = omega (arith, F .long) in
@@ -68,7 +68,7 @@ module _ (G : Granule) (P : ℕ) (path list : List ℕ) (g word : ℕ) where
       → mapWrites G P path list g word t f n
       ≡ wipe (getD list (f - 1) 0) ∷ store (slot G t (atHeight path (n + g))) (tableWord G P (getD list (f - 1) 0)) ∷ mapWrites G P path list g word (getD list (f - 1) 0) (f - 1) (n - 1)
   unfolding mapWrites
-  map-more t f zero h = absurd (let w : ⊥ = omega arith in w)
+  map-more t f zero h = absurd (omega arith)
   map-more t f (suc n) h = rw (sub-one (suc n))
 
   -- the frame's word is last
@@ -135,7 +135,7 @@ module _ (G : Granule) (way path : List ℕ) where
       → pruneWrites G way path h f k
       ≡ store (slot G (atHeight way (suc h)) (atHeight path (suc h))) 0 ∷ give f (atHeight way h) ∷ pruneWrites G way path (suc h) (suc f) (k - 1)
   unfolding pruneWrites
-  prune-more h f zero l = absurd (let w : ⊥ = omega arith in w)
+  prune-more h f zero l = absurd (omega arith)
   prune-more h f (suc k) l = rw (sub-one (suc k))
 
   pub prune-last : (h f k : ℕ) → k ≡ 0 → pruneWrites G way path h f k ≡ []

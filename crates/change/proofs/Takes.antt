@@ -28,7 +28,7 @@ module _ (list : List ℕ) (n : ℕ) where
 
   take-step : (seen : List ℕ) (f k : ℕ) → 0 < k → mayTake list n seen f k ≡ tests seen f (k - 1)
   unfolding mayTake
-  take-step seen f zero h = absurd (let w : ⊥ = omega arith in w)
+  take-step seen f zero h = absurd (omega arith)
   take-step seen f (suc k) h = ap (tests seen f) (sym (sub-one (suc k)))
 
   -- only numbers above 0 count among those seen
@@ -152,7 +152,7 @@ module _ (G : Granule) (ws way path : List ℕ) where
 
   pub freed-more : (h d : ℕ) → 0 < d → onlyEntry G ws (atHeight way h) (atHeight path h) ≡ true → freed G ws way path h d ≡ suc (freed G ws way path (h + 1) (d - 1))
   unfolding freed
-  freed-more h zero l e = absurd (let w : ⊥ = omega arith in w)
+  freed-more h zero l e = absurd (omega arith)
   freed-more h (suc d) l e = rw (e, add-one, sub-one (suc d))
 
   pub freed-end : (h d : ℕ) → d ≡ 0 → freed G ws way path h d ≡ 0

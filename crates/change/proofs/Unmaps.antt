@@ -6,20 +6,19 @@ use mathlib.Core.Bool.{Bool, true, false, not}
 use mathlib.Core.List.{List}
 use native.Mathlib.Omega.{arith}
 use borrow.Author.Tests.{not-true, lt-ltb, le-ltb, eq-eqb, ne-eqb}
-use lib.ListN.{length}
 use Rattle.path.specs.Geometry.{Granule, Sane, sizeAt, atLevel}
 use Rattle.path.specs.Numbers.{GoodSetup}
 use Rattle.path.specs.Paths.{pathOf}
-use Rattle.path.specs.Laws.{level-some, good-setup}
+use Rattle.path.specs.Laws.{level-some}
 use Rattle.path.specs.declared.Setup.{Setup}
 use Rattle.entry.specs.declared.Entry.{Entry}
 use Rattle.entry.specs.declared.Entry.the-variants.{Frame}
 use Rattle.model.specs.declared.Walked.{Walked}
 use Rattle.model.specs.Answers.{gave, withFree, Pool, pool, Done, done, refuse}
-use Rattle.model.specs.Walk.{stop}
+use Rattle.model.specs.Walk.{noWay, stop}
 use Rattle.model.specs.Writes.{Write, memory, performAll, freed, unmapWrites}
-use Rattle.model.specs.Calls.{goodPool, unmapTests, unmapHere, unmapAt, unmapW}
-use Rattle.lookup.specs.Walks.{walkOf, walk-root, root-within}
+use Rattle.model.specs.Calls.{goodPool, walkTo, unmapTests, unmapHere, unmapAt, unmapW}
+use Rattle.lookup.specs.Walks.{walk-within}
 use Rattle.change.specs.Plan.{planned}
 use Rattle.change.specs.declared.Step.{Step}
 use Rattle.change.proofs.Maps.{passed}
@@ -34,27 +33,25 @@ module _ (G : Granule) (p : Pool) (a : ℕ) {r : Bool} (e : r ≡ goodPool G p) 
     unfolding unmapW
     unmap-refuses z = rw (passed e n, ← t, ne-eqb no 0 z)
 
-    module _ (S : Sane G) (z : no ≡ 0) {path : List ℕ} (q : path ≡ pathOf G a) {o : Walked}
-        (w : o ≡ walkOf G (p .words) (p .numbers .base) (p .numbers .tables) 0 path (p .numbers .levels - 1)) where
-      top : p .numbers .levels - 1 ≤ 3
-      top =
-          let known : GoodSetup G (p .numbers) (length (p .words)) (length (p .list)) = good-setup (passed e n) in
-          omega (arith, S)
+-- no test refused, and the walk ended at o
+pub record Arrived (G : Granule) (p : Pool) (a : ℕ) (o : Walked) : Type 0 where
+  pub good : goodPool G p ≡ true
+  pub tests : unmapTests G (p .numbers .levels) a ≡ 0
+  pub walk : o ≡ walkTo G p 0 a
 
-      pub left-within : o .left ≤ p .numbers .levels - 1
-      left-within = rw w (root-within G (p .words) (p .numbers .base) (p .numbers .tables) 0 path (p .numbers .levels - 1))
+module _ {G : Granule} {p : Pool} {a : ℕ} {o : Walked} (R : Arrived G p a o) where
+  pub left-within : o .left ≤ p .numbers .levels - 1
+  left-within =
+      rw (R .walk) (walk-within G (p .words) (p .numbers .base) (p .numbers .tables) 0 (pathOf G a) (p .numbers .levels - 1) noWay 0)
 
-      -- what unmap does where the walk ended
-      pub unmap-at : {x : Entry} → o .entry ≡ x → unmapAt G p a o x ≡ unmapW G p a
-      unfolding unmapW
-      unmap-at d =
-          ap (unmapAt G p a o) (sym d)
-          ∙ rw (passed e n, ← t, eq-eqb no 0 z, ← q, sym (w ∙ walk-root G (p .words) (p .numbers .base) (p .numbers .tables) 0 path top))
+  -- what unmap does there
+  pub unmap-at : {x : Entry} → o .entry ≡ x → unmapAt G p a o x ≡ unmapW G p a
+  unfolding unmapW
+  unmap-at d = ap (unmapAt G p a o) (sym d) ∙ rw (R .good, R .tests, ← R .walk)
 
-      pub unmap-at-frame : {b k left : ℕ} {way : List ℕ} → o .entry ≡ Frame b k → left ≡ o .left → way ≡ o .tables
-          → unmapAt G p a (stop (Frame b k) left way) (Frame b k) ≡ unmapW G p a
-      unfolding unmapAt unmapHere
-      unmap-at-frame {b} {k} d x y = (λ i. unmapAt G p a (stop (Frame b k) (x i) (y i)) (Frame b k)) ∙ unmap-at d
+  pub unmap-at-frame : {b k : ℕ} → o .entry ≡ Frame b k → unmapAt G p a (stop (Frame b k) (o .left) (o .tables)) (Frame b k) ≡ unmapW G p a
+  unfolding unmapAt unmapHere
+  unmap-at-frame d = unmap-at d
 
 -- the size of the entry where a walk ended
 pub size-known : {G : Granule} {s : Setup} {w l left size : ℕ} → Sane G → GoodSetup G s w l → left ≤ s .levels - 1 → size ≡ atLevel G left (sizeAt G left)

@@ -6,10 +6,11 @@ use model::MapAnswer;
 use model::Mapped;
 use model::UnmapAnswer;
 use model::Unmapped;
+use model::Walked;
 use path::Setup;
 ghost use mathlib.Core.Path.{_≡_};
 ghost use mathlib.Core.Bool.{true};
-ghost use mathlib.Core.List.{List};
+ghost use mathlib.Core.List.{List, []};
 ghost use Prim.Native.Nat.{ℕ, _+_, _-_, _≤_};
 ghost use lib.ListN.{length};
 ghost use Rattle.laws.specs.Lists.{down};
@@ -19,10 +20,13 @@ ghost use Rattle.entry.specs.declared.Entry.the-variants.{Empty, Frame};
 ghost use Rattle.model.specs.Answers.{saysFormat, saysMap, saysUnmap, refused, withFree, pool, done};
 ghost use Rattle.model.specs.Walk.{slot, stop};
 ghost use Rattle.model.specs.Writes.{memory, performAll, mapWrites, mayTake, freed, unmapWrites};
-ghost use Rattle.model.specs.Calls.{formatW, mapTests, mapHere, mapW, unmapTests, unmapAt, unmapW};
+ghost use Rattle.model.specs.Calls.{walkTo, formatW, mapTests, mapHere, mapW, unmapTests, unmapAt, unmapW};
 ghost use Rattle.change.specs.Plan.{writes, planned};
 
-// A single write.
+// The most writes of a call: two for each of three tables, and one for the frame.
+const STEPS: usize = 7;
+
+// A single write: a word, all words of a table to 0, or a place of the free list.
 enum Step {
     Nothing,
     Store { place: usize, value: u64 },
@@ -62,11 +66,11 @@ fn step_list(list: &mut [u32], s: Step)
 }
 
 // The writes of a plan to the words.
-fn write_words(words: &mut [u64], plan: [Step; 8])
+fn write_words(words: &mut [u64], plan: [Step; STEPS])
     ensures { λ _. ⌜ ((l : List ℕ) → now (words .exit) ≡ performAll four (planned plan) (memory (now (words .entry)) l) .words) ⌝ }
 {
     let mut i = 0;
-    while i < 8 {
+    while i < STEPS {
         let s = plan[i];
         step_words(words, s);
         i += 1;
@@ -74,11 +78,11 @@ fn write_words(words: &mut [u64], plan: [Step; 8])
 }
 
 // The writes of a plan to the words and to the free list.
-fn write_all(words: &mut [u64], list: &mut [u32], plan: [Step; 8])
+fn write_all(words: &mut [u64], list: &mut [u32], plan: [Step; STEPS])
     ensures { λ _. ⌜ memory (now (words .exit)) (now (list .exit)) ≡ performAll four (planned plan) (memory (now (words .entry)) (now (list .entry))) ⌝ }
 {
     let mut i = 0;
-    while i < 8 {
+    while i < STEPS {
         let s = plan[i];
         step_words(words, s);
         step_list(list, s);
@@ -201,7 +205,8 @@ fn may_take(list: &[u32], tables: u32, way: [u32; 4], free: usize, need: usize) 
     true
 }
 
-// Of the tables on the way, from the one with entries of height `left` upward, the root excepted: how many come free once their entry on the path is cleared.
+// Of the tables on the way, from the one with entries of height `left` upward, the root excepted: how many come free, one after the other, once the
+// path's entry in each is cleared.
 fn count_freed(words: &[u64], way: [u32; 4], path: [u16; 4], left: usize, top: usize) -> usize
     requires { ⌜ (left ≤ top) × (top ≤ 3) ⌝ }
     ensures { λ r. ⌜ r ≡ freed four (now (words .entry)) way path left (top - left) ⌝ }
@@ -219,7 +224,8 @@ fn count_freed(words: &[u64], way: [u32; 4], path: [u16; 4], left: usize, top: u
     top - left
 }
 
-// The writes of a map: each missing table is taken from the end of the free list, top first, filled with zeros and then linked; the frame's word comes last.
+// The writes of a map: each missing table is taken from the end of the free list, top first, filled with zeros and then linked; the frame's word comes
+// last.
 fn map_plan(
     base: u64,
     path: [u16; 4],
@@ -229,11 +235,11 @@ fn map_plan(
     table: u32,
     free: usize,
     need: usize,
-) -> [Step; 8]
+) -> [Step; STEPS]
     requires { ⌜ (base ≤ physical) × ((height + need ≤ 3) × (need ≤ free)) ⌝ }
     ensures { λ r. ⌜ planned r ≡ mapWrites four base path (now (list .entry)) height word table free need ⌝ }
 {
-    let mut plan = [Step::Nothing; 8];
+    let mut plan = [Step::Nothing; STEPS];
     let mut t = table;
     let mut i = 0;
     while i < need {
@@ -252,12 +258,19 @@ fn map_plan(
     plan
 }
 
-// The writes of an unmap: the frame's word becomes 0; then, for each table that comes free, its parent's entry becomes 0, and the table goes on the free list.
-fn unmap_plan(way: [u32; 4], path: [u16; 4], left: usize, free: usize, given: usize) -> [Step; 8]
+// The writes of an unmap: the frame's word becomes 0; then, for each table that comes free, its parent's entry becomes 0, and after that the table goes
+// on the free list.
+fn unmap_plan(
+    way: [u32; 4],
+    path: [u16; 4],
+    left: usize,
+    free: usize,
+    given: usize,
+) -> [Step; STEPS]
     requires { ⌜ (left + given ≤ 3) × (free ≤ mostTables) ⌝ }
     ensures { λ r. ⌜ planned r ≡ unmapWrites four way path left free given ⌝ }
 {
-    let mut plan = [Step::Nothing; 8];
+    let mut plan = [Step::Nothing; STEPS];
     let at = 3 - left;
     let place = entry_place(way[at], path[at]);
     plan[0] = Step::Store { place, value: 0 };
@@ -267,8 +280,8 @@ fn unmap_plan(way: [u32; 4], path: [u16; 4], left: usize, free: usize, given: us
         let table = way[at];
         let up = at - 1;
         let place = entry_place(way[up], path[up]);
-        plan[2 * k + 1] = Step::Store { place, value: 0 };
         let next = free + k;
+        plan[2 * k + 1] = Step::Store { place, value: 0 };
         plan[2 * k + 2] = Step::Give { place: next, table };
         k += 1;
     }
@@ -287,6 +300,7 @@ fn with_free(s: Setup, free: u64) -> Setup
     }
 }
 
+// A refused map.
 fn map_refused(no: u64, s: Setup) -> Mapped
     ensures { λ r. ⌜ (saysMap (r .answer) ≡ refused no) × (r .setup ≡ s) ⌝ }
 {
@@ -296,6 +310,7 @@ fn map_refused(no: u64, s: Setup) -> Mapped
     }
 }
 
+// A refused unmap.
 fn unmap_refused(no: u64, s: Setup) -> Unmapped
     ensures { λ r. ⌜ (saysUnmap (r .answer) ≡ refused no) × (r .setup ≡ s) ⌝ }
 {
@@ -303,6 +318,21 @@ fn unmap_refused(no: u64, s: Setup) -> Unmapped
         answer: UnmapAnswer::Refused(no),
         setup: s,
     }
+}
+
+// The walk to a height for an address.
+fn walk_to(s: Setup, words: &[u64], target: usize, address: u64) -> Walked
+    requires { ⌜ (1 ≤ s .levels) × ((s .levels ≤ 4) × (s .tables ≤ mostTables)) ⌝ }
+    ensures { λ r. ⌜ r ≡ walkTo four (pool s (now (words .entry)) []) target address ⌝ }
+{
+    lookup::walk(
+        words,
+        s.base,
+        s.tables as u32,
+        target,
+        path::path_of(address),
+        (s.levels - 1) as usize,
+    )
 }
 
 // Map, where the walk ended at an empty entry.
@@ -341,7 +371,7 @@ fn map_empty(
     }
 }
 
-// A mapping of the addresses from `address` on to a frame. Answers the tables taken, or a refusal: 1 to 8.
+// A mapping of `size` addresses from `address` on to a frame. Answers the tables taken, or a refusal: 1 to 8.
 pub fn map(
     s: Setup,
     words: &mut [u64],
@@ -360,16 +390,7 @@ pub fn map(
     if no != 0 {
         return map_refused(no, s);
     }
-    let height = path::height_of(size);
-    let top = (s.levels - 1) as usize;
-    let o = lookup::walk(
-        &words[..],
-        s.base,
-        s.tables as u32,
-        height,
-        path::path_of(address),
-        top,
-    );
+    let o = walk_to(s, &words[..], path::height_of(size), address);
     let e = o.entry;
     let way = o.tables;
     let left = o.left;
@@ -420,7 +441,8 @@ fn unmap_frame(
     }
 }
 
-// The mapping that starts at an address goes, and each table that it leaves empty. Answers the frame and the tables given back, or a refusal: 1, 4, 5, 8, 9 or 10.
+// The mapping that starts at an address goes, and so does each table that is empty then. Answers the frame and the tables given back, or a refusal:
+// 1, 4, 5, 8, 9 or 10.
 pub fn unmap(s: Setup, words: &mut [u64], list: &mut [u32], address: u64) -> Unmapped
     ensures { λ r. ⌜ done (saysUnmap (r .answer)) (pool (r .setup) (now (words .exit)) (now (list .exit))) ≡ unmapW four (pool s (now (words .entry)) (now (list .entry))) address ⌝ }
 {
@@ -431,15 +453,7 @@ pub fn unmap(s: Setup, words: &mut [u64], list: &mut [u32], address: u64) -> Unm
     if no != 0 {
         return unmap_refused(no, s);
     }
-    let top = (s.levels - 1) as usize;
-    let o = lookup::walk(
-        &words[..],
-        s.base,
-        s.tables as u32,
-        0,
-        path::path_of(address),
-        top,
-    );
+    let o = walk_to(s, &words[..], 0, address);
     let e = o.entry;
     let way = o.tables;
     let left = o.left;

@@ -49,7 +49,13 @@ fn map(pool: &mut Pool, address: u64, frame: u64, size: u64, attributes: u64) {
 fn unmap(pool: &mut Pool, address: u64) {
     print!("  unmap {address:#x}: ");
     match pool.unmap(address) {
-        Ok(r) => println!("frame {:#x}, {:#x} bytes, removed; tables given back {}, free {}", r.frame, r.size, r.given, pool.setup().free),
+        Ok(r) => println!(
+            "frame {:#x}, {:#x} bytes, removed; tables given back {}, free {}",
+            r.frame,
+            r.size,
+            r.given,
+            pool.setup().free
+        ),
         Err(refusal) => println!("{refusal}"),
     }
     audit(pool);
@@ -58,7 +64,9 @@ fn unmap(pool: &mut Pool, address: u64) {
 fn query(pool: &Pool, address: u64) {
     print!("  query {address:#x}: ");
     match pool.query(address) {
-        Ok(m) => println!("in the mapping at {:#x}, frame {:#x}, {:#x} bytes, attributes {}", m.base, m.frame, m.size, m.attributes),
+        Ok(m) => {
+            println!("in the mapping at {:#x}, frame {:#x}, {:#x} bytes, attributes {}", m.base, m.frame, m.size, m.attributes)
+        }
         Err(refusal) => println!("{refusal}"),
     }
 }

@@ -21,25 +21,25 @@ loop-holds : tie.Need-loop-holds Inv-loop μ-loop
 loop-holds c = (search needs, (refl, (refl, refl)))
 
 sub-list : tie.Need-sub-list Inv-loop μ-loop
-sub-list c = search needs
+sub-list c = omega arith
 
 sub-list-2 : tie.Need-sub-list-2 Inv-loop μ-loop
-sub-list-2 c = search needs
+sub-list-2 c = omega arith
 
 cast-list : tie.Need-cast-list Inv-loop μ-loop
-cast-list c = search needs
+cast-list c = omega arith
 
 mul-list : tie.Need-mul-list Inv-loop μ-loop
-mul-list c = search needs
+mul-list c = omega arith
 
 slice-write-list : tie.Need-slice-write-list Inv-loop μ-loop
-slice-write-list c = search needs
+slice-write-list c = omega arith
 
 add-i : tie.Need-add-i Inv-loop μ-loop
-add-i c = search needs
+add-i c = omega arith
 
 loop-less : tie.Need-loop-less Inv-loop μ-loop
-loop-less c = search needs
+loop-less c = omega arith
 
 loop-again : tie.Need-loop-again Inv-loop μ-loop
 loop-again c =

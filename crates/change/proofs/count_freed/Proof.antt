@@ -22,25 +22,25 @@ loop-holds c =
     (search needs, (search needs, omega arith))
 
 sub-at : tie.Need-sub-at Inv-loop μ-loop
-sub-at c = search needs
+sub-at c = omega arith
 
 mul-t : tie.Need-mul-t Inv-loop μ-loop
-mul-t c = search needs
+mul-t c = omega arith
 
 array-read-t : tie.Need-array-read-t Inv-loop μ-loop
-array-read-t c = search needs
+array-read-t c = omega arith
 
 mul-i : tie.Need-mul-i Inv-loop μ-loop
-mul-i c = search needs
+mul-i c = omega arith
 
 array-read-i : tie.Need-array-read-i Inv-loop μ-loop
-array-read-i c = search needs
+array-read-i c = omega arith
 
 only-entry-requires : tie.Need-only-entry-requires Inv-loop μ-loop
 only-entry-requires c κs = search needs
 
 sub-result : tie.Need-sub-result Inv-loop μ-loop
-sub-result c = search needs
+sub-result c = omega arith
 
 returns : tie.Need-returns Inv-loop μ-loop
 returns c =
@@ -50,10 +50,10 @@ returns c =
     omega (arith, l .inv .1 .1, stop)
 
 add-h : tie.Need-add-h Inv-loop μ-loop
-add-h c = search needs
+add-h c = omega arith
 
 loop-less : tie.Need-loop-less Inv-loop μ-loop
-loop-less c = search needs
+loop-less c = omega arith
 
 loop-again : tie.Need-loop-again Inv-loop μ-loop
 loop-again c =
@@ -64,7 +64,7 @@ loop-again c =
     (search needs, (search needs, omega (arith, l .inv .1 .1, rw e at more)))
 
 sub-result-2 : tie.Need-sub-result-2 Inv-loop μ-loop
-sub-result-2 c = search needs
+sub-result-2 c = omega arith
 
 returns-2 : tie.Need-returns-2 Inv-loop μ-loop
 returns-2 c =

@@ -24,7 +24,7 @@ count-down-requires c κs =
 
 sub-free : tie.Need-sub-free
 sub-free c =
-    good (c .before .before .before .before .before .before .before .before .before .good-numbers .ensures) (c .before .before .before .before .before .before .before .before .if1 .left) .some-table
+    omega (arith, good (c .before .before .before .before .before .before .before .before .before .good-numbers .ensures) (c .before .before .before .before .before .before .before .before .if1 .left))
 
 same-length : tie.Need-same-length
 same-length c = search needs

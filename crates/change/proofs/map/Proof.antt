@@ -1,12 +1,12 @@
 -- `change::map` makes its tests in their order, then walks.
-use mathlib.Core.Path.{refl, sym, _∙_}
+use mathlib.Core.Path.{sym, _∙_}
 use native.Mathlib.Omega.{arith}
 use borrow.Author.Needs.{needs}
 use Rattle.path.specs.Laws.{four-sane, good-setup}
 use Rattle.path.specs.Geometry.{four}
 use Rattle.model.specs.Calls.{mapAt}
 use Rattle.model.specs.Answers.{pool}
-use Rattle.change.proofs.Maps.{refusing, passed, map-bad, map-refuses, left-most, left-least, map-at, map-at-empty}
+use Rattle.change.proofs.Maps.{refusing, passed, map-bad, map-refuses, Reached, left-most, left-least, map-at, map-at-empty}
 use Rattle.change.proofs.map.Statement.{statement}
 use Rattle.change.proofs.map.Tie as tie
 
@@ -37,49 +37,26 @@ returns-2 c =
 height-of-requires : tie.Need-height-of-requires
 height-of-requires c κs = search needs
 
-sub-top : tie.Need-sub-top
-sub-top c = omega (arith, good-setup {G = four} (passed (c .before .before .before .before .before .good-setup .ensures) (c .before .before .before .before .if1 .left)))
+walk-to-requires : tie.Need-walk-to-requires
+walk-to-requires c κs = omega (arith, good-setup {G = four} (passed (c .before .before .before .before .before .good-setup .ensures) (c .before .before .before .before .if1 .left)))
 
-cast-walk : tie.Need-cast-walk
-cast-walk c = omega (arith, good-setup {G = four} (passed (c .before .before .before .before .before .before .before .good-setup .ensures) (c .before .before .before .before .before .before .if1 .left)))
-
-path-of-requires : tie.Need-path-of-requires
-path-of-requires c κs = search needs
-
-walk-requires : tie.Need-walk-requires
-walk-requires c κs = search needs
+-- no test refused, and the walk is done
+reached : (c : tie.After-walk-to)
+    → let a = c .before .before .before .before .before .before .before .before .before .args in
+    Reached four (pool (a .s) (a .words .now) (a .list .now)) (a .address) (a .frame) (a .size) (a .attributes) (c .walk-to .result)
+reached c = record {
+  good = passed (c .before .before .before .before .before .before .good-setup .ensures) (c .before .before .before .before .before .if1 .left);
+  tests = sym (c .before .before .before .before .map-tests .ensures) ∙ c .before .before .before .if2 .left;
+  walk = c .walk-to .ensures ∙ rw (c .before .height-of .ensures);
+}
 
 enum-told : tie.Need-enum-told
 enum-told c = search needs
 
 map-empty-requires : tie.Need-map-empty-requires
 map-empty-requires c κs =
-    let a = c .before .before .before .before .before .before .before .before .before .before .before .before .before .before .before .before .args in (
-      passed (c .before .before .before .before .before .before .before .before .before .before .before .before .before .good-setup .ensures) (c .before .before .before .before .before .before .before .before .before .before .before .before .if1 .left),
-      (
-        sym (c .before .before .before .before .before .before .before .before .before .before .before .map-tests .ensures) ∙ c .before .before .before .before .before .before .before .before .before .before .if2 .left,
-        (
-          left-least four (pool (a .s) (a .words .now) (a .list .now)) (a .address) (a .frame) (a .size) (a .attributes)
-              (c .before .before .before .before .before .before .before .before .before .before .before .before .before .good-setup .ensures)
-              (c .before .before .before .before .before .before .before .before .before .before .before .before .if1 .left)
-              (c .before .before .before .before .before .before .before .before .before .before .before .map-tests .ensures)
-              four-sane
-              (c .before .before .before .before .before .before .before .before .before .before .if2 .left)
-              (c .before .before .before .before .before .before .before .before .before .height-of .ensures)
-              (c .before .before .before .before .before .path-of .ensures)
-              (c .before .before .before .before .walk .ensures),
-          left-most four (pool (a .s) (a .words .now) (a .list .now)) (a .address) (a .frame) (a .size) (a .attributes)
-              (c .before .before .before .before .before .before .before .before .before .before .before .before .before .good-setup .ensures)
-              (c .before .before .before .before .before .before .before .before .before .before .before .before .if1 .left)
-              (c .before .before .before .before .before .before .before .before .before .before .before .map-tests .ensures)
-              four-sane
-              (c .before .before .before .before .before .before .before .before .before .before .if2 .left)
-              (c .before .before .before .before .before .before .before .before .before .height-of .ensures)
-              (c .before .before .before .before .before .path-of .ensures)
-              (c .before .before .before .before .walk .ensures),
-        ),
-      ),
-    )
+    let w = reached (c .before .before .before .before) in
+    (w .good, (w .tests, (left-least w four-sane, left-most w four-sane)))
 
 enum-told-2 : tie.Need-enum-told-2
 enum-told-2 c = search needs
@@ -103,21 +80,7 @@ same-length : tie.Need-same-length
 same-length c = search needs
 
 returns-3 : tie.Need-returns-3
-returns-3 c =
-    let a = c .before .before .before .before .before .before .before .before .before .before .before .before .before .before .before .before .before .before .before .args in
-    c .before .before .map-empty .ensures
-    ∙ map-at-empty four (pool (a .s) (a .words .now) (a .list .now)) (a .address) (a .frame) (a .size) (a .attributes)
-    (c .before .before .before .before .before .before .before .before .before .before .before .before .before .before .before .before .good-setup .ensures)
-    (c .before .before .before .before .before .before .before .before .before .before .before .before .before .before .before .if1 .left)
-    (c .before .before .before .before .before .before .before .before .before .before .before .before .before .before .map-tests .ensures)
-    four-sane
-    (c .before .before .before .before .before .before .before .before .before .before .before .before .before .if2 .left)
-    (c .before .before .before .before .before .before .before .before .before .before .before .before .height-of .ensures)
-    (c .before .before .before .before .before .before .before .before .path-of .ensures)
-    (c .before .before .before .before .before .before .before .walk .ensures)
-    (c .before .before .before .before .enum-told .given .1)
-    refl
-    refl
+returns-3 c = c .before .before .map-empty .ensures ∙ map-at-empty (reached (c .before .before .before .before .before .before .before)) (c .before .before .before .before .enum-told .given .1)
 
 same-length-2 : tie.Need-same-length-2
 same-length-2 c = search needs
@@ -125,18 +88,8 @@ same-length-2 c = search needs
 returns-4 : tie.Need-returns-4
 unfolding mapAt
 returns-4 c =
-    let a = c .before .before .before .before .before .before .before .before .before .before .before .before .before .before .before .before .args in
-    refusing (a .words .now) (a .list .now) (c .map-refused3 .ensures)
-    ∙ map-at four (pool (a .s) (a .words .now) (a .list .now)) (a .address) (a .frame) (a .size) (a .attributes)
-    (c .before .before .before .before .before .before .before .before .before .before .before .before .before .good-setup .ensures)
-    (c .before .before .before .before .before .before .before .before .before .before .before .before .if1 .left)
-    (c .before .before .before .before .before .before .before .before .before .before .before .map-tests .ensures)
-    four-sane
-    (c .before .before .before .before .before .before .before .before .before .before .if2 .left)
-    (c .before .before .before .before .before .before .before .before .before .height-of .ensures)
-    (c .before .before .before .before .before .path-of .ensures)
-    (c .before .before .before .before .walk .ensures)
-    (c .before .enum-told2 .given .1)
+    let a = c .before .before .before .before .before .before .before .before .before .before .before .before .before .args in
+    refusing (a .words .now) (a .list .now) (c .map-refused3 .ensures) ∙ map-at (reached (c .before .before .before .before)) (c .before .enum-told2 .given .1)
 
 same-length-3 : tie.Need-same-length-3
 same-length-3 c = search needs
@@ -144,18 +97,8 @@ same-length-3 c = search needs
 returns-5 : tie.Need-returns-5
 unfolding mapAt
 returns-5 c =
-    let a = c .before .before .before .before .before .before .before .before .before .before .before .before .before .before .before .before .args in
-    refusing (a .words .now) (a .list .now) (c .map-refused4 .ensures)
-    ∙ map-at four (pool (a .s) (a .words .now) (a .list .now)) (a .address) (a .frame) (a .size) (a .attributes)
-    (c .before .before .before .before .before .before .before .before .before .before .before .before .before .good-setup .ensures)
-    (c .before .before .before .before .before .before .before .before .before .before .before .before .if1 .left)
-    (c .before .before .before .before .before .before .before .before .before .before .before .map-tests .ensures)
-    four-sane
-    (c .before .before .before .before .before .before .before .before .before .before .if2 .left)
-    (c .before .before .before .before .before .before .before .before .before .height-of .ensures)
-    (c .before .before .before .before .before .path-of .ensures)
-    (c .before .before .before .before .walk .ensures)
-    (c .before .enum-told3 .given .1)
+    let a = c .before .before .before .before .before .before .before .before .before .before .before .before .before .args in
+    refusing (a .words .now) (a .list .now) (c .map-refused4 .ensures) ∙ map-at (reached (c .before .before .before .before)) (c .before .enum-told3 .given .1)
 
 same-length-4 : tie.Need-same-length-4
 same-length-4 c = search needs
@@ -163,18 +106,8 @@ same-length-4 c = search needs
 returns-6 : tie.Need-returns-6
 unfolding mapAt
 returns-6 c =
-    let a = c .before .before .before .before .before .before .before .before .before .before .before .before .before .before .before .before .args in
-    refusing (a .words .now) (a .list .now) (c .map-refused5 .ensures)
-    ∙ map-at four (pool (a .s) (a .words .now) (a .list .now)) (a .address) (a .frame) (a .size) (a .attributes)
-    (c .before .before .before .before .before .before .before .before .before .before .before .before .before .good-setup .ensures)
-    (c .before .before .before .before .before .before .before .before .before .before .before .before .if1 .left)
-    (c .before .before .before .before .before .before .before .before .before .before .before .map-tests .ensures)
-    four-sane
-    (c .before .before .before .before .before .before .before .before .before .before .if2 .left)
-    (c .before .before .before .before .before .before .before .before .before .height-of .ensures)
-    (c .before .before .before .before .before .path-of .ensures)
-    (c .before .before .before .before .walk .ensures)
-    (c .before .enum-told4 .given .1)
+    let a = c .before .before .before .before .before .before .before .before .before .before .before .before .before .args in
+    refusing (a .words .now) (a .list .now) (c .map-refused5 .ensures) ∙ map-at (reached (c .before .before .before .before)) (c .before .enum-told4 .given .1)
 
 pub map-spec : {M : Type 1} → statement M
 map-spec =
@@ -187,10 +120,7 @@ map-spec =
     map-refused-requires-2
     returns-2
     height-of-requires
-    sub-top
-    cast-walk
-    path-of-requires
-    walk-requires
+    walk-to-requires
     enum-told
     map-empty-requires
     enum-told-2

@@ -12,7 +12,7 @@ height-of-requires : tie.Need-height-of-requires
 height-of-requires c κs = search needs
 
 sub-need : tie.Need-sub-need
-sub-need c = search needs
+sub-need c = omega arith
 
 map-refused-requires : tie.Need-map-refused-requires
 map-refused-requires c κs = search needs
@@ -45,13 +45,13 @@ frame-word-requires : tie.Need-frame-word-requires
 frame-word-requires c κs = search needs
 
 sub-at : tie.Need-sub-at
-sub-at c = search needs
+sub-at c = omega arith
 
 mul-map-plan : tie.Need-mul-map-plan
-mul-map-plan c = search needs
+mul-map-plan c = omega arith
 
 array-read-map-plan : tie.Need-array-read-map-plan
-array-read-map-plan c = search needs
+array-read-map-plan c = omega arith
 
 map-plan-requires : tie.Need-map-plan-requires
 map-plan-requires c κs =

@@ -3,7 +3,6 @@ use Prim.Native.Nat.{_-_}
 use mathlib.Core.Path.{_∙_}
 use native.Mathlib.Omega.{arith}
 use borrow.Author.Tests.{le-leb}
-use borrow.Author.Needs.{needs}
 use Rattle.path.specs.Geometry.{four}
 use Rattle.change.proofs.Builds.{Linking, linking-start, linking-next, linking-end}
 use Rattle.change.proofs.map_plan.Statement.{statement}
@@ -21,61 +20,61 @@ loop-holds c =
     linking-start four (a .base) (a .t2) (a .list .now) (a .height) (a .word) (a .table) (a .free) (a .need)
 
 sub-place : tie.Need-sub-place Inv-loop μ-loop
-sub-place c = search needs
+sub-place c = omega arith
 
 sub-place-2 : tie.Need-sub-place-2 Inv-loop μ-loop
-sub-place-2 c = search needs
+sub-place-2 c = omega arith
 
 place-requires : tie.Need-place-requires Inv-loop μ-loop
-place-requires c κs = search needs
+place-requires c κs = omega arith
 
 add-at : tie.Need-add-at Inv-loop μ-loop
-add-at c = search needs
+add-at c = omega arith
 
 sub-at : tie.Need-sub-at Inv-loop μ-loop
-sub-at c = search needs
+sub-at c = omega arith
 
 sub-at-2 : tie.Need-sub-at-2 Inv-loop μ-loop
-sub-at-2 c = search needs
+sub-at-2 c = omega arith
 
 mul-entry-place : tie.Need-mul-entry-place Inv-loop μ-loop
-mul-entry-place c = search needs
+mul-entry-place c = omega arith
 
 array-read-entry-place : tie.Need-array-read-entry-place Inv-loop μ-loop
-array-read-entry-place c = search needs
+array-read-entry-place c = omega arith
 
 entry-place-requires : tie.Need-entry-place-requires Inv-loop μ-loop
-entry-place-requires c κs = search needs
+entry-place-requires c κs = omega arith
 
 table-word-requires : tie.Need-table-word-requires Inv-loop μ-loop
-table-word-requires c κs = search needs
+table-word-requires c κs = omega arith
 
 mul-plan : tie.Need-mul-plan Inv-loop μ-loop
-mul-plan c = search needs
+mul-plan c = omega arith
 
 mul-plan-2 : tie.Need-mul-plan-2 Inv-loop μ-loop
-mul-plan-2 c = search needs
+mul-plan-2 c = omega arith
 
 array-set-from-plan : tie.Need-array-set-from-plan Inv-loop μ-loop
-array-set-from-plan c = search needs
+array-set-from-plan c = omega arith
 
 mul-plan-3 : tie.Need-mul-plan-3 Inv-loop μ-loop
-mul-plan-3 c = search needs
+mul-plan-3 c = omega arith
 
 add-plan : tie.Need-add-plan Inv-loop μ-loop
-add-plan c = search needs
+add-plan c = omega arith
 
 mul-plan-4 : tie.Need-mul-plan-4 Inv-loop μ-loop
-mul-plan-4 c = search needs
+mul-plan-4 c = omega arith
 
 array-set-from-plan-2 : tie.Need-array-set-from-plan-2 Inv-loop μ-loop
-array-set-from-plan-2 c = search needs
+array-set-from-plan-2 c = omega arith
 
 add-i : tie.Need-add-i Inv-loop μ-loop
-add-i c = search needs
+add-i c = omega arith
 
 loop-less : tie.Need-loop-less Inv-loop μ-loop
-loop-less c = search needs
+loop-less c = omega arith
 
 loop-again : tie.Need-loop-again Inv-loop μ-loop
 loop-again c =
@@ -85,25 +84,25 @@ loop-again c =
     (c .table-word .ensures ∙ rw (le-leb _ _ (c .before .before .before .before .before .before .pre .0)))
 
 sub-at-3 : tie.Need-sub-at-3 Inv-loop μ-loop
-sub-at-3 c = search needs
+sub-at-3 c = omega arith
 
 mul-entry-place-2 : tie.Need-mul-entry-place-2 Inv-loop μ-loop
-mul-entry-place-2 c = search needs
+mul-entry-place-2 c = omega arith
 
 array-read-entry-place-2 : tie.Need-array-read-entry-place-2 Inv-loop μ-loop
-array-read-entry-place-2 c = search needs
+array-read-entry-place-2 c = omega arith
 
 entry-place-requires-2 : tie.Need-entry-place-requires-2 Inv-loop μ-loop
-entry-place-requires-2 c κs = search needs
+entry-place-requires-2 c κs = omega arith
 
 mul-plan-5 : tie.Need-mul-plan-5 Inv-loop μ-loop
-mul-plan-5 c = search needs
+mul-plan-5 c = omega arith
 
 mul-plan-6 : tie.Need-mul-plan-6 Inv-loop μ-loop
-mul-plan-6 c = search needs
+mul-plan-6 c = omega arith
 
 array-set-from-plan-3 : tie.Need-array-set-from-plan-3 Inv-loop μ-loop
-array-set-from-plan-3 c = search needs
+array-set-from-plan-3 c = omega arith
 
 returns : tie.Need-returns Inv-loop μ-loop
 returns c =

@@ -17,10 +17,10 @@ loop-holds : tie.Need-loop-holds Inv-loop μ-loop
 loop-holds c = taking-start (c .before .args .list .now) (c .before .args .tables) (c .before .args .way) (c .before .args .free) (c .before .args .need)
 
 sub-place : tie.Need-sub-place Inv-loop μ-loop
-sub-place c = search needs
+sub-place c = omega arith
 
 sub-place-2 : tie.Need-sub-place-2 Inv-loop μ-loop
-sub-place-2 c = search needs
+sub-place-2 c = omega arith
 
 place-requires : tie.Need-place-requires Inv-loop μ-loop
 place-requires c κs = search needs
@@ -56,16 +56,16 @@ returns-4 c =
     taking-twice (a .list .now) (a .tables) (l .inv) (c .before .before .before .before .before .before .before .loop-test .taken) (c .before .before .before .before .before .before .place .ensures) (c .before .before .before .before .before .if1 .left) (c .before .before .before .before .if2 .left) (sym (c .before .among-four2 .ensures) ∙ c .if4 .taken)
 
 mul-taken : tie.Need-mul-taken Inv-loop μ-loop
-mul-taken c = search needs
+mul-taken c = omega arith
 
 array-write-taken : tie.Need-array-write-taken Inv-loop μ-loop
-array-write-taken c = search needs
+array-write-taken c = omega arith
 
 add-i : tie.Need-add-i Inv-loop μ-loop
-add-i c = search needs
+add-i c = omega arith
 
 loop-less : tie.Need-loop-less Inv-loop μ-loop
-loop-less c = search needs
+loop-less c = omega arith
 
 loop-again : tie.Need-loop-again Inv-loop μ-loop
 loop-again c =

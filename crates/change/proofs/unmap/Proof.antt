@@ -1,12 +1,12 @@
 -- `change::unmap` makes its tests in their order, then walks.
-use mathlib.Core.Path.{refl, _∙_}
+use mathlib.Core.Path.{sym, _∙_}
 use native.Mathlib.Omega.{arith}
 use borrow.Author.Needs.{needs}
-use Rattle.path.specs.Laws.{four-sane, good-setup}
+use Rattle.path.specs.Laws.{good-setup}
 use Rattle.path.specs.Geometry.{four}
 use Rattle.model.specs.Calls.{unmapAt}
 use Rattle.model.specs.Answers.{pool}
-use Rattle.change.proofs.Unmaps.{unmap-bad, unmap-refuses, left-within, unmap-at, unmap-at-frame}
+use Rattle.change.proofs.Unmaps.{unmap-bad, unmap-refuses, Arrived, left-within, unmap-at, unmap-at-frame}
 use Rattle.change.proofs.Maps.{refusing, passed}
 use Rattle.change.proofs.unmap.Statement.{statement}
 use Rattle.change.proofs.unmap.Tie as tie
@@ -35,34 +35,26 @@ returns-2 c =
     refusing (a .words .now) (a .list .now) (c .unmap-refused2 .ensures)
     ∙ unmap-refuses four (pool (a .s) (a .words .now) (a .list .now)) (a .address) (c .before .before .before .before .good-setup .ensures) (c .before .before .before .if1 .left) (c .before .before .unmap-tests .ensures) (c .before .if2 .taken)
 
-sub-top : tie.Need-sub-top
-sub-top c = omega (arith, good-setup {G = four} (passed (c .before .before .before .before .good-setup .ensures) (c .before .before .before .if1 .left)))
+walk-to-requires : tie.Need-walk-to-requires
+walk-to-requires c κs = omega (arith, good-setup {G = four} (passed (c .before .before .before .before .good-setup .ensures) (c .before .before .before .if1 .left)))
 
-cast-walk : tie.Need-cast-walk
-cast-walk c = omega (arith, good-setup {G = four} (passed (c .before .before .before .before .before .before .good-setup .ensures) (c .before .before .before .before .before .if1 .left)))
-
-path-of-requires : tie.Need-path-of-requires
-path-of-requires c κs = search needs
-
-walk-requires : tie.Need-walk-requires
-walk-requires c κs = search needs
+-- no test refused, and the walk is done
+arrived : (c : tie.After-walk-to)
+    → let a = c .before .before .before .before .before .before .before .before .args in
+    Arrived four (pool (a .s) (a .words .now) (a .list .now)) (a .address) (c .walk-to .result)
+arrived c = record {
+  good = passed (c .before .before .before .before .before .good-setup .ensures) (c .before .before .before .before .if1 .left);
+  tests = sym (c .before .before .before .unmap-tests .ensures) ∙ c .before .before .if2 .left;
+  walk = c .walk-to .ensures;
+}
 
 enum-known-e : tie.Need-enum-known-e
 enum-known-e c = search needs
 
 unmap-frame-requires : tie.Need-unmap-frame-requires
 unmap-frame-requires c κs =
-    let a = c .before .before .before .before .before .before .before .before .before .before .before .before .before .before .before .before .before .args in (
-      passed (c .before .before .before .before .before .before .before .before .before .before .before .before .before .before .good-setup .ensures) (c .before .before .before .before .before .before .before .before .before .before .before .before .before .if1 .left),
-      left-within four (pool (a .s) (a .words .now) (a .list .now)) (a .address)
-          (c .before .before .before .before .before .before .before .before .before .before .before .before .before .before .good-setup .ensures)
-          (c .before .before .before .before .before .before .before .before .before .before .before .before .before .if1 .left)
-          (c .before .before .before .before .before .before .before .before .before .before .before .before .unmap-tests .ensures)
-          four-sane
-          (c .before .before .before .before .before .before .before .before .before .before .before .if2 .left)
-          (c .before .before .before .before .before .before .before .path-of .ensures)
-          (c .before .before .before .before .before .before .walk .ensures),
-    )
+    let w = arrived (c .before .before .before .before .before .before) in
+    (w .good, left-within w)
 
 enum-told : tie.Need-enum-told
 enum-told c = search needs
@@ -89,20 +81,7 @@ same-length-2 : tie.Need-same-length-2
 same-length-2 c = search needs
 
 returns-3 : tie.Need-returns-3
-returns-3 c =
-    let a = c .before .before .before .before .before .before .before .before .before .before .before .before .before .before .before .before .before .before .before .before .before .before .args in
-    c .before .before .before .before .unmap-frame .ensures
-    ∙ unmap-at-frame four (pool (a .s) (a .words .now) (a .list .now)) (a .address)
-    (c .before .before .before .before .before .before .before .before .before .before .before .before .before .before .before .before .before .before .before .good-setup .ensures)
-    (c .before .before .before .before .before .before .before .before .before .before .before .before .before .before .before .before .before .before .if1 .left)
-    (c .before .before .before .before .before .before .before .before .before .before .before .before .before .before .before .before .before .unmap-tests .ensures)
-    four-sane
-    (c .before .before .before .before .before .before .before .before .before .before .before .before .before .before .before .before .if2 .left)
-    (c .before .before .before .before .before .before .before .before .before .before .before .before .path-of .ensures)
-    (c .before .before .before .before .before .before .before .before .before .before .before .walk .ensures)
-    (c .before .before .before .before .before .before .before .before .e .given .1)
-    refl
-    refl
+returns-3 c = c .before .before .before .before .unmap-frame .ensures ∙ unmap-at-frame (arrived (c .before .before .before .before .before .before .before .before .before .before .before)) (c .before .before .before .before .before .before .before .before .e .given .1)
 
 same-length-3 : tie.Need-same-length-3
 same-length-3 c = search needs
@@ -110,17 +89,8 @@ same-length-3 c = search needs
 returns-4 : tie.Need-returns-4
 unfolding unmapAt
 returns-4 c =
-    let a = c .before .before .before .before .before .before .before .before .before .before .before .before .before .before .before .args in
-    refusing (a .words .now) (a .list .now) (c .unmap-refused3 .ensures)
-    ∙ unmap-at four (pool (a .s) (a .words .now) (a .list .now)) (a .address)
-    (c .before .before .before .before .before .before .before .before .before .before .before .before .good-setup .ensures)
-    (c .before .before .before .before .before .before .before .before .before .before .before .if1 .left)
-    (c .before .before .before .before .before .before .before .before .before .before .unmap-tests .ensures)
-    four-sane
-    (c .before .before .before .before .before .before .before .before .before .if2 .left)
-    (c .before .before .before .before .before .path-of .ensures)
-    (c .before .before .before .before .walk .ensures)
-    (c .before .enum-told .given .1)
+    let a = c .before .before .before .before .before .before .before .before .before .before .before .before .args in
+    refusing (a .words .now) (a .list .now) (c .unmap-refused3 .ensures) ∙ unmap-at (arrived (c .before .before .before .before)) (c .before .enum-told .given .1)
 
 same-length-4 : tie.Need-same-length-4
 same-length-4 c = search needs
@@ -128,17 +98,8 @@ same-length-4 c = search needs
 returns-5 : tie.Need-returns-5
 unfolding unmapAt
 returns-5 c =
-    let a = c .before .before .before .before .before .before .before .before .before .before .before .before .before .before .before .args in
-    refusing (a .words .now) (a .list .now) (c .unmap-refused4 .ensures)
-    ∙ unmap-at four (pool (a .s) (a .words .now) (a .list .now)) (a .address)
-    (c .before .before .before .before .before .before .before .before .before .before .before .before .good-setup .ensures)
-    (c .before .before .before .before .before .before .before .before .before .before .before .if1 .left)
-    (c .before .before .before .before .before .before .before .before .before .before .unmap-tests .ensures)
-    four-sane
-    (c .before .before .before .before .before .before .before .before .before .if2 .left)
-    (c .before .before .before .before .before .path-of .ensures)
-    (c .before .before .before .before .walk .ensures)
-    (c .before .enum-told2 .given .1)
+    let a = c .before .before .before .before .before .before .before .before .before .before .before .before .args in
+    refusing (a .words .now) (a .list .now) (c .unmap-refused4 .ensures) ∙ unmap-at (arrived (c .before .before .before .before)) (c .before .enum-told2 .given .1)
 
 same-length-5 : tie.Need-same-length-5
 same-length-5 c = search needs
@@ -146,17 +107,8 @@ same-length-5 c = search needs
 returns-6 : tie.Need-returns-6
 unfolding unmapAt
 returns-6 c =
-    let a = c .before .before .before .before .before .before .before .before .before .before .before .before .before .before .before .args in
-    refusing (a .words .now) (a .list .now) (c .unmap-refused5 .ensures)
-    ∙ unmap-at four (pool (a .s) (a .words .now) (a .list .now)) (a .address)
-    (c .before .before .before .before .before .before .before .before .before .before .before .before .good-setup .ensures)
-    (c .before .before .before .before .before .before .before .before .before .before .before .if1 .left)
-    (c .before .before .before .before .before .before .before .before .before .before .unmap-tests .ensures)
-    four-sane
-    (c .before .before .before .before .before .before .before .before .before .if2 .left)
-    (c .before .before .before .before .before .path-of .ensures)
-    (c .before .before .before .before .walk .ensures)
-    (c .before .enum-told3 .given .1)
+    let a = c .before .before .before .before .before .before .before .before .before .before .before .before .args in
+    refusing (a .words .now) (a .list .now) (c .unmap-refused5 .ensures) ∙ unmap-at (arrived (c .before .before .before .before)) (c .before .enum-told3 .given .1)
 
 pub unmap-spec : {M : Type 1} → statement M
 unmap-spec =
@@ -168,10 +120,7 @@ unmap-spec =
     unmap-tests-requires
     unmap-refused-requires-2
     returns-2
-    sub-top
-    cast-walk
-    path-of-requires
-    walk-requires
+    walk-to-requires
     enum-known-e
     unmap-frame-requires
     enum-told

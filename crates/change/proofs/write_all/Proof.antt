@@ -14,20 +14,20 @@ use Rattle.change.proofs.write_all.Tie as tie
 
 abbrev Inv-loop : tie.InvT-loop
 Inv-loop words₀ list₀ plan i₀ words list i =
-    (i ≤ 8) × ((length words ≡ length words₀) × ((length list ≡ length list₀) × (memory words list ≡ performAll four (planned (take i plan)) (memory words₀ list₀))))
+    (i ≤ 7) × ((length words ≡ length words₀) × ((length list ≡ length list₀) × (memory words list ≡ performAll four (planned (take i plan)) (memory words₀ list₀))))
 
 abbrev μ-loop : tie.MeasureT-loop
-μ-loop words₀ list₀ plan i₀ words list i = 8 - i
+μ-loop words₀ list₀ plan i₀ words list i = 7 - i
 
 loop-holds : tie.Need-loop-holds Inv-loop μ-loop
 unfolding planned performAll
 loop-holds c = (search needs, (refl, (refl, refl)))
 
 mul-s : tie.Need-mul-s Inv-loop μ-loop
-mul-s c = search needs
+mul-s c = omega arith
 
 array-copy-out-s : tie.Need-array-copy-out-s Inv-loop μ-loop
-array-copy-out-s c = search needs
+array-copy-out-s c = omega arith
 
 step-words-requires : tie.Need-step-words-requires Inv-loop μ-loop
 step-words-requires c κs = search needs
@@ -36,10 +36,10 @@ step-list-requires : tie.Need-step-list-requires Inv-loop μ-loop
 step-list-requires c κs = search needs
 
 add-i : tie.Need-add-i Inv-loop μ-loop
-add-i c = search needs
+add-i c = omega arith
 
 loop-less : tie.Need-loop-less Inv-loop μ-loop
-loop-less c = search needs
+loop-less c = omega arith
 
 loop-again : tie.Need-loop-again Inv-loop μ-loop
 loop-again c =

@@ -13,29 +13,29 @@ use Rattle.change.proofs.write_words.Statement.{statement}
 use Rattle.change.proofs.write_words.Tie as tie
 
 abbrev Inv-loop : tie.InvT-loop
-Inv-loop words₀ plan i₀ words i = (i ≤ 8) × ((length words ≡ length words₀) × ((l : List ℕ) → words ≡ performAll four (planned (take i plan)) (memory words₀ l) .words))
+Inv-loop words₀ plan i₀ words i = (i ≤ 7) × ((length words ≡ length words₀) × ((l : List ℕ) → words ≡ performAll four (planned (take i plan)) (memory words₀ l) .words))
 
 abbrev μ-loop : tie.MeasureT-loop
-μ-loop words₀ plan i₀ words i = 8 - i
+μ-loop words₀ plan i₀ words i = 7 - i
 
 loop-holds : tie.Need-loop-holds Inv-loop μ-loop
 unfolding planned performAll
 loop-holds c = (search needs, (refl, λ l. refl))
 
 mul-s : tie.Need-mul-s Inv-loop μ-loop
-mul-s c = search needs
+mul-s c = omega arith
 
 array-copy-out-s : tie.Need-array-copy-out-s Inv-loop μ-loop
-array-copy-out-s c = search needs
+array-copy-out-s c = omega arith
 
 step-words-requires : tie.Need-step-words-requires Inv-loop μ-loop
 step-words-requires c κs = search needs
 
 add-i : tie.Need-add-i Inv-loop μ-loop
-add-i c = search needs
+add-i c = omega arith
 
 loop-less : tie.Need-loop-less Inv-loop μ-loop
-loop-less c = search needs
+loop-less c = omega arith
 
 loop-again : tie.Need-loop-again Inv-loop μ-loop
 loop-again c =
