@@ -1,4 +1,4 @@
-"""Writes the files stdin and stdout of the program `cases` to a folder, by the model of the paper (paper.py).     lines.py DIR"""
+"""Writes the first lines of the files stdin and stdout of the program `cases` to a folder, by the model of the paper (paper.py).     lines.py DIR"""
 import sys
 from paper import *
 BASE, FRAME, PAGE, MIB2, GIB = 0x40000000, 0x80000000, 4096, 2 ** 21, 2 ** 30
@@ -14,8 +14,14 @@ def line(head, answer=''):
 
 def nums(s): return f'levels {s.levels}, base {s.base:#x}, tables {s.tables}, free {s.free}'
 def fr(f, z, a): return f'frame {f:#x}, size {z:#x}, attributes {a}'
-def diff(ws, old): return '; words' + ''.join(f' {i}={w:#x}' for i, w in enumerate(ws) if w != old[i])
-def list_(ps): return '; places' + ''.join(f' {t}' for t in ps)
+
+
+def said(head, a, done, ow, op):
+    """What a call answers, the setup after it, and what is not as it was."""
+    words = [f'; word {i}={w:#x}' for i, (w, o) in enumerate(zip(W, ow)) if w != o]
+    places = [f'; place {i}={t}' for i, (t, o) in enumerate(zip(L, op)) if t != o]
+    answer = f'refused {a[1]}' if a[0] == 'refused' else done(*a[1:])
+    line(head, f' -> {answer}; {nums(cur)}' + (''.join(words + places) or '; kept'))
 
 
 def heading(t):
@@ -50,48 +56,33 @@ def fmt(name, levels, base, n):
     global cur
     ow, op = list(W), list(L)
     a, cur = format_(levels, base, n, W, L)
-    head = f'{name}: format levels {levels}, base {base:#x}, tables {n}'
-    if a[0] == 'refused':
-        assert (ow, op) == (W, L)
-        line(head, f' -> refused {a[1]}, {nums(cur)}; kept')
-    else:
-        assert not any(W)
-        line(head, f' -> done, {nums(cur)}; all words 0' + list_(L))
+    if a[0] == 'refused': assert (ow, op) == (W, L)
+    else: ow = [0] * len(W)
+    said(f'{name}: format levels {levels}, base {base:#x}, tables {n}', a, lambda: 'done, all words 0', ow, op)
 
 
 def mp(name, va, f, z, at):
     global cur
     s, ow, op = cur, list(W), list(L)
     a, cur = map_(s, W, L, va, f, z, at)
-    assert op == L
-    head = f'{name}: map {va:#x} to {fr(f, z, at)}'
-    if a[0] == 'refused':
-        assert ow == W and cur is s
-        line(head, f' -> refused {a[1]}; kept')
-    else:
-        line(head, f' -> takes {a[1]}, free {cur.free}' + diff(W, ow))
+    if a[0] == 'refused': assert (ow, op) == (W, L) and cur is s
+    said(f'{name}: map {va:#x} to {fr(f, z, at)}', a, lambda n: f'takes {n}', ow, op)
 
 
 def un(name, va):
     global cur
     s, ow, op = cur, list(W), list(L)
     a, cur = unmap_(s, W, L, va)
-    head = f'{name}: unmap {va:#x}'
-    if a[0] == 'refused':
-        assert (ow, op) == (W, L) and cur is s
-        line(head, f' -> refused {a[1]}; kept')
-    else:
-        line(head, ' -> ' + fr(*a[1:4]) + f', gives {a[4]}, free {cur.free}' + diff(W, ow) + list_(L))
+    if a[0] == 'refused': assert (ow, op) == (W, L) and cur is s
+    said(f'{name}: unmap {va:#x}', a, lambda f, z, at, n: f'gives {n}, {fr(f, z, at)}', ow, op)
 
 
 def qu(name, va):
-    a = query_(cur, W, L, va)
-    line(f'{name}: query {va:#x}', (f' -> refused {a[1]}' if a[0] == 'refused' else f' -> base {a[1]:#x}, ' + fr(*a[2:])) + '; kept')
+    said(f'{name}: query {va:#x}', query_(cur, W, L, va), lambda b, f, z, at: f'base {b:#x}, {fr(f, z, at)}', W, L)
 
 
 def au(name):
-    a = audit_(cur, W, L)
-    line(f'{name}: audit', (f' -> refused {a[1]}' if a[0] == 'refused' else f' -> tables {a[1]}, mappings {a[2]}') + '; kept')
+    said(f'{name}: audit', audit_(cur, W, L), lambda t, m: f'tables {t}, mappings {m}', W, L)
 
 
 heading('The eleven cases of document 01.')

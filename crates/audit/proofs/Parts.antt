@@ -21,7 +21,13 @@ abbrev pub unseen : Seen
 unseen = record { ok = true; reached = []; count = 0 }
 
 pub seen-⊕ : (F G : Found) → seen (F ⊕ G) ≡ seen F ⊞ seen G
-seen-⊕ F G = rw (length-append (F .mappings) (G .mappings))
+seen-⊕ F G = rw (length-append (F .mappings) (G .mappings), in-pairs (F .ok) (G .ok) (F .full) (G .full))
+  where
+    in-pairs : (a b c d : Bool) → ((a && b) && (c && d)) ≡ ((a && c) && (b && d))
+    in-pairs true true c d = refl
+    in-pairs true false true d = refl
+    in-pairs true false false d = refl
+    in-pairs false b c d = refl
 
 -- ---- marks
 

@@ -13,6 +13,7 @@ use lib.Seq.{drop-cons}
 use Rattle.laws.specs.Lists.{allZero}
 use Rattle.laws.specs.ListLaws.{length-part-le, getD-part}
 use Rattle.path.specs.Geometry.{Granule, four, entries, sizeAt}
+use Rattle.path.specs.Areas.{Area, areaAt}
 use Rattle.entry.specs.Words.{entryAt}
 use Rattle.path.specs.Laws.{four-sane}
 use Rattle.entry.specs.Laws.{entry-zero, table-only}
@@ -28,42 +29,42 @@ use Rattle.audit.proofs.Parts.{_⊞_, unseen, seen-⊕, Room, Goes, goe
 
 -- ---- what is seen is the same from any address
 
-module _ (G : Granule) (P n h : ℕ) (below : ℕ → ℕ → Found) (same : (c u v : ℕ) → seen (below c u) ≡ seen (below c v)) where
+module _ (G : Granule) (area : Area) (h : ℕ) (below : ℕ → ℕ → Found) (same : (c u v : ℕ) → seen (below c u) ≡ seen (below c v)) where
   same-entry : (u v : ℕ) (e : Entry) → seen (ofEntry G h u below e) ≡ seen (ofEntry G h v below e)
   same-entry u v Empty = refl
   same-entry u v (Table c) = same c u v
   same-entry u v (Frame b k) = refl
   same-entry u v Damaged = refl
 
-  same-entries : (u v : ℕ) (l : List ℕ) → seen (ofEntries G P n h u below l) ≡ seen (ofEntries G P n h v below l)
+  same-entries : (u v : ℕ) (l : List ℕ) → seen (ofEntries G area h u below l) ≡ seen (ofEntries G area h v below l)
   unfolding ofEntries
   same-entries u v [] = refl
   same-entries u v (w ∷ l) =
-      seen-⊕ (ofEntry G h u below (entryAt G P n h w)) (ofEntries G P n h (u + sizeAt G h) below l)
-      ∙ ap₂ _⊞_ (same-entry u v (entryAt G P n h w)) (same-entries (u + sizeAt G h) (v + sizeAt G h) l)
-      ∙ sym (seen-⊕ (ofEntry G h v below (entryAt G P n h w)) (ofEntries G P n h (v + sizeAt G h) below l))
+      seen-⊕ (ofEntry G h u below (entryAt G area h w)) (ofEntries G area h (u + sizeAt G h) below l)
+      ∙ ap₂ _⊞_ (same-entry u v (entryAt G area h w)) (same-entries (u + sizeAt G h) (v + sizeAt G h) l)
+      ∙ sym (seen-⊕ (ofEntry G h v below (entryAt G area h w)) (ofEntries G area h (v + sizeAt G h) below l))
 
-  same-node : (ws l : List ℕ) (t u v : ℕ) → seen (ofVisit ws t ⊕ ofEntries G P n h u below l) ≡ seen (ofVisit ws t ⊕ ofEntries G P n h v below l)
+  same-node : (ws l : List ℕ) (t u v : ℕ) → seen (ofVisit ws t ⊕ ofEntries G area h u below l) ≡ seen (ofVisit ws t ⊕ ofEntries G area h v below l)
   same-node ws l t u v =
-      seen-⊕ (ofVisit ws t) (ofEntries G P n h u below l)
+      seen-⊕ (ofVisit ws t) (ofEntries G area h u below l)
       ∙ ap (λ (s : Seen). seen (ofVisit ws t) ⊞ s) (same-entries u v l)
-      ∙ sym (seen-⊕ (ofVisit ws t) (ofEntries G P n h v below l))
+      ∙ sym (seen-⊕ (ofVisit ws t) (ofEntries G area h v below l))
 
-same-table : (G : Granule) (ws : List ℕ) (P n h t u v : ℕ) → seen (ofTable G ws P n h t u) ≡ seen (ofTable G ws P n h t v)
+same-table : (G : Granule) (ws : List ℕ) (area : Area) (h t u v : ℕ) → seen (ofTable G ws area h t u) ≡ seen (ofTable G ws area h t v)
 unfolding ofTable
-same-table G ws P n zero t u v = same-node G P n zero (λ _ _. nothing false) (λ c u v. refl) (tableWords G ws t) (tableWords G ws t) t u v
-same-table G ws P n (suc h) t u v =
-    same-node G P n (suc h) (λ c u. ofTable G ws P n h c u) (same-table G ws P n h) (tableWords G ws t) (tableWords G ws t) t u v
+same-table G ws area zero t u v = same-node G area zero (λ _ _. nothing false) (λ c u v. refl) (tableWords G ws t) (tableWords G ws t) t u v
+same-table G ws area (suc h) t u v =
+    same-node G area (suc h) (λ c u. ofTable G ws area h c u) (same-table G ws area h) (tableWords G ws t) (tableWords G ws t) t u v
 
-same-below : (G : Granule) (ws : List ℕ) (P n h c u v : ℕ) → seen (belowOf G ws P n h c u) ≡ seen (belowOf G ws P n h c v)
+same-below : (G : Granule) (ws : List ℕ) (area : Area) (h c u v : ℕ) → seen (belowOf G ws area h c u) ≡ seen (belowOf G ws area h c v)
 unfolding belowOf
-same-below G ws P n zero c u v = refl
-same-below G ws P n (suc h) c u v = same-table G ws P n h c u v
+same-below G ws area zero c u v = refl
+same-below G ws area (suc h) c u v = same-table G ws area h c u v
 
-below-table : (G : Granule) (ws : List ℕ) (P n h c : ℕ) → 1 ≤ h → seen (belowOf G ws P n h c 0) ≡ atTable G ws P n (h - 1) c
+below-table : (G : Granule) (ws : List ℕ) (area : Area) (h c : ℕ) → 1 ≤ h → seen (belowOf G ws area h c 0) ≡ atTable G ws area (h - 1) c
 unfolding belowOf
-below-table G ws P n zero c l = absurd (omega arith)
-below-table G ws P n (suc h) c l = rw (sub-one (suc h))
+below-table G ws area zero c l = absurd (omega arith)
+below-table G ws area (suc h) c l = rw (sub-one (suc h))
 
 -- ---- a table, entry by entry
 
@@ -72,23 +73,23 @@ abbrev pub atVisit : Granule → List ℕ → ℕ → Seen
 atVisit G ws t = seen (ofVisit (tableWords G ws t) t)
 
 -- its last entries, so many of them
-abbrev pub atRest : Granule → List ℕ → ℕ → ℕ → ℕ → ℕ → ℕ → Seen
-atRest G ws P n h t left = seen (ofEntries G P n h 0 (belowOf G ws P n h) (drop (entries G - left) (tableWords G ws t)))
+abbrev pub atRest : Granule → List ℕ → Area → ℕ → ℕ → ℕ → Seen
+atRest G ws area h t left = seen (ofEntries G area h 0 (belowOf G ws area h) (drop (entries G - left) (tableWords G ws t)))
 
-module _ (G : Granule) (ws : List ℕ) (P n h t : ℕ) where
-  entries-are : (h : ℕ) → ofTable G ws P n h t 0 ≡ ofVisit (tableWords G ws t) t ⊕ ofEntries G P n h 0 (belowOf G ws P n h) (tableWords G ws t)
+module _ (G : Granule) (ws : List ℕ) (area : Area) (h t : ℕ) where
+  entries-are : (h : ℕ) → ofTable G ws area h t 0 ≡ ofVisit (tableWords G ws t) t ⊕ ofEntries G area h 0 (belowOf G ws area h) (tableWords G ws t)
   unfolding ofTable belowOf
   entries-are zero = refl
   entries-are (suc h) = refl
 
-  pub table-parts : atTable G ws P n h t ≡ atVisit G ws t ⊞ atRest G ws P n h t (entries G)
+  pub table-parts : atTable G ws area h t ≡ atVisit G ws t ⊞ atRest G ws area h t (entries G)
   table-parts =
       let z : entries G - entries G ≡ 0 = omega arith in
       ap seen (entries-are h)
-      ∙ seen-⊕ (ofVisit (tableWords G ws t) t) (ofEntries G P n h 0 (belowOf G ws P n h) (tableWords G ws t))
+      ∙ seen-⊕ (ofVisit (tableWords G ws t) t) (ofEntries G area h 0 (belowOf G ws area h) (tableWords G ws t))
       ∙ rw z
 
-  pub rest-none : atRest G ws P n h t 0 ≡ unseen
+  pub rest-none : atRest G ws area h t 0 ≡ unseen
   unfolding ofEntries
   rest-none = rw (drop-of-length-le (tableWords G ws t) {i = entries G - 0} (omega (arith, length-part-le ws (slot G t 0) (entries G))))
 
@@ -96,7 +97,7 @@ module _ (G : Granule) (ws : List ℕ) (P n h t : ℕ) where
   word-is : (i : ℕ) → i < entries G → getD (tableWords G ws t) i 0 ≡ wordAt G ws t i
   word-is i l = getD-part ws (slot G t 0) (entries G) i l ∙ ap (λ (j : ℕ). getD ws j 0) (omega arith)
 
-  pub rest-parts : (left : ℕ) → 0 < left → left ≤ entries G → atRest G ws P n h t left ≡ atEntry G ws P n h t (entries G - left) ⊞ atRest G ws P n h t (left - 1)
+  pub rest-parts : (left : ℕ) → 0 < left → left ≤ entries G → atRest G ws area h t left ≡ atEntry G ws area h t (entries G - left) ⊞ atRest G ws area h t (left - 1)
   unfolding ofEntries
   rest-parts left l m = rw (next, ← word-is i (omega arith)) (go (decLt i (length words)))
     where
@@ -107,22 +108,22 @@ module _ (G : Granule) (ws : List ℕ) (P n h t : ℕ) where
       words = tableWords G ws t
 
       below : ℕ → ℕ → Found
-      below = belowOf G ws P n h
+      below = belowOf G ws area h
 
       next : entries G - (left - 1) ≡ suc i
       next = omega arith
 
       of : ℕ → List ℕ → Seen
-      of v k = seen (ofEntries G P n h v below k)
+      of v k = seen (ofEntries G area h v below k)
 
-      go : Dec (i < length words) → of 0 (drop i words) ≡ seen (ofEntry G h 0 below (entryAt G P n h (getD words i 0))) ⊞ of 0 (drop (suc i) words)
+      go : Dec (i < length words) → of 0 (drop i words) ≡ seen (ofEntry G h 0 below (entryAt G area h (getD words i 0))) ⊞ of 0 (drop (suc i) words)
       go (yes j) =
           rw (drop-cons words i 0 j)
-          (seen-⊕ (ofEntry G h 0 below (entryAt G P n h (getD words i 0))) (ofEntries G P n h (0 + sizeAt G h) below (drop (suc i) words))
-          ∙ ap (λ (s : Seen). seen (ofEntry G h 0 below (entryAt G P n h (getD words i 0))) ⊞ s)
-          (same-entries G P n h below (same-below G ws P n h) (0 + sizeAt G h) 0 (drop (suc i) words)))
+          (seen-⊕ (ofEntry G h 0 below (entryAt G area h (getD words i 0))) (ofEntries G area h (0 + sizeAt G h) below (drop (suc i) words))
+          ∙ ap (λ (s : Seen). seen (ofEntry G h 0 below (entryAt G area h (getD words i 0))) ⊞ s)
+          (same-entries G area h below (same-below G ws area h) (0 + sizeAt G h) 0 (drop (suc i) words)))
       go (no j) =
-          rw (drop-of-length-le words {i = i} (omega arith), drop-of-length-le words {i = suc i} (omega arith), List·getD-eq-default words 0 {n = i} (omega arith), entry-zero G P n h)
+          rw (drop-of-length-le words {i = i} (omega arith), drop-of-length-le words {i = suc i} (omega arith), List·getD-eq-default words 0 {n = i} (omega arith), entry-zero G area h)
 
 -- ---- how much there can be
 
@@ -133,40 +134,40 @@ record Small (F : Seen) (k : ℕ) : Type 0 where
 small-⊞ : {F H : Seen} {j k m : ℕ} → Small F j → Small H k → j + k ≤ m → Small (F ⊞ H) m
 small-⊞ f g l = record { few = rw length-append (omega (arith, f .few, g .few)); some-more = omega (arith, f .some-more, g .some-more) }
 
-module _ (G : Granule) (P n h : ℕ) (below : ℕ → ℕ → Found) (B : ℕ) (one : 1 ≤ B) (f : (c v : ℕ) → Small (seen (below c v)) B) where
+module _ (G : Granule) (area : Area) (h : ℕ) (below : ℕ → ℕ → Found) (B : ℕ) (one : 1 ≤ B) (f : (c v : ℕ) → Small (seen (below c v)) B) where
   small-entry : (v : ℕ) (e : Entry) → Small (seen (ofEntry G h v below e)) B
   small-entry v Empty = record { few = omega arith; some-more = omega arith }
   small-entry v (Table c) = f c v
   small-entry v (Frame b k) = record { few = omega arith; some-more = one }
   small-entry v Damaged = record { few = omega arith; some-more = omega arith }
 
-  small-entries : (v : ℕ) (l : List ℕ) → Small (seen (ofEntries G P n h v below l)) (length l * B)
+  small-entries : (v : ℕ) (l : List ℕ) → Small (seen (ofEntries G area h v below l)) (length l * B)
   unfolding ofEntries
   small-entries v [] = record { few = omega arith; some-more = omega arith }
   small-entries v (w ∷ l) =
-      rw (seen-⊕ (ofEntry G h v below (entryAt G P n h w)) (ofEntries G P n h (v + sizeAt G h) below l))
-      (small-⊞ (small-entry v (entryAt G P n h w)) (small-entries (v + sizeAt G h) l) (omega (arith, suc-mul (length l) B)))
+      rw (seen-⊕ (ofEntry G h v below (entryAt G area h w)) (ofEntries G area h (v + sizeAt G h) below l))
+      (small-⊞ (small-entry v (entryAt G area h w)) (small-entries (v + sizeAt G h) l) (omega (arith, suc-mul (length l) B)))
 
-  small-node : (ws : List ℕ) (t v : ℕ) → Small (seen (ofVisit (tableWords G ws t) t ⊕ ofEntries G P n h v below (tableWords G ws t))) (suc (entries G) * B)
+  small-node : (ws : List ℕ) (t v : ℕ) → Small (seen (ofVisit (tableWords G ws t) t ⊕ ofEntries G area h v below (tableWords G ws t))) (suc (entries G) * B)
   small-node ws t v =
       let l = tableWords G ws t in
       let m : length l * B ≤ entries G * B = mul-le-mul-right B (length-part-le ws (slot G t 0) (entries G)) in
-      rw (seen-⊕ (ofVisit l t) (ofEntries G P n h v below l))
+      rw (seen-⊕ (ofVisit l t) (ofEntries G area h v below l))
       (small-⊞ {F = atVisit G ws t} {j = 1} (record { few = omega arith; some-more = omega arith }) (small-entries v l) (omega (arith, suc-mul (entries G) B)))
 
 -- at most a power of the entries and one more
-small-table : (G : Granule) (ws : List ℕ) (P n h t v : ℕ) → Small (seen (ofTable G ws P n h t v)) (suc (entries G) ^ suc h)
+small-table : (G : Granule) (ws : List ℕ) (area : Area) (h t v : ℕ) → Small (seen (ofTable G ws area h t v)) (suc (entries G) ^ suc h)
 unfolding ofTable
-small-table G ws P n zero t v =
+small-table G ws area zero t v =
     rw (pow-succ' (suc (entries G)) 0)
-    (small-node G P n zero (λ _ _. nothing false) (suc (entries G) ^ 0) (one-le-pow 0 (suc (entries G)) (omega arith)) (λ c u. record { few = omega arith; some-more = omega arith }) ws t v)
-small-table G ws P n (suc h) t v =
+    (small-node G area zero (λ _ _. nothing false) (suc (entries G) ^ 0) (one-le-pow 0 (suc (entries G)) (omega arith)) (λ c u. record { few = omega arith; some-more = omega arith }) ws t v)
+small-table G ws area (suc h) t v =
     rw (pow-succ' (suc (entries G)) (suc h))
-    (small-node G P n (suc h) (λ c u. ofTable G ws P n h c u) (suc (entries G) ^ suc h) (one-le-pow (suc h) (suc (entries G)) (omega arith)) (small-table G ws P n h) ws t v)
+    (small-node G area (suc h) (λ c u. ofTable G ws area h c u) (suc (entries G) ^ suc h) (one-le-pow (suc h) (suc (entries G)) (omega arith)) (small-table G ws area h) ws t v)
 
-pub room-table : (ws : List ℕ) (P n h t : ℕ) → h < four .most → Room (atTable four ws P n h t) 0 0
-room-table ws P n h t l =
-    let s = small-table four ws P n h t 0 in
+pub room-table : (ws : List ℕ) (area : Area) (h t : ℕ) → h < four .most → Room (atTable four ws area h t) 0 0
+room-table ws area h t l =
+    let s = small-table four ws area h t 0 in
     let p : 513 ^ suc h ≤ 513 ^ 4 = pow-le-pow-right (lit< tt) l in
     record { few = omega (arith, s .few); some-more = omega (arith, s .some-more) }
 
@@ -193,61 +194,61 @@ module _ (G : Granule) (ws M : List ℕ) (t : ℕ) where
       go false false e = refl
 
 -- the loop over its entries: what is left of them answers for all
-pub record Loop (ws : List ℕ) (P n h t : ℕ) (M₀ : List ℕ) (a₀ b₀ : ℕ) (M : List ℕ) (a b left : ℕ) : Type 0 where
+pub record Loop (ws : List ℕ) (area : Area) (h t : ℕ) (M₀ : List ℕ) (a₀ b₀ : ℕ) (M : List ℕ) (a b left : ℕ) : Type 0 where
   pub few-left : left ≤ entries four
-  pub carried : Carried (atRest four ws P n h t (entries four)) M₀ a₀ b₀ (atRest four ws P n h t left) M a b
+  pub carried : Carried (atRest four ws area h t (entries four)) M₀ a₀ b₀ (atRest four ws area h t left) M a b
 
-module _ {ws : List ℕ} {P n h t : ℕ} {M₀ : List ℕ} {a₀ b₀ : ℕ} {M : List ℕ} {a b left : ℕ} (k : Loop ws P n h t M₀ a₀ b₀ M a b left) where
-  pub loop-end : left ≤ 0 → Goes (atRest four ws P n h t (entries four)) M₀ a₀ b₀ (Counts a b) M
-  loop-end l = let z : left ≡ 0 = omega arith in carried-end (k .carried) (ap (atRest four ws P n h t) z ∙ rest-none four ws P n h t)
+module _ {ws : List ℕ} {area : Area} {h t : ℕ} {M₀ : List ℕ} {a₀ b₀ : ℕ} {M : List ℕ} {a b left : ℕ} (k : Loop ws area h t M₀ a₀ b₀ M a b left) where
+  pub loop-end : left ≤ 0 → Goes (atRest four ws area h t (entries four)) M₀ a₀ b₀ (Counts a b) M
+  loop-end l = let z : left ≡ 0 = omega arith in carried-end (k .carried) (ap (atRest four ws area h t) z ∙ rest-none four ws area h t)
 
   module _ (l : 0 < left) where
     abbrev F : Seen
-    F = atEntry four ws P n h t (entries four - left)
+    F = atEntry four ws area h t (entries four - left)
 
     abbrev G : Seen
-    G = atRest four ws P n h t (left - 1)
+    G = atRest four ws area h t (left - 1)
 
-    next : atRest four ws P n h t left ≡ F ⊞ G
-    next = rest-parts four ws P n h t left l (k .few-left)
+    next : atRest four ws area h t left ≡ F ⊞ G
+    next = rest-parts four ws area h t left l (k .few-left)
 
-    pub loop-bad : (N K : List ℕ) → Answers (atEntry four ws P n h t (entries four - left)) M Damaged N → Goes (atRest four ws P n h t (entries four)) M₀ a₀ b₀ Damaged K
+    pub loop-bad : (N K : List ℕ) → Answers (atEntry four ws area h t (entries four - left)) M Damaged N → Goes (atRest four ws area h t (entries four)) M₀ a₀ b₀ Damaged K
     loop-bad N K g = carried-bad (k .carried) F G next N K g
 
-    module _ (x y : ℕ) (N : List ℕ) (g : Answers (atEntry four ws P n h t (entries four - left)) M (Counts x y) N) where
+    module _ (x y : ℕ) (N : List ℕ) (g : Answers (atEntry four ws area h t (entries four - left)) M (Counts x y) N) where
       pub loop-few : (a + x < 2 ^ 64) × (b + y < 2 ^ 64)
       loop-few = carried-few (k .carried) F G next x y N g
 
-      pub loop-more : length N ≡ length M → Loop ws P n h t M₀ a₀ b₀ N (a + x) (b + y) (left - 1)
+      pub loop-more : length N ≡ length M → Loop ws area h t M₀ a₀ b₀ N (a + x) (b + y) (left - 1)
       loop-more i = record { few-left = omega (arith, k .few-left); carried = carried-more (k .carried) F G next x y N g i }
 
-module _ {M : List ℕ} {n t h : ℕ} (f : TableFit M n t h) (ws : List ℕ) (P : ℕ) where
+module _ {M : List ℕ} {n t h : ℕ} (f : TableFit M n t h) (ws : List ℕ) (area : Area) where
   abbrev all : Seen
-  all = atRest four ws P n h t (entries four)
+  all = atRest four ws area h t (entries four)
 
   -- a table that was come to before, or is empty
-  pub table-stale : isFresh four ws M t ≡ false → Answers (atTable four ws P n h t) M Damaged M
+  pub table-stale : isFresh four ws M t ≡ false → Answers (atTable four ws area h t) M Damaged M
   table-stale e =
-      goes-answers (atTable four ws P n h t) M Damaged M
-      (rw (table-parts four ws P n h t) (goes-bad (atVisit four ws t) all M 0 0 M M (visit-stale four ws M t e M)))
+      goes-answers (atTable four ws area h t) M Damaged M
+      (rw (table-parts four ws area h t) (goes-bad (atVisit four ws t) all M 0 0 M M (visit-stale four ws M t e M)))
 
   -- else its entries decide
-  pub table-fresh : isFresh four ws M t ≡ true → (r : Tally) (N : List ℕ) → Goes all (set M t 1) 1 0 r N → Answers (atTable four ws P n h t) M r N
+  pub table-fresh : isFresh four ws M t ≡ true → (r : Tally) (N : List ℕ) → Goes all (set M t 1) 1 0 r N → Answers (atTable four ws area h t) M r N
   table-fresh e r N g =
-      goes-answers (atTable four ws P n h t) M r N
-      (rw (table-parts four ws P n h t) (goes-good (atVisit four ws t) all M 0 0 1 0 (set M t 1) (visit-fresh four ws M t e) r N g))
+      goes-answers (atTable four ws area h t) M r N
+      (rw (table-parts four ws area h t) (goes-good (atVisit four ws t) all M 0 0 1 0 (set M t 1) (visit-fresh four ws M t e) r N g))
 
-  pub table-starts : Loop ws P n h t (set M t 1) 1 0 (set M t 1) 1 0 (entries four)
+  pub table-starts : Loop ws area h t (set M t 1) 1 0 (set M t 1) 1 0 (entries four)
   table-starts =
       record {
         few-left = omega arith;
-        carried = carried-start all (set M t 1) 1 0 (rest (rw (table-parts four ws P n h t) at (room-table ws P n h t (f .low))));
+        carried = carried-start all (set M t 1) 1 0 (rest (rw (table-parts four ws area h t) at (room-table ws area h t (f .low))));
       }
     where
       rest : Room (atVisit four ws t ⊞ all) 0 0 → Room all 1 0
       rest m = record { few = omega (arith, m .few); some-more = omega (arith, m .some-more) }
 
-  pub table-entry : {a b left : ℕ} {N : List ℕ} → Loop ws P n h t (set M t 1) 1 0 N a b left → 0 < left → EntryFit N n h left
+  pub table-entry : {a b left : ℕ} {N : List ℕ} → Loop ws area h t (set M t 1) 1 0 N a b left → 0 < left → EntryFit N n h left
   table-entry k l =
       record {
         marked = omega (arith, f .marked, k .carried .long, length-set M t 1);
@@ -258,29 +259,30 @@ module _ {M : List ℕ} {n t h : ℕ} (f : TableFit M n t h) (ws : List ℕ) (P 
 
 -- ---- an entry
 
-module _ (ws M : List ℕ) (P n h t i w : ℕ) (at : w ≡ wordAt four ws t i) (r : Tally) (N : List ℕ) where
+module _ (ws M : List ℕ) (area : Area) (h t i w : ℕ) (at : w ≡ wordAt four ws t i) (r : Tally) (N : List ℕ) where
   -- what the word says decides
-  says : (e : Entry) → entryAt four P n h w ≡ e → Answers (seen (ofEntry four h 0 (belowOf four ws P n h) e)) M r N → Answers (atEntry four ws P n h t i) M r N
+  says : (e : Entry) → entryAt four area h w ≡ e → Answers (seen (ofEntry four h 0 (belowOf four ws area h) e)) M r N → Answers (atEntry four ws area h t i) M r N
   says e q g =
-      subst (λ (e : Entry). Answers (seen (ofEntry four h 0 (belowOf four ws P n h) e)) M r N)
-      (sym q ∙ ap (entryAt four P n h) at) g
+      subst (λ (e : Entry). Answers (seen (ofEntry four h 0 (belowOf four ws area h) e)) M r N)
+      (sym q ∙ ap (entryAt four area h) at) g
 
-  pub entry-empty : entryAt four P n h w ≡ Empty → r ≡ Counts 0 0 → N ≡ M → Answers (atEntry four ws P n h t i) M r N
+  pub entry-empty : entryAt four area h w ≡ Empty → r ≡ Counts 0 0 → N ≡ M → Answers (atEntry four ws area h t i) M r N
   unfolding Answers mark
   entry-empty q a b = says Empty q (a, b)
 
-  pub entry-frame : (b k : ℕ) → entryAt four P n h w ≡ Frame b k → r ≡ Counts 0 1 → N ≡ M → Answers (atEntry four ws P n h t i) M r N
+  pub entry-frame : (b k : ℕ) → entryAt four area h w ≡ Frame b k → r ≡ Counts 0 1 → N ≡ M → Answers (atEntry four ws area h t i) M r N
   unfolding Answers mark
   entry-frame b k q a d = says (Frame b k) q (a, d)
 
-  pub entry-damaged : entryAt four P n h w ≡ Damaged → r ≡ Damaged → Answers (atEntry four ws P n h t i) M r N
+  pub entry-damaged : entryAt four area h w ≡ Damaged → r ≡ Damaged → Answers (atEntry four ws area h t i) M r N
   unfolding Answers
   entry-damaged q a = says Damaged q a
 
-  pub entry-child : (c : ℕ) → entryAt four P n h w ≡ Table c → Answers (atTable four ws P n (h - 1) c) M r N → Answers (atEntry four ws P n h t i) M r N
-  entry-child c q g = says (Table c) q (subst (λ (s : Seen). Answers s M r N) (sym (below-table four ws P n h c (table-only four-sane P n h w q .0))) g)
+  pub entry-child : (c : ℕ) → entryAt four area h w ≡ Table c → Answers (atTable four ws area (h - 1) c) M r N → Answers (atEntry four ws area h t i) M r N
+  entry-child c q g = says (Table c) q (subst (λ (s : Seen). Answers s M r N) (sym (below-table four ws area h c (table-only four-sane area h w q .0))) g)
 
-pub entry-fit : {M : List ℕ} {n h left : ℕ} → EntryFit M n h left → (P w c : ℕ) → entryAt four P n h w ≡ Table c → (0 < h) × TableFit M n c (h - 1)
-entry-fit f P w c q =
-    let (a, b, d, _) = table-only four-sane P _ _ w q in
+pub entry-fit : {M : List ℕ} {n h left : ℕ} → EntryFit M n h left → (P w c : ℕ) → entryAt four (areaAt P n) h w ≡ Table c
+    → (0 < h) × TableFit M n c (h - 1)
+entry-fit {n = n} f P w c q =
+    let (a, b, d, _) = table-only four-sane (areaAt P n) _ w q in
     (a, record { marked = f .marked; inside = d; low = omega (arith, f .low) })

@@ -12,6 +12,7 @@ use borrow.Author.Tests.{eq-eqb, ne-eqb}
 use Rattle.laws.specs.Lists.{allZero, among, distinct}
 use Rattle.laws.specs.ListLaws.{allZero-at, allZero-replicate, distinct-left}
 use Rattle.path.specs.Geometry.{Granule, four}
+use Rattle.path.specs.Areas.{areaOf}
 use Rattle.path.specs.Numbers.{mostTables, GoodSetup}
 use Rattle.path.specs.Laws.{four-sane, good-setup}
 use Rattle.model.specs.Answers.{Pool, audited, refused}
@@ -115,9 +116,13 @@ module _ (p : Pool) (g : goodPool four p ≡ true) where
   N : GoodSetup four (p .numbers) (length (p .words)) (length (p .list))
   N = good-setup g
 
+  -- whether the tree is sound and has no empty table
+  abbrev sound : Bool
+  sound = ofPool four p .ok && ofPool four p .full
+
   -- what is seen from the root
   abbrev all : Seen
-  all = atTable four (p .words) (p .numbers .base) (p .numbers .tables) (p .numbers .levels - 1) 0
+  all = atTable four (p .words) (areaOf (p .numbers)) (p .numbers .levels - 1) 0
 
   pub root-fit : TableFit (blank mostTables) (p .numbers .tables) 0 (p .numbers .levels - 1)
   root-fit =
@@ -136,9 +141,9 @@ module _ (p : Pool) (g : goodPool four p ≡ true) where
 
   pub whole-clash : (K : List ℕ) → Answers all (blank mostTables) Damaged K → refused 8 ≡ auditW four p
   unfolding soundPool
-  whole-clash K h = damaged (go (ofPool four p .ok) refl (clashed all (blank mostTables) K h))
+  whole-clash K h = damaged (go sound refl (clashed all (blank mostTables) K h))
     where
-      go : (o : Bool) → ofPool four p .ok ≡ o → cond o (mark (blank mostTables) (reachedOf four p)) clash ≡ clash
+      go : (o : Bool) → sound ≡ o → cond o (mark (blank mostTables) (reachedOf four p)) clash ≡ clash
           → (o && (distinct (reachedOf four p ++ freeOf p) && (freeSound four (p .words) (p .numbers .tables) (freeOf p) && eqb (length (reachedOf four p) + p .numbers .free) (p .numbers .tables)))) ≡ false
       go true o e = rw (left-not (reachedOf four p) (freeOf p) (sym (blank-distinct mostTables (reachedOf four p) reached-small) ∙ ap passed e))
       go false o e = refl
@@ -147,10 +152,10 @@ module _ (p : Pool) (g : goodPool four p ≡ true) where
     counts : (a ≡ length (reachedOf four p)) × (b ≡ length (mappingsOf four p))
     counts = let (_, x, y) = ended all (blank mostTables) K a b h in (x, y)
 
-    sound-tree : (ofPool four p .ok ≡ true) × (mark (blank mostTables) (reachedOf four p) ≡ marks K)
-    sound-tree = go (ofPool four p .ok) refl (ended all (blank mostTables) K a b h .0)
+    sound-tree : (sound ≡ true) × (mark (blank mostTables) (reachedOf four p) ≡ marks K)
+    sound-tree = go (sound) refl (ended all (blank mostTables) K a b h .0)
       where
-        go : (o : Bool) → ofPool four p .ok ≡ o → cond o (mark (blank mostTables) (reachedOf four p)) clash ≡ marks K → (ofPool four p .ok ≡ true) × (mark (blank mostTables) (reachedOf four p) ≡ marks K)
+        go : (o : Bool) → sound ≡ o → cond o (mark (blank mostTables) (reachedOf four p)) clash ≡ marks K → (sound ≡ true) × (mark (blank mostTables) (reachedOf four p) ≡ marks K)
         go true q e = (q, e)
         go false q e = absurd (let z : _≡_ {A = ℕ} 0 1 = cc in omega arith)
 

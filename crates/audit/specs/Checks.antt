@@ -7,20 +7,21 @@ use lib.Dec.{ltb, eqb}
 use lib.ListN.{length, getD, set}
 use Rattle.laws.specs.Lists.{allZero}
 use Rattle.path.specs.Geometry.{Granule, four, entries}
+use Rattle.path.specs.Areas.{Area}
 use Rattle.entry.specs.Words.{entryAt}
 use Rattle.model.specs.Audit.{Found, nothing, tableWords, ofEntry, ofTable}
 use Rattle.model.specs.Sound.{wordAt}
 use Rattle.audit.specs.declared.Tally.{Tally}
 use Rattle.audit.specs.declared.Tally.the-variants.{Counts, Damaged}
 
--- of what is found in a part of the tree: whether it is sound, the tables reached, and how many mappings
+-- of what is found in a part of the tree: whether it is sound and has no empty table, the tables reached, and how many mappings
 pub record Seen : Type 0 where
   pub ok : Bool
   pub reached : List ℕ
   pub count : ℕ
 
 abbrev pub seen : Found → Seen
-seen F = record { ok = F .ok; reached = F .reached; count = length (F .mappings) }
+seen F = record { ok = F .ok && F .full; reached = F .reached; count = length (F .mappings) }
 
 -- the marks after tables were marked one after the other, or that one was marked before
 pub data Marked : Type 0 where
@@ -45,16 +46,16 @@ unfoldable pub Answers : Seen → List ℕ → Tally → List ℕ → Type 0
 Answers F M r N = Ends (walked F M) (length (F .reached)) (F .count) r N
 
 -- what is found in a table one level below entries of height h
-unfoldable pub belowOf : Granule → List ℕ → ℕ → ℕ → ℕ → ℕ → ℕ → Found
-belowOf G ws P n zero c v = nothing false
-belowOf G ws P n (suc h) c v = ofTable G ws P n h c v
+unfoldable pub belowOf : Granule → List ℕ → Area → ℕ → ℕ → ℕ → Found
+belowOf G ws area zero c v = nothing false
+belowOf G ws area (suc h) c v = ofTable G ws area h c v
 
 -- table t, and entry i of it, of height h. What is seen is the same from any address: they are taken to stand for the addresses from 0 on
-abbrev pub atTable : Granule → List ℕ → ℕ → ℕ → ℕ → ℕ → Seen
-atTable G ws P n h t = seen (ofTable G ws P n h t 0)
+abbrev pub atTable : Granule → List ℕ → Area → ℕ → ℕ → Seen
+atTable G ws area h t = seen (ofTable G ws area h t 0)
 
-abbrev pub atEntry : Granule → List ℕ → ℕ → ℕ → ℕ → ℕ → ℕ → Seen
-atEntry G ws P n h t i = seen (ofEntry G h 0 (belowOf G ws P n h) (entryAt G P n h (wordAt G ws t i)))
+abbrev pub atEntry : Granule → List ℕ → Area → ℕ → ℕ → ℕ → Seen
+atEntry G ws area h t i = seen (ofEntry G h 0 (belowOf G ws area h) (entryAt G area h (wordAt G ws t i)))
 
 -- table t was not marked before, and is the root or not empty
 abbrev pub isFresh : Granule → List ℕ → List ℕ → ℕ → Bool

@@ -6,6 +6,7 @@ ghost use mathlib.Core.Path.{_≡_};
 ghost use Prim.Native.Nat.{_≤_, _<_, _-_};
 ghost use lib.ListN.{length, take};
 ghost use Rattle.path.specs.Geometry.{four, entries};
+ghost use Rattle.path.specs.Areas.{areaAt};
 ghost use Rattle.model.specs.Answers.{saysAudit, pool};
 ghost use Rattle.model.specs.Audit.{auditW};
 ghost use Rattle.audit.specs.Checks.{Answers, TableFit, EntryFit, isFresh, atTable, atEntry, freePass};
@@ -38,7 +39,7 @@ fn is_fresh(words: &[u64], marks: &[u8], t: u32) -> bool
 // Checks table t, whose entries have this height, and all below it, and marks the tables come to.
 fn table_check(words: &[u64], marks: &mut [u8], base: u64, n: u32, t: u32, height: usize) -> Tally
     requires { ⌜ TableFit (now marks) n t height ⌝ }
-    ensures { λ r. ⌜ Answers (atTable four (now (words .entry)) base n height t) (now (marks .entry)) r (now (marks .exit)) ⌝ }
+    ensures { λ r. ⌜ Answers (atTable four (now (words .entry)) (areaAt base n) height t) (now (marks .entry)) r (now (marks .exit)) ⌝ }
 {
     if !is_fresh(words, marks, t) {
         return Tally::Damaged;
@@ -74,7 +75,8 @@ fn entry_check(
     left: usize,
 ) -> Tally
     requires { ⌜ EntryFit (now marks) n height left ⌝ }
-    ensures { λ r. ⌜ Answers (atEntry four (now (words .entry)) base n height t (entries four - left)) (now (marks .entry)) r (now (marks .exit)) ⌝ }
+    ensures { λ r. ⌜ Answers (atEntry four (now (words .entry)) (areaAt base n) height t (entries four - left))
+        (now (marks .entry)) r (now (marks .exit)) ⌝ }
 {
     let w = pool::word(words, ENTRIES * (t as usize) + (ENTRIES - left));
     let e = entry::read_word(w, height, base, n);

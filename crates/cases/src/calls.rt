@@ -1,170 +1,161 @@
-// The five calls: each writes its answer, and what became of the lent memory and the setup.
-use crate::memory;
-use crate::memory::PLACES;
+// The five calls, each on the numbers of a line.
 use crate::memory::WORDS;
-use crate::say;
+use crate::memory::Words;
+use crate::read::Line;
 use model::AuditAnswer;
 use model::FormatAnswer;
+use model::Formatted;
 use model::MapAnswer;
+use model::Mapped;
 use model::QueryAnswer;
 use model::UnmapAnswer;
+use model::Unmapped;
 use path::Setup;
 
-// The call that a letter stands for, if any. It hands the setup back.
-pub(crate) fn run(
-    call: u8,
-    args: &[u64; 4],
-    s: Setup,
-    words: &mut [u64],
-    list: &mut [u32],
-) -> Setup {
-    let mut old = [0u64; WORDS];
-    let mut places = [0u32; PLACES];
-    memory::copy_words(words, &mut old);
-    memory::copy_places(list, &mut places);
+// An answer as numbers: the refusal or 0, the setup that is handed back, and the rest, followed by zeros.
+pub(crate) type Told = [u64; 9];
+
+// A call on the memory that is lent, which is the first words and places.
+pub(crate) fn lent(call: u8, line: &Line, words: &mut [u64], list: &mut [u32]) -> Told {
+    let w = line[1] as usize;
+    let l = line[2] as usize;
+    if w > words.len() {
+        return [0; 9];
+    }
+    if l > list.len() {
+        return [0; 9];
+    }
+    run(call, line, &mut words[..w], &mut list[..l])
+}
+
+// The call that a letter stands for.
+fn run(call: u8, line: &Line, words: &mut [u64], list: &mut [u32]) -> Told {
     match call {
-        b'f' => format(args, words, list, &old, &places),
-        b'm' => map(args, s, words, list, &old, &places),
-        b'u' => unmap(args, s, words, list, &old, &places),
-        b'q' => query(args, s, words, list, &old, &places),
-        b'a' => audit(s, words, list, &old, &places),
-        _ => s,
+        b'f' | b'F' => format(line, words, list),
+        b'm' | b'M' => map(line, words, list),
+        b'u' | b'U' => unmap(line, words, list),
+        _ => asked(call, line, words, list),
     }
 }
 
-fn format(
-    args: &[u64; 4],
-    words: &mut [u64],
-    list: &mut [u32],
-    old: &[u64; WORDS],
-    places: &[u32; PLACES],
-) -> Setup {
-    let r = pagetable::format(args[0], args[1], args[2], words, list);
+// Query or audit.
+fn asked(call: u8, line: &Line, words: &[u64], list: &[u32]) -> Told {
+    match call {
+        b'q' | b'Q' => query(line, words, list),
+        _ => audit(line, words, list),
+    }
+}
+
+fn setup(line: &Line) -> Setup {
+    Setup {
+        levels: line[3],
+        base: line[4],
+        tables: line[5],
+        free: line[6],
+    }
+}
+
+fn told(refusal: u64, s: Setup, a: u64, b: u64, c: u64, d: u64) -> Told {
+    [refusal, s.levels, s.base, s.tables, s.free, a, b, c, d]
+}
+
+fn format(line: &Line, words: &mut [u64], list: &mut [u32]) -> Told {
+    formatted(pagetable::format(line[3], line[4], line[5], words, list))
+}
+
+fn formatted(r: Formatted) -> Told {
     let answer = r.answer;
-    let back = r.setup;
     match answer {
-        FormatAnswer::Done => {
-            say::text(b" -> done");
-            say::setup(back);
-            formatted(words, list);
-        }
-        FormatAnswer::Refused(k) => {
-            say::refused(k);
-            say::setup(back);
-            say::kept(memory::same(words, list, old, places));
-        }
+        FormatAnswer::Done => told(0, r.setup, 0, 0, 0, 0),
+        FormatAnswer::Refused(k) => told(k, r.setup, 0, 0, 0, 0),
     }
-    back
 }
 
-// What format left.
-fn formatted(words: &[u64], list: &[u32]) {
-    let zeros = [0u64; WORDS];
-    if memory::same_words(words, &zeros) {
-        say::text(b"; all words 0");
-    } else {
-        say::text(b"; NOT ALL WORDS 0");
-    }
-    say::places(list);
+fn map(line: &Line, words: &mut [u64], list: &[u32]) -> Told {
+    mapped(pagetable::map(
+        setup(line),
+        words,
+        list,
+        line[7],
+        line[8],
+        line[9],
+        line[10],
+    ))
 }
 
-fn map(
-    args: &[u64; 4],
-    s: Setup,
-    words: &mut [u64],
-    list: &[u32],
-    old: &[u64; WORDS],
-    places: &[u32; PLACES],
-) -> Setup {
-    let r = pagetable::map(s, words, list, args[0], args[1], args[2], args[3]);
+fn mapped(r: Mapped) -> Told {
     let answer = r.answer;
-    let back = r.setup;
     match answer {
-        MapAnswer::Taken(n) => {
-            say::number(b" -> takes ", n);
-            say::free(s, back);
-            say::changed(words, old);
-        }
-        MapAnswer::Refused(k) => {
-            say::refused(k);
-            say::kept(memory::same_setup(s, back) && memory::same(words, list, old, places));
-        }
+        MapAnswer::Taken(n) => told(0, r.setup, n, 0, 0, 0),
+        MapAnswer::Refused(k) => told(k, r.setup, 0, 0, 0, 0),
     }
-    back
 }
 
-fn unmap(
-    args: &[u64; 4],
-    s: Setup,
-    words: &mut [u64],
-    list: &mut [u32],
-    old: &[u64; WORDS],
-    places: &[u32; PLACES],
-) -> Setup {
-    let r = pagetable::unmap(s, words, list, args[0]);
+fn unmap(line: &Line, words: &mut [u64], list: &mut [u32]) -> Told {
+    unmapped(pagetable::unmap(setup(line), words, list, line[7]))
+}
+
+fn unmapped(r: Unmapped) -> Told {
     let answer = r.answer;
-    let back = r.setup;
     match answer {
         UnmapAnswer::Given {
             frame,
             size,
             attributes,
             tables,
-        } => {
-            say::frame(b" -> frame ", frame, size, attributes);
-            say::number(b", gives ", tables);
-            say::free(s, back);
-            say::changed(words, old);
-            say::places(list);
-        }
-        UnmapAnswer::Refused(k) => {
-            say::refused(k);
-            say::kept(memory::same_setup(s, back) && memory::same(words, list, old, places));
-        }
+        } => told(0, r.setup, frame, size, attributes, tables),
+        UnmapAnswer::Refused(k) => told(k, r.setup, 0, 0, 0, 0),
     }
-    back
 }
 
-fn query(
-    args: &[u64; 4],
-    s: Setup,
-    words: &[u64],
-    list: &[u32],
-    old: &[u64; WORDS],
-    places: &[u32; PLACES],
-) -> Setup {
-    let answer = pagetable::query(s, words, list, args[0]);
+fn query(line: &Line, words: &[u64], list: &[u32]) -> Told {
+    let s = setup(line);
+    let answer = pagetable::query(s, words, list, line[7]);
     match answer {
         QueryAnswer::Found {
             base,
             frame,
             size,
             attributes,
-        } => {
-            say::hex(b" -> base ", base);
-            say::frame(b", frame ", frame, size, attributes);
-        }
-        QueryAnswer::Refused(k) => say::refused(k),
+        } => told(0, s, base, frame, size, attributes),
+        QueryAnswer::Refused(k) => told(k, s, 0, 0, 0, 0),
     }
-    say::kept(memory::same(words, list, old, places));
-    s
 }
 
-fn audit(
-    s: Setup,
-    words: &[u64],
-    list: &[u32],
-    old: &[u64; WORDS],
-    places: &[u32; PLACES],
-) -> Setup {
+fn audit(line: &Line, words: &[u64], list: &[u32]) -> Told {
+    let s = setup(line);
     let answer = pagetable::audit(s, words, list);
     match answer {
-        AuditAnswer::Sound { tables, mappings } => {
-            say::number(b" -> tables ", tables);
-            say::number(b", mappings ", mappings);
-        }
-        AuditAnswer::Refused(k) => say::refused(k),
+        AuditAnswer::Sound { tables, mappings } => told(0, s, tables, mappings, 0, 0),
+        AuditAnswer::Refused(k) => told(k, s, 0, 0, 0, 0),
     }
-    say::kept(memory::same(words, list, old, places));
-    s
+}
+
+// The words before a call, or zeros where format makes all words 0.
+pub(crate) fn before(call: u8, told: Told, old: Words) -> Words {
+    if call == b'f' && told[0] == 0 {
+        [0; WORDS]
+    } else {
+        old
+    }
+}
+
+// The setup that is handed back is the next call's.
+pub(crate) fn hand_back(told: Told, line: &mut Line) {
+    line[3] = told[1];
+    line[4] = told[2];
+    line[5] = told[3];
+    line[6] = told[4];
+}
+
+// Whether an answer is the one that the line has.
+pub(crate) fn same(line: &Line, told: Told) -> bool {
+    let mut i = 0;
+    while i < 9 {
+        if line[i + 11] != told[i] {
+            return false;
+        }
+        i += 1;
+    }
+    true
 }

@@ -1,5 +1,5 @@
-// The lines of the text, byte by byte.
-use path::Setup;
+// The lines of the text, byte by byte. A line is a name, a colon, a call, and numbers with other words between them; one with no colon is a heading.
+// A call that begins with a large letter has what it must answer after what it takes, and is compared.
 
 // Where in a line the next byte stands: in its name, before its call, in a word, between words, in a number.
 const NAME: u8 = 0;
@@ -12,38 +12,49 @@ const SPACE: u8 = 3;
 
 const NUMBER: u8 = 4;
 
+// The numbers of a line, each at its place: 1 and 2 are the words and places lent, 3 to 6 the setup, 7 to 10 the rest that a call takes, 11 to 19 the
+// answer and 20 the sum of the memory after it. What a line does not name stays as it was.
+pub(crate) type Line = [u64; 21];
+
 pub(crate) struct State {
-    // where the line begins, where in it the next byte stands, the first letter of its call, and its numbers so far
+    // where the line begins, where in it the next byte stands, the first letter of its call, and the place of its next number
     pub(crate) start: usize,
     pub(crate) part: u8,
     pub(crate) call: u8,
-    pub(crate) numbers: usize,
+    pub(crate) next: usize,
     // the number that is being read, and whether its digits are hexadecimal
     pub(crate) value: u64,
     pub(crate) hex: bool,
-    // how many words and places are lent, and the setup that the last call handed back
-    pub(crate) words: usize,
-    pub(crate) places: usize,
-    pub(crate) setup: Setup,
+    // how many lines agreed
+    pub(crate) agreed: u64,
 }
 
 pub(crate) fn start() -> State {
-    let setup = Setup {
-        levels: 0,
-        base: 0,
-        tables: 0,
-        free: 0,
-    };
     State {
         start: 0,
         part: NAME,
         call: 0,
-        numbers: 0,
+        next: 0,
         value: 0,
         hex: false,
-        words: 0,
-        places: 0,
-        setup,
+        agreed: 0,
+    }
+}
+
+// Whether a line of this call is compared; else it is said.
+pub(crate) fn is_compared(call: u8) -> bool {
+    match call {
+        b'A'..=b'Z' => true,
+        _ => false,
+    }
+}
+
+// The place of a call's first number.
+fn first_place(call: u8) -> usize {
+    match call {
+        b'F' | b'M' | b'U' | b'Q' | b'A' => 1,
+        b'f' | b's' => 3,
+        _ => 7,
     }
 }
 
@@ -54,108 +65,99 @@ fn wide(b: u8) -> u64 {
 // The value of a digit, or 16.
 fn digit(b: u8) -> u64 {
     match b {
-        48..=57 => wide(b - 48),
-        97..=102 => wide(b - 87),
+        b'0'..=b'9' => wide(b - 48),
+        b'a'..=b'f' => wide(b - 87),
         _ => 16,
     }
 }
 
 // A byte that ends no line.
-pub(crate) fn byte(s: State, b: u8, args: &mut [u64; 4]) -> State {
+pub(crate) fn byte(mut s: State, b: u8, line: &mut Line) -> State {
     let part = s.part;
-    if part == NAME {
-        return in_name(s, b);
+    match part {
+        NAME => {
+            if b == b':' {
+                s.part = CALL;
+            }
+            s
+        }
+        CALL => {
+            if b != b' ' {
+                s.call = b;
+                s.next = first_place(b);
+                s.part = WORD;
+            }
+            s
+        }
+        NUMBER => in_number(s, b, line),
+        _ => between(s, b),
     }
-    if part == CALL {
-        return at_call(s, b);
-    }
-    if part == WORD {
-        return in_word(s, b);
-    }
-    if part == SPACE {
-        return in_space(s, b);
-    }
-    in_number(s, b, args)
 }
 
-fn in_name(mut s: State, b: u8) -> State {
-    if b == b':' {
-        s.part = CALL;
-    }
-    s
-}
-
-fn at_call(mut s: State, b: u8) -> State {
-    if b != b' ' {
-        s.call = b;
-        s.part = WORD;
-    }
-    s
-}
-
-fn in_word(mut s: State, b: u8) -> State {
+// A digit begins a number, if a space is before it.
+fn between(mut s: State, b: u8) -> State {
+    let d = digit(b);
+    let part = s.part;
+    s.part = WORD;
     if b == b' ' {
         s.part = SPACE;
-    }
-    s
-}
-
-fn in_space(mut s: State, b: u8) -> State {
-    let d = digit(b);
-    if d < 10 {
-        s.value = d;
-        s.hex = false;
-        s.part = NUMBER;
         return s;
     }
-    if b != b' ' {
-        s.part = WORD;
+    if part == SPACE {
+        if d < 10 {
+            s.value = d;
+            s.hex = false;
+            s.part = NUMBER;
+        }
     }
     s
 }
 
 // A digit, the x before hexadecimal digits, or the byte that ends a number.
-fn in_number(mut s: State, b: u8, args: &mut [u64; 4]) -> State {
+fn in_number(mut s: State, b: u8, line: &mut Line) -> State {
     let d = digit(b);
     if b == b'x' {
         s.hex = true;
         return s;
     }
     if d > 15 {
-        return in_word(last(s, args), b);
+        return between(last(s, line), b);
     }
-    let most = s.value % 0x1000_0000_0000_0000;
+    let value = s.value;
     if s.hex {
-        s.value = std::num::wrapping_add_u64(most * 16, d);
+        s.value = std::num::wrapping_add_u64(value % 0x1000_0000_0000_0000 * 16, d);
     } else {
-        s.value = std::num::wrapping_add_u64(most * 10, d);
+        s.value = std::num::wrapping_add_u64(value % 0x1999_9999_9999_999A * 10, d);
     }
     s
 }
 
-// The end of a number: it goes to its place among the line's numbers.
-pub(crate) fn last(mut s: State, args: &mut [u64; 4]) -> State {
+// The end of a number: it goes to its place in the line.
+pub(crate) fn last(mut s: State, line: &mut Line) -> State {
     if s.part != NUMBER {
         return s;
     }
     s.part = WORD;
-    let n = s.numbers;
-    if n < 4 {
-        args[n] = s.value;
-        s.numbers = n + 1;
+    let n = s.next;
+    if n < 21 {
+        line[n] = s.value;
+        s.next = n + 1;
+    }
+    s
+}
+
+// A line that is compared agrees, or not.
+pub(crate) fn counted(mut s: State, agrees: bool) -> State {
+    if agrees {
+        s.agreed = std::num::wrapping_add_u64(s.agreed, 1);
     }
     s
 }
 
 // The line after the one that ends at i.
-pub(crate) fn next_line(mut s: State, i: usize, args: &mut [u64; 4]) -> State {
+pub(crate) fn next_line(mut s: State, i: usize) -> State {
     s.start = std::num::wrapping_add_usize(i, 1);
     s.part = NAME;
     s.call = 0;
-    s.numbers = 0;
-    args[0] = 0;
-    args[1] = 0;
-    args[2] = 0;
-    args[3] = 0;
     s
 }

@@ -1,10 +1,13 @@
 // What is written.
+use crate::calls::Told;
 use crate::memory;
+use crate::memory::NUMBERS;
+use crate::memory::Places;
 use crate::memory::WORDS;
+use crate::memory::Words;
 use libc::STDOUT_FILENO;
-use path::Setup;
 
-pub(crate) fn text(t: &[u8]) {
+fn text(t: &[u8]) {
     io::write_all(STDOUT_FILENO, t);
 }
 
@@ -18,92 +21,107 @@ pub(crate) fn part(t: &[u8], from: usize, to: usize) {
     }
 }
 
-pub(crate) fn number(before: &[u8], n: u64) {
+fn number(before: &[u8], n: u64) {
     text(before);
     io::print_decimal(STDOUT_FILENO, n);
 }
 
-pub(crate) fn hex(before: &[u8], n: u64) {
+fn hex(before: &[u8], n: u64) {
     text(before);
     text(b"0x");
     io::print_hex(STDOUT_FILENO, n, 1);
 }
 
-// The numbers of a setup.
-pub(crate) fn setup(s: Setup) {
-    number(b", levels ", s.levels);
-    hex(b", base ", s.base);
-    number(b", tables ", s.tables);
-    number(b", free ", s.free);
+// What a call answers.
+pub(crate) fn answer(call: u8, told: Told) {
+    if told[0] != 0 {
+        number(b" -> refused ", told[0]);
+    } else {
+        done(call, told);
+    }
+    setup(told);
 }
 
-// The free count after a call, and a complaint where another number of the setup changed.
-pub(crate) fn free(s: Setup, back: Setup) {
-    number(b", free ", back.free);
-    if !memory::same_pool(s, back) {
-        text(b", SETUP CHANGED");
+// What a call answers that refuses nothing.
+fn done(call: u8, told: Told) {
+    match call {
+        b'f' => text(b" -> done, all words 0"),
+        b'm' => number(b" -> takes ", told[5]),
+        b'u' => gives(told),
+        b'q' => found(told),
+        _ => sound(told),
     }
 }
 
-// A frame's numbers.
-pub(crate) fn frame(before: &[u8], frame: u64, size: u64, attributes: u64) {
-    hex(before, frame);
+// The setup that a call hands back.
+fn setup(told: Told) {
+    number(b"; levels ", told[1]);
+    hex(b", base ", told[2]);
+    number(b", tables ", told[3]);
+    number(b", free ", told[4]);
+}
+
+fn gives(told: Told) {
+    number(b" -> gives ", told[8]);
+    frame(told[5], told[6], told[7]);
+}
+
+fn found(told: Told) {
+    hex(b" -> base ", told[5]);
+    frame(told[6], told[7], told[8]);
+}
+
+fn frame(base: u64, size: u64, attributes: u64) {
+    hex(b", frame ", base);
     hex(b", size ", size);
     number(b", attributes ", attributes);
 }
 
-pub(crate) fn refused(k: u64) {
-    number(b" -> refused ", k);
+fn sound(told: Told) {
+    number(b" -> tables ", told[5]);
+    number(b", mappings ", told[6]);
 }
 
-fn word(i: usize, w: u64) {
-    number(b" ", i as u64);
-    hex(b"=", w);
-}
-
-fn place(t: u32) {
-    number(b" ", t as u64);
-}
-
-fn changed_from(words: &[u64], old: &[u64; WORDS]) {
-    let mut i = 0;
-    while i < words.len() {
-        if i >= WORDS {
-            return;
-        }
-        let w = words[i];
-        if w != old[i] {
-            word(i, w);
-        }
-        i += 1;
+// One number of the memory.
+fn one(i: usize, n: u64) {
+    if i < WORDS {
+        number(b"; word ", i as u64);
+        hex(b"=", n);
+    } else {
+        number(b"; place ", (i - WORDS) as u64);
+        number(b"=", n);
     }
 }
 
-fn each_place(list: &[u32]) {
+// Each word and each place that is not as it was.
+pub(crate) fn changes(words: &Words, list: &Places, old: &Words, places: &Places) {
+    let mut same = true;
     let mut i = 0;
-    while i < list.len() {
-        place(list[i]);
+    while i < NUMBERS {
+        let n = memory::number(words, list, i);
+        if n != memory::number(old, places, i) {
+            one(i, n);
+            same = false;
+        }
         i += 1;
     }
-}
-
-// Each word that is not as it was, with its number.
-pub(crate) fn changed(words: &[u64], old: &[u64; WORDS]) {
-    text(b"; words");
-    changed_from(words, old);
-}
-
-// Each place of the free list.
-pub(crate) fn places(list: &[u32]) {
-    text(b"; places");
-    each_place(list);
-}
-
-// Whether all is as it was.
-pub(crate) fn kept(same: bool) {
     if same {
         text(b"; kept");
-    } else {
-        text(b"; CHANGED");
+    }
+}
+
+// The end of a line, with the count where it asks for it.
+pub(crate) fn end(call: u8, agreed: u64) {
+    if call == b't' {
+        number(b" -> agree ", agreed);
+    }
+    text(b"\n");
+}
+
+// A line that does not agree.
+pub(crate) fn differs(same: bool, t: &[u8], from: usize, to: usize) {
+    if !same {
+        part(t, from, to);
+        text(b" DIFFERS\n");
     }
 }

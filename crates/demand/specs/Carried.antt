@@ -17,6 +17,7 @@ use Rattle.path.specs.Geometry.{Granule, pageSize, entries, sizeAt, Sane}
 use Rattle.path.specs.Laws.{entries-pos}
 use Rattle.path.specs.Paths.{pathOf}
 use Rattle.entry.specs.Words.{frameWord, tableWord}
+use Rattle.path.specs.Areas.{Area, total, GoodArea}
 use Rattle.model.specs.Walk.{slot, atHeight}
 use Rattle.model.specs.Writes.{Write, store, wipe, give, Memory, memory, perform, performAll, mapWrites, mayTake, onlyEntry, freed, pruneWrites}
 use Rattle.tree.specs.Region.{anc, upd, upd-at, upd-other}
@@ -30,12 +31,12 @@ use Rattle.demand.specs.Memories as memories
 use Rattle.demand.specs.Memories.{readAt, placeAt, table-ends, in-table}
 use Rattle.demand.specs.Walks.{wayAt}
 
-module _ (G : Granule) (Z : Sane G) (P n top : ℕ) (al : P % pageSize G ≡ 0) where
+module _ (G : Granule) (Z : Sane G) (area : Area) (top : ℕ) (al : GoodArea G area) where
   abbrev pub X : Geo
-  X = geo G Z P n top al
+  X = geo G Z area top al
 
   abbrev pub A : Store X
-  A = memories.store G Z P n top al
+  A = memories.store G Z area top al
 
   -- ---- map
 
@@ -50,13 +51,13 @@ module _ (G : Granule) (Z : Sane G) (P n top : ℕ) (al : P % pageSize G ≡ 0) 
     grow-last (suc h) e ws t f = if-pos (ℕ-discrete (suc h) g) e _ _
 
     grow-more : (h : ℕ) → suc h ≢ g → (ws : List ℕ) (t f : ℕ) → let c = getD list (f - 1) 0 in
-        grow X A (placeAt list) g v x (suc h) ws t f ≡ grow X A (placeAt list) g v x h (set (zeroed ws (slot G c 0) (entries G)) (slot G t (at (suc h))) (tableWord G P c)) c (f - 1)
+        grow X A (placeAt list) g v x (suc h) ws t f ≡ grow X A (placeAt list) g v x h (set (zeroed ws (slot G c 0) (entries G)) (slot G t (at (suc h))) (tableWord G area c)) c (f - 1)
     unfolding grow
     grow-more h d ws t f = if-neg (ℕ-discrete (suc h) g) d _ _
 
     -- what the writes of map leave
     abbrev after : ℕ → List ℕ → List ℕ → ℕ → ℕ → Memory
-    after need ws l t f = performAll G (mapWrites G P path list g (frameWord (baseOf x) g (attrsOf x)) t f need) (memory ws l)
+    after need ws l t f = performAll G (mapWrites G area path list g (frameWord (baseOf x) g (attrsOf x)) t f need) (memory ws l)
 
     pub map-carried : (need h : ℕ) → h ≡ need + g → h < 4 → (ws l : List ℕ) (t f : ℕ) → after need ws l t f ≡ memory (grow X A (placeAt list) g v x h ws t f .m) l
     unfolding performAll mapWrites
@@ -67,8 +68,8 @@ module _ (G : Granule) (Z : Sane G) (P n top : ℕ) (al : P % pageSize G ≡ 0) 
         ∙ ap (λ (o : Mem A). memory (o .m) l) (sym (grow-last h z ws t f))
     map-carried (suc need) zero e b ws l t f = absurd (omega arith)
     map-carried (suc need) (suc h) e b ws l t f =
-        ap (λ (i : ℕ). after need (set (zeroed ws (slot G c 0) (entries G)) (slot G t i) (tableWord G P c)) l c (f - 1)) (ap (atHeight path) (sym e) ∙ spot (suc h) b)
-        ∙ map-carried need h (omega arith) (omega arith) (set (zeroed ws (slot G c 0) (entries G)) (slot G t (at (suc h))) (tableWord G P c)) l c (f - 1)
+        ap (λ (i : ℕ). after need (set (zeroed ws (slot G c 0) (entries G)) (slot G t i) (tableWord G area c)) l c (f - 1)) (ap (atHeight path) (sym e) ∙ spot (suc h) b)
+        ∙ map-carried need h (omega arith) (omega arith) (set (zeroed ws (slot G c 0) (entries G)) (slot G t (at (suc h))) (tableWord G area c)) l c (f - 1)
         ∙ ap (λ (o : Mem A). memory (o .m) l) (sym (grow-more h (λ z. omega arith) ws t f))
       where
         c : ℕ
@@ -78,15 +79,15 @@ module _ (G : Granule) (Z : Sane G) (P n top : ℕ) (al : P % pageSize G ≡ 0) 
   module _ {T : ℕ → ℕ → ℕ} {S : ℕ → ℕ → Ent} {W : ℕ → ℕ → ℕ} (R : Rendered X W T S) (list : List ℕ) where
     -- the first f places hold unused tables, none twice, and none that was seen
     pub record Fresh (f : ℕ) (seen : List ℕ) : Type 0 where
-      pub each : (i : ℕ) → i < f → (placeAt list i < n) × ((h r : ℕ) → S h r ≡ table → T h r ≢ placeAt list i)
+      pub each : (i : ℕ) → i < f → (placeAt list i < total area) × ((h r : ℕ) → S h r ≡ table → T h r ≢ placeAt list i)
       pub once : (i j : ℕ) → i < f → j < f → placeAt list i ≡ placeAt list j → i ≡ j
       pub unseen : (i : ℕ) → i < f → List·Memᴰ (placeAt list i) seen → ⊥
 
-    pub may-take : (need f : ℕ) (seen : List ℕ) → Fresh f seen → need ≤ f → mayTake list n seen f need ≡ true
+    pub may-take : (need f : ℕ) (seen : List ℕ) → Fresh f seen → need ≤ f → mayTake list (total area) seen f need ≡ true
     unfolding mayTake
     may-take zero f seen F l = refl
     may-take (suc need) f seen F l =
-        rw (lt-ltb 0 c some, lt-ltb c n (own .0), among-none c seen (F .unseen (f - 1) (omega arith)))
+        rw (lt-ltb 0 c some, lt-ltb c (total area) (own .0), among-none c seen (F .unseen (f - 1) (omega arith)))
         (may-take need (f - 1) (c ∷ seen) (record {
           each = λ i b. F .each i (omega arith);
           once = λ i j a b. F .once i j (omega arith) (omega arith);
@@ -96,7 +97,7 @@ module _ (G : Granule) (Z : Sane G) (P n top : ℕ) (al : P % pageSize G ≡ 0) 
         c : ℕ
         c = getD list (f - 1) 0
 
-        own : (c < n) × ((h r : ℕ) → S h r ≡ table → T h r ≢ c)
+        own : (c < total area) × ((h r : ℕ) → S h r ≡ table → T h r ≢ c)
         own = F .each (f - 1) (omega arith)
 
         some : 0 < c
@@ -110,8 +111,8 @@ module _ (G : Granule) (Z : Sane G) (P n top : ℕ) (al : P % pageSize G ≡ 0) 
 
   -- way: the tables on the path of page v above height low, none twice, in the pool; ws: the words before
   module _ (v : ℕ) (path way : List ℕ) (spot : (h : ℕ) → h < 4 → atHeight path h ≡ anc (entries G) h v % entries G) (few : top ≤ 4) (low : ℕ)
-      (tables : (k : ℕ) → low < k → k ≤ top → wayAt way k < n) (apart : (j k : ℕ) → low < j → j < k → k ≤ top → wayAt way j ≢ wayAt way k)
-      (ws : List ℕ) (long : length ws ≡ entries G * n) where
+      (tables : (k : ℕ) → low < k → k ≤ top → wayAt way k < total area) (apart : (j k : ℕ) → low < j → j < k → k ≤ top → wayAt way j ≢ wayAt way k)
+      (ws : List ℕ) (long : length ws ≡ entries G * total area) where
     abbrev K : ℕ
     K = entries G
 
@@ -126,7 +127,7 @@ module _ (G : Granule) (Z : Sane G) (P n top : ℕ) (al : P % pageSize G ≡ 0) 
 
     -- the memory m is ws but for tables below height k + 1 of the path, and the path's entry of height k, which is cleared
     pub record Cleared (k : ℕ) (m : List ℕ) : Type 0 where
-      pub size : length m ≡ K * n
+      pub size : length m ≡ K * total area
       pub here : (i : ℕ) → i < K → readAt G m (wayAt way (suc k)) i ≡ upd (readAt G ws) (wayAt way (suc k)) (ix k) 0 (wayAt way (suc k)) i
       pub above : (j i : ℕ) → suc k < j → j ≤ top → i < K → readAt G m (wayAt way j) i ≡ readAt G ws (wayAt way j) i
 
@@ -134,8 +135,8 @@ module _ (G : Granule) (Z : Sane G) (P n top : ℕ) (al : P % pageSize G ≡ 0) 
     pub clear-first : (k : ℕ) → low ≤ k → k < top → Cleared k (set ws (slot G (wayAt way (suc k)) (ix k)) 0)
     clear-first k ll l = record {
       size = length-set ws (slot G (wayAt way (suc k)) (ix k)) 0 ∙ long;
-      here = λ i b. memories.rd-wr G Z P n top al ws (wayAt way (suc k)) (ix k) 0 long (tables (suc k) (omega arith) l) (ix-lt k) (wayAt way (suc k)) i b;
-      above = λ j i a b c. memories.rd-wr G Z P n top al ws (wayAt way (suc k)) (ix k) 0 long (tables (suc k) (omega arith) l) (ix-lt k) (wayAt way j) i c
+      here = λ i b. memories.rd-wr G Z area top al ws (wayAt way (suc k)) (ix k) 0 long (tables (suc k) (omega arith) l) (ix-lt k) (wayAt way (suc k)) i b;
+      above = λ j i a b c. memories.rd-wr G Z area top al ws (wayAt way (suc k)) (ix k) 0 long (tables (suc k) (omega arith) l) (ix-lt k) (wayAt way j) i c
           ∙ upd-other (readAt G ws) (wayAt way (suc k)) (ix k) 0 (wayAt way j) i (λ s. apart (suc k) j (omega arith) a b (sym (s .0)));
     }
 
@@ -151,14 +152,14 @@ module _ (G : Granule) (Z : Sane G) (P n top : ℕ) (al : P % pageSize G ≡ 0) 
         t = wayAt way (suc (suc k))
 
         wr : (t′ i′ : ℕ) → i′ < K → readAt G (set m (slot G t (ix (suc k))) 0) t′ i′ ≡ upd (readAt G m) t (ix (suc k)) 0 t′ i′
-        wr t′ i′ b = memories.rd-wr G Z P n top al m t (ix (suc k)) 0 (C .size) (tables (suc (suc k)) (omega arith) l) (ix-lt (suc k)) t′ i′ b
+        wr t′ i′ b = memories.rd-wr G Z area top al m t (ix (suc k)) 0 (C .size) (tables (suc (suc k)) (omega arith) l) (ix-lt (suc k)) t′ i′ b
 
         written : (i : ℕ) → i < K → Dec (i ≡ ix (suc k)) → readAt G (set m (slot G t (ix (suc k))) 0) t i ≡ upd (readAt G ws) t (ix (suc k)) 0 t i
         written i b (yes e) = wr t i b ∙ upd-at (readAt G m) t (ix (suc k)) 0 t i (refl, e) ∙ sym (upd-at (readAt G ws) t (ix (suc k)) 0 t i (refl, e))
         written i b (no d) = wr t i b ∙ upd-other (readAt G m) t (ix (suc k)) 0 t i (λ s. d (s .1)) ∙ C .above (suc (suc k)) i (omega arith) l b ∙ sym (upd-other (readAt G ws) t (ix (suc k)) 0 t i (λ s. d (s .1)))
 
     -- the words of a table with one entry cleared
-    set-part : (t i₀ i : ℕ) → t < n → i < K → getD (set (part ws (slot G t 0) K) i₀ 0) i 0 ≡ upd (readAt G ws) t i₀ 0 t i
+    set-part : (t i₀ i : ℕ) → t < total area → i < K → getD (set (part ws (slot G t 0) K) i₀ 0) i 0 ≡ upd (readAt G ws) t i₀ 0 t i
     set-part t i₀ i l b = go (ℕ-discrete i i₀)
       where
         go : Dec (i ≡ i₀) → getD (set (part ws (slot G t 0) K) i₀ 0) i 0 ≡ upd (readAt G ws) t i₀ 0 t i
@@ -179,7 +180,7 @@ module _ (G : Granule) (Z : Sane G) (P n top : ℕ) (al : P % pageSize G ≡ 0) 
         t : ℕ
         t = wayAt way (suc k)
 
-        tn : t < n
+        tn : t < total area
         tn = tables (suc k) (omega arith) l
 
         size : length (set (part ws (slot G t 0) K) (ix k) 0) ≡ K

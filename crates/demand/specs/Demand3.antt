@@ -6,50 +6,65 @@ use mathlib.Core.List.{List, [], _∷_, _++_, List·Memᴰ}
 use Prim.Native.Nat.{ℕ, _-_, _<_}
 use lib.ListN.{take}
 use Rattle.path.specs.Geometry.{Granule, sizeAt}
+use Rattle.path.specs.Areas.{Area, total}
 use Rattle.entry.specs.declared.Entry.the-variants.{Table}
-use Rattle.model.specs.Answers.{Answer, formatted, took, gave, found, audited, refused, Pool, pool, Done, done}
+use Rattle.model.specs.Answers.{Answer, answered, refusal, refused, Pool, pool, Done, done}
 use Rattle.model.specs.Calls.{walkTo, formatW, queryW, mapW, unmapW}
 use Rattle.model.specs.Audit.{auditW, freeOf}
 use Rattle.model.specs.Sound.{reachedOf}
 use Rattle.model.specs.Ledger.{Ledger, region, regionsNeeded, freeTables, Entered, entered, formatL, queryL, mapL, unmapL, auditL}
-use Rattle.tree.specs.Count.{Distinct}
+use Rattle.laws.specs.Lists.{Distinct}
 use Rattle.demand.specs.Holds.{Holds}
+
+-- a question about a pool, which changes nothing
+pub data Ask : Type 0 where
+  -- address
+  query : ℕ → Ask
+  audit : Ask
 
 -- a call and its arguments, whatever they are
 pub data Call : Type 0 where
-  -- levels, base, tables
-  formatC : ℕ → ℕ → ℕ → Call
+  -- levels, and the area of the tables: base, tables
+  formatC : ℕ → Area → Call
   -- address, frame base, size, attributes
   mapC : ℕ → ℕ → ℕ → ℕ → Call
   -- address
   unmapC : ℕ → Call
-  queryC : ℕ → Call
-  auditC : Call
+  askC : Ask → Call
+
+abbrev pub queryC : ℕ → Call
+queryC a = askC (query a)
+
+abbrev pub auditC : Call
+auditC = askC audit
 
 -- after a refused format the setup from before goes on
 abbrev pub goOn : Pool → Done → Answer → Done
-goOn p d formatted = d
-goOn p d (refused k) = done (refused k) (pool (p .numbers) (d .after .words) (d .after .list))
-goOn p d (took t) = d
-goOn p d (gave b s k t) = d
-goOn p d (found m) = d
-goOn p d (audited t m) = d
+goOn p d (answered values) = d
+goOn p d (refusal k values) = done (refusal k values) (pool (p .numbers) (d .after .words) (d .after .list))
+
+-- what a pool answers to a question, and what a ledger does
+abbrev pub askW : Granule → Pool → Ask → Answer
+askW G p (query a) = queryW G p a
+askW G p audit = auditW G p
+
+abbrev pub askL : Granule → Ledger → Ask → Answer
+askL G A (query a) = queryL G A a
+askL G A audit = auditL G A
 
 -- one call on a pool
 abbrev pub stepW : Granule → Pool → Call → Done
-stepW G p (formatC l b n) = let d = formatW G l b n (p .words) (p .list) in goOn p d (d .answer)
+stepW G p (formatC l r) = let d = formatW G l r (p .words) (p .list) in goOn p d (d .answer)
 stepW G p (mapC a b s k) = mapW G p a b s k
 stepW G p (unmapC a) = unmapW G p a
-stepW G p (queryC a) = done (queryW G p a) p
-stepW G p auditC = done (auditW G p) p
+stepW G p (askC q) = done (askW G p q) p
 
 -- one call on a ledger
 abbrev pub stepL : Granule → Ledger → Call → Entered
-stepL G A (formatC l b n) = formatL G A l b n
+stepL G A (formatC l r) = formatL G A l r
 stepL G A (mapC a b s k) = mapL G A a b s k
 stepL G A (unmapC a) = unmapL G A a
-stepL G A (queryC a) = entered (queryL G A a) A
-stepL G A auditC = entered (auditL G A) A
+stepL G A (askC q) = entered (askL G A q) A
 
 -- a sequence of calls: the answers, and what is left
 abbrev pub answersW : Granule → Pool → List Call → List Answer
@@ -84,7 +99,7 @@ pub record Rests (G : Granule) (p : Pool) (A : Ledger) : Type 0 where
   pub free-count : p .numbers .free ≡ freeTables G A
   -- the reachable tables and the free numbers are all the numbers below the table count, each once
   pub once : Distinct (reachedOf G p ++ freeOf p)
-  pub all : (t : ℕ) → List·Memᴰ t (reachedOf G p ++ freeOf p) ↔ (t < A .tables)
+  pub all : (t : ℕ) → List·Memᴰ t (reachedOf G p ++ freeOf p) ↔ (t < total (A .area))
   -- a table is reachable exactly when it is the root or stands for a region that a live mapping needs; one table a region
   pub reached-needed : (t : ℕ) → List·Memᴰ t (reachedOf G p) → (t ≡ 0) ⊎ ((h : ℕ) × (a : ℕ) × NeededBy G A h a × StandsFor G p h a t)
   pub needed-reached : (h a : ℕ) → NeededBy G A h a → (t : ℕ) × List·Memᴰ t (reachedOf G p) × (t ≢ 0) × StandsFor G p h a t

@@ -4,18 +4,18 @@ use mathlib.Core.Path.{_≡_}
 use mathlib.Core.List.{List, List·Memᴰ}
 use lib.ListN.{length}
 use Rattle.path.specs.Geometry.{Granule}
+use Rattle.path.specs.Areas.{areaOf}
 use Rattle.path.specs.Numbers.{GoodSetup}
 use Rattle.model.specs.Answers.{Mapping, Pool}
 use Rattle.model.specs.Sound.{SoundPool, mappingsOf}
 use Rattle.model.specs.Ledger.{Ledger}
-use Rattle.tree.specs.Count.{Distinct}
+use Rattle.laws.specs.Lists.{Distinct}
 
 pub record Holds (G : Granule) (p : Pool) (A : Ledger) : Type 0 where
   -- the pool's numbers and lengths are good, and the ledger's
   pub good : GoodSetup G (p .numbers) (length (p .words)) (length (p .list))
   pub levels-are : p .numbers .levels ≡ A .levels
-  pub base-is : p .numbers .base ≡ A .base
-  pub tables-are : p .numbers .tables ≡ A .tables
+  pub area-is : areaOf (p .numbers) ≡ A .area
   -- the pool keeps the audit's rules
   pub sound : SoundPool G p
   -- the live mappings are those in the words, each once

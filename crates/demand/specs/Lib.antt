@@ -14,3 +14,4 @@ pub mod Demand3
 pub mod Rest
 pub mod Theorem
 pub mod Clauses
+pub mod ClauseLaws

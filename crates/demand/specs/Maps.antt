@@ -10,7 +10,8 @@ use lib.Dec.{ltb, leb, eqb}
 use lib.ListN.{length, getD}
 use borrow.Author.Tests.{ltb-true, ltb-false, leb-true, leb-false, eqb-true, eqb-false, lt-ltb, le-ltb}
 use Rattle.path.specs.Geometry.{Granule, pageSize, entries, sizeAt, spaceOf, physical, heightOf, Sane}
-use Rattle.path.specs.Numbers.{GoodSetup}
+use Rattle.path.specs.Areas.{Area, areaOf, total, GoodArea}
+use Rattle.path.specs.Numbers.{withFree, GoodSetup}
 use Rattle.path.specs.Laws.{height-size, size-pos}
 use Rattle.path.specs.declared.Setup.{Setup}
 use Rattle.path.specs.Paths.{pathOf}
@@ -19,7 +20,7 @@ use Rattle.entry.specs.Laws.{framed-paged}
 use Rattle.entry.specs.declared.Entry.{Entry}
 use Rattle.entry.specs.declared.Entry.the-variants.{Empty, Table, Frame, Damaged}
 use Rattle.model.specs.Answers as answers
-use Rattle.model.specs.Answers.{Answer, took, refused, Pool, pool, withFree, Done, done, refuse}
+use Rattle.model.specs.Answers.{Answer, took, refused, Pool, pool, Done, done, refuse}
 use Rattle.model.specs.declared.Walked.{Walked}
 use Rattle.model.specs.Walk.{atHeight}
 use Rattle.model.specs.Writes.{Memory, memory, performAll, mapWrites, mayTake}
@@ -31,14 +32,14 @@ use Rattle.tree.specs.Inv.{Mapping, mapping, Inv, excuse}
 use Rattle.tree.specs.Ops.{grow, Mem, Mapped, Ready, grow-ok}
 use Rattle.tree.specs.Ledger.{lack, lack-is, none-meets, frame-meets, table-meets}
 use Rattle.tree.specs.Needed.{needed, pool-count}
-use Rattle.tree.specs.Count.{Distinct}
+use Rattle.laws.specs.Lists.{Distinct}
 use Rattle.demand.specs.Shown.{shown, pg, anc-size, page-of, Met, overlap-met, met-overlap, lacking-is, needed-count, baseOf, attrsOf}
 use Rattle.demand.specs.Arm.{readEntry, payload-base, payload-attrs}
 use Rattle.demand.specs.Memories.{readAt, placeAt}
 use Rattle.demand.specs.Walks.{Ended, spot, wayAt, never-bad, entry-table}
 use Rattle.demand.specs.Carried.{A, map-carried, Fresh, may-take}
 use Rattle.demand.specs.Sims.{Sim}
-use Rattle.demand.specs.Queries.{P, n, k₀, al, X, R, own, pool-good, few, root-at, space-is, walk-ended, tables-above, entry-empty, entry-frame}
+use Rattle.demand.specs.Queries.{area, n, k₀, al, X, R, own, pool-good, few, root-at, space-is, walk-ended, tables-above, entry-empty, entry-frame}
 
 -- what the tests of map's arguments say where none refuses
 pub record Fine (G : Granule) (levels a b size k : ℕ) : Type 0 where
@@ -74,15 +75,14 @@ tests-fine G levels a b size k e = go (ltb (G .large) (heightOf G size)) (ltb 15
     }
 
 -- good numbers stay good with memory of the same lengths and another free count
-abbrev pub regood : {G : Granule} {s : Setup} {w l : ℕ} → GoodSetup G s w l → (w′ l′ f : ℕ) → w′ ≡ entries G * s .tables → l′ ≡ s .tables → f < s .tables → GoodSetup G (withFree s f) w′ l′
+abbrev pub regood : {G : Granule} {s : Setup} {w l : ℕ} → GoodSetup G s w l → (w′ l′ f : ℕ) → w′ ≡ entries G * total (areaOf s) → l′ ≡ total (areaOf s) → f < total (areaOf s) → GoodSetup G (withFree s f) w′ l′
 regood g w′ l′ f p q r = record {
   numbers = record {
     enough = g .numbers .enough;
     not-more = g .numbers .not-more;
     some-table = g .numbers .some-table;
     few = g .numbers .few;
-    aligned = g .numbers .aligned;
-    fits = g .numbers .fits;
+    placed = g .numbers .placed;
     words-are = p;
     places-are = q;
   };
@@ -108,7 +108,7 @@ module _ (G : Granule) (Z : Sane G) {p : Pool} {B : Ledger} (I : Sim G Z p B) wh
 
   -- the pool holds its own ledger
   pub own-sim : Sim G Z p (own G Z I)
-  own-sim = record { good = I .good; levels-are = refl; base-is = refl; tables-are = refl; L = I .L; live-is = refl; once = I .once; T = I .T; S = I .S; inv = I .inv }
+  own-sim = record { good = I .good; levels-are = refl; area-is = refl; L = I .L; live-is = refl; once = I .once; T = I .T; S = I .S; inv = I .inv }
 
   -- the free count is the ledger's
   pub free-is : freeTables G (own G Z I) ≡ f
@@ -144,10 +144,10 @@ module _ (G : Granule) (Z : Sane G) {p : Pool} {B : Ledger} (I : Sim G Z p B) wh
     framed = record { level = F .sized; few = F .some-attributes; aligned = rw size-is (F .frame-aligned); fits = omega (arith, size-is, F .in-physical) }
 
     base-back : baseOf x ≡ b
-    base-back = payload-base G Z (P G Z I) (n G Z I) (p .numbers .levels) (al G Z I) b k (framed-paged Z framed) (F .some-attributes)
+    base-back = payload-base G Z (area G Z I) (p .numbers .levels) (al G Z I) b k (framed-paged Z framed) (F .some-attributes)
 
     attrs-back : attrsOf x ≡ k
-    attrs-back = payload-attrs G Z (P G Z I) (n G Z I) (p .numbers .levels) (al G Z I) b k (framed-paged Z framed) (F .some-attributes)
+    attrs-back = payload-attrs G Z (area G Z I) (p .numbers .levels) (al G Z I) b k (framed-paged Z framed) (F .some-attributes)
 
     pub good-frame : Framed G g (baseOf x) (attrsOf x)
     good-frame = rw (base-back, attrs-back) framed
@@ -171,7 +171,7 @@ module _ (G : Granule) (Z : Sane G) {p : Pool} {B : Ledger} (I : Sim G Z p B) wh
     abbrev s : ℕ
     s = o .left
 
-    abbrev E : Ended G Z (P G Z I) (n G Z I) (p .numbers .levels) (al G Z I) (few G Z I) (p .words) (R G Z I) a g (k₀ G Z I) o
+    abbrev E : Ended G Z (area G Z I) (p .numbers .levels) (al G Z I) (few G Z I) (p .words) (R G Z I) a g (k₀ G Z I) o
     E = walk-ended G Z I g a low (F .start-in)
 
     abbrev ledgerSays : Entered
@@ -208,11 +208,11 @@ module _ (G : Granule) (Z : Sane G) {p : Pool} {B : Ledger} (I : Sim G Z p B) wh
         t-is = ap (λ (j : ℕ). getD (o .tables) j 0) (omega arith) ∙ E .ends .path-is (suc s) (omega arith) (omega (arith, E .ends .low, root-at G Z I))
 
         -- what growing comes to
-        abbrev grown : Mem (A G Z (P G Z I) (n G Z I) (p .numbers .levels) (al G Z I))
-        grown = grow (X G Z I) (A G Z (P G Z I) (n G Z I) (p .numbers .levels) (al G Z I)) (placeAt (p .list)) g v x s (p .words) t f
+        abbrev grown : Mem (A G Z (area G Z I) (p .numbers .levels) (al G Z I))
+        grown = grow (X G Z I) (A G Z (area G Z I) (p .numbers .levels) (al G Z I)) (placeAt (p .list)) g v x s (p .words) t f
 
         -- where growing starts
-        unfoldable pub ready : Ready (X G Z I) (A G Z (P G Z I) (n G Z I) (p .numbers .levels) (al G Z I)) (placeAt (p .list)) g v x (I .L) s
+        unfoldable pub ready : Ready (X G Z I) (A G Z (area G Z I) (p .numbers .levels) (al G Z I)) (placeAt (p .list)) g v x (I .L) s
         ready = record {
           m = p .words;
           t = t;
@@ -229,29 +229,28 @@ module _ (G : Granule) (Z : Sane G) {p : Pool} {B : Ledger} (I : Sim G Z p B) wh
           good = good-frame;
         }
 
-        M : Mapped (X G Z I) (A G Z (P G Z I) (n G Z I) (p .numbers .levels) (al G Z I)) (placeAt (p .list)) g v x (I .L) f (s - g) grown
+        M : Mapped (X G Z I) (A G Z (area G Z I) (p .numbers .levels) (al G Z I)) (placeAt (p .list)) g v x (I .L) f (s - g) grown
         unfolding ready
-        M = grow-ok (X G Z I) (A G Z (P G Z I) (n G Z I) (p .numbers .levels) (al G Z I)) (placeAt (p .list)) g v x s ready
+        M = grow-ok (X G Z I) (A G Z (area G Z I) (p .numbers .levels) (al G Z I)) (placeAt (p .list)) g v x s ready
 
-        pub carried : performAll G (mapWrites G (P G Z I) (pathOf G a) (p .list) g (frameWord b g k) t f (s - g)) (memory (p .words) (p .list)) ≡ memory (grown .m) (p .list)
-        carried = ap (λ (w : ℕ). performAll G (mapWrites G (P G Z I) (pathOf G a) (p .list) g w t f (s - g)) (memory (p .words) (p .list)))
+        pub carried : performAll G (mapWrites G (area G Z I) (pathOf G a) (p .list) g (frameWord b g k) t f (s - g)) (memory (p .words) (p .list)) ≡ memory (grown .m) (p .list)
+        carried = ap (λ (w : ℕ). performAll G (mapWrites G (area G Z I) (pathOf G a) (p .list) g w t f (s - g)) (memory (p .words) (p .list)))
             (ap (λ (z : ℕ). frameWord z g k) (sym base-back) ∙ ap (frameWord (baseOf x) g) (sym attrs-back))
-            ∙ map-carried G Z (P G Z I) (n G Z I) (p .numbers .levels) (al G Z I) v (pathOf G a) (spot G Z (P G Z I) (n G Z I) (p .numbers .levels) (al G Z I) (few G Z I) (p .words) (R G Z I) a) (p .list) g x (s - g) s (omega (arith, E .ends .target low)) s-low (p .words) (p .list) t f
+            ∙ map-carried G Z (area G Z I) (p .numbers .levels) (al G Z I) v (pathOf G a) (spot G Z (area G Z I) (p .numbers .levels) (al G Z I) (few G Z I) (p .words) (R G Z I) a) (p .list) g x (s - g) s (omega (arith, E .ends .target low)) s-low (p .words) (p .list) t f
 
         may : mayTake (p .list) (n G Z I) (o .tables) f (s - g) ≡ true
-        may = may-take G Z (P G Z I) (n G Z I) (p .numbers .levels) (al G Z I) (R G Z I) (p .list) (s - g) f (o .tables) (record {
+        may = may-take G Z (area G Z I) (p .numbers .levels) (al G Z I) (R G Z I) (p .list) (s - g) f (o .tables) (record {
           each = I .inv .free .each;
           once = I .inv .free .once;
           unseen = λ i l m. ⊎-elim (λ z. I .inv .free .each i l .1 (p .numbers .levels) 0 (R G Z I .root) (R G Z I .root-at ∙ sym z))
               (λ (j, c, d, e). I .inv .free .each i l .1 j (anc (entries G) j v) (tables-above G Z I g a o E j c d) e) (E .way .known (placeAt (p .list) i) m);
         }) room
 
-        after : Sim G Z (written G p (mapWrites G (P G Z I) (pathOf G a) (p .list) g (frameWord b g k) t f (s - g)) (f - (s - g))) (withLive (own G Z I) (answers.mapping a b size k ∷ map (shown G Z) (I .L)))
+        after : Sim G Z (written G p (mapWrites G (area G Z I) (pathOf G a) (p .list) g (frameWord b g k) t f (s - g)) (f - (s - g))) (withLive (own G Z I) (answers.mapping a b size k ∷ map (shown G Z) (I .L)))
         after = rw carried (record {
           good = regood (I .good) (length (grown .m)) (length (p .list)) (f - (s - g)) (M .ok) (I .good .numbers .places-are) (omega (arith, I .good .room));
           levels-are = refl;
-          base-is = refl;
-          tables-are = refl;
+          area-is = refl;
           L = mapping g r x ∷ I .L;
           live-is = ap (λ (m : answers.Mapping). m ∷ map (shown G Z) (I .L)) (sym new-shown);
           once = (λ m. none-meets (R G Z I) (I .inv .holds) (E .ends) low vacant (mapping g r x) m (ap (anc (entries G) (max g g)) (sym page-is)), I .once);
@@ -268,7 +267,7 @@ module _ (G : Granule) (Z : Sane G) {p : Pool} {B : Ledger} (I : Sim G Z p B) wh
             → Alike G Z
             (cond y (refuse 7 p)
             (cond (mayTake (p .list) (n G Z I) (o .tables) f (s - g))
-            (done (took (s - g)) (written G p (mapWrites G (P G Z I) (pathOf G a) (p .list) g (frameWord b g k) (atHeight (o .tables) s) f (s - g)) (f - (s - g))))
+            (done (took (s - g)) (written G p (mapWrites G (area G Z I) (pathOf G a) (p .list) g (frameWord b g k) (atHeight (o .tables) s) f (s - g)) (f - (s - g))))
             (refuse 8 p)))
             (cond y (entered (refused 7) (own G Z I)) (entered (took (s - g)) (withLive (own G Z I) (answers.mapping a b size k ∷ map (shown G Z) (I .L)))))
         free vacant true e = record { answer = refl; sim = own-sim }

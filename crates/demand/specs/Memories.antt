@@ -12,6 +12,7 @@ use lib.Seq.{getD-set-same, getD-set-other}
 use Rattle.laws.specs.Lists.{zeroed}
 use Rattle.laws.specs.ListLaws.{length-zeroed, getD-zeroed, getD-zeroed-before, getD-zeroed-after}
 use Rattle.path.specs.Geometry.{Granule, pageSize, entries, Sane}
+use Rattle.path.specs.Areas.{Area, total, GoodArea}
 use Rattle.model.specs.Walk.{slot}
 use Rattle.tree.specs.Region.{Same, same?, upd, upd-at, upd-other, put1, put1-at, put1-other}
 use Rattle.tree.specs.Tree.{Geo}
@@ -39,11 +40,11 @@ readAt G ws t i = getD ws (slot G t i) 0
 abbrev pub placeAt : List ℕ → ℕ → ℕ
 placeAt list i = getD list i 0
 
-module _ (G : Granule) (Z : Sane G) (P n top : ℕ) (al : P % pageSize G ≡ 0) where
+module _ (G : Granule) (Z : Sane G) (area : Area) (top : ℕ) (al : GoodArea G area) where
   abbrev K : ℕ
   K = entries G
 
-  pub rd-wr : (ws : List ℕ) (t i x : ℕ) → length ws ≡ K * n → t < n → i < K → (t′ i′ : ℕ) → i′ < K → readAt G (set ws (slot G t i) x) t′ i′ ≡ upd (readAt G ws) t i x t′ i′
+  pub rd-wr : (ws : List ℕ) (t i x : ℕ) → length ws ≡ K * total area → t < total area → i < K → (t′ i′ : ℕ) → i′ < K → readAt G (set ws (slot G t i) x) t′ i′ ≡ upd (readAt G ws) t i x t′ i′
   rd-wr ws t i x k a b t′ i′ c = go (same? t i t′ i′)
     where
       go : Dec (Same t i t′ i′) → readAt G (set ws (slot G t i) x) t′ i′ ≡ upd (readAt G ws) t i x t′ i′
@@ -58,17 +59,17 @@ module _ (G : Granule) (Z : Sane G) (P n top : ℕ) (al : P % pageSize G ≡ 0) 
       go (yes l) = getD-zeroed-before ws (slot G c 0) K (slot G t i) (omega (arith, in-table K l b))
       go (no l) = getD-zeroed-after ws (slot G c 0) K (slot G t i) (let g : c < t = omega arith in omega (arith, table-ends K g))
 
-  pub pl-push : (q : List ℕ) (f t : ℕ) → length q ≡ n → f < n → (i : ℕ) → placeAt (set q f t) i ≡ put1 (placeAt q) f t i
+  pub pl-push : (q : List ℕ) (f t : ℕ) → length q ≡ total area → f < total area → (i : ℕ) → placeAt (set q f t) i ≡ put1 (placeAt q) f t i
   pl-push q f t k l i = go (ℕ-discrete i f)
     where
       go : Dec (i ≡ f) → placeAt (set q f t) i ≡ put1 (placeAt q) f t i
       go (yes e) = rw e (getD-set-same q f t 0 (omega arith) ∙ sym (put1-at (placeAt q) f t))
       go (no e) = getD-set-other q f i t 0 e ∙ sym (put1-other (placeAt q) f t i e)
 
-  abbrev pub store : Store (geo G Z P n top al)
+  abbrev pub store : Store (geo G Z area top al)
   store = record {
     M = List ℕ;
-    Ok = λ ws. length ws ≡ K * n;
+    Ok = λ ws. length ws ≡ K * total area;
     rd = readAt G;
     wr = λ ws t i x. set ws (slot G t i) x;
     wipe = λ ws c. zeroed ws (slot G c 0) K;
@@ -78,7 +79,7 @@ module _ (G : Granule) (Z : Sane G) (P n top : ℕ) (al : P % pageSize G ≡ 0) 
     rd-wiped = λ ws c k l i b. getD-zeroed ws (slot G c 0) K (omega (arith, table-ends K l)) (slot G c i) (omega arith) (omega arith);
     rd-kept = λ ws c k l t i b d. rd-kept ws c t i b d;
     Q = List ℕ;
-    Okᶠ = λ q. length q ≡ n;
+    Okᶠ = λ q. length q ≡ total area;
     pl = placeAt;
     push = λ q f t. set q f t;
     push-ok = λ q f t k. length-set q f t ∙ k;

@@ -8,10 +8,11 @@ use lib.ListN.{length, getD, replicate, length-replicate, length-map}
 use Rattle.laws.specs.Lists.{down}
 use Rattle.laws.specs.ListLaws.{length-down, getD-down, allZero-at, allZero-replicate}
 use Rattle.path.specs.Geometry.{Granule, entries, Sane}
-use Rattle.path.specs.Numbers.{goodNumbers, GoodNumbers, GoodSetup}
+use Rattle.path.specs.Areas.{Area, areaOf, total, GoodArea}
+use Rattle.path.specs.Numbers.{setupOf, goodNumbers, GoodNumbers, GoodSetup}
 use Rattle.path.specs.Laws.{good-numbers, setup-good, good-setup}
 use Rattle.model.specs.Answers as answers
-use Rattle.model.specs.Answers.{Answer, formatted, audited, refused, Pool, pool, setup, done, refuse}
+use Rattle.model.specs.Answers.{Answer, formatted, audited, refused, Pool, pool, done, refuse}
 use Rattle.model.specs.Calls.{goodPool, formatW}
 use Rattle.model.specs.Audit.{auditW}
 use Rattle.model.specs.Sound.{SoundPool, reachedOf, mappingsOf}
@@ -35,27 +36,26 @@ zero-at k i = allZero-at (replicate k 0) (allZero-replicate k) i
 
 module _ (G : Granule) (Z : Sane G) where
   -- what an accepted format leaves
-  pub fresh-sim : (levels base tables : ℕ) (ws list : List ℕ) → GoodNumbers G levels base tables (length ws) (length list)
-      → Sim G Z (pool (setup levels base tables (tables - 1)) (replicate (length ws) 0) (down tables)) (ledger levels base tables [])
-  fresh-sim levels base tables ws list g = record {
+  pub fresh-sim : (levels : ℕ) (area : Area) (ws list : List ℕ) → GoodNumbers G levels area (length ws) (length list)
+      → Sim G Z (pool (setupOf levels area (total area - 1)) (replicate (length ws) 0) (down (total area))) (ledger levels area [])
+  fresh-sim levels area ws list g = record {
     good = good;
     levels-are = refl;
-    base-is = refl;
-    tables-are = refl;
+    area-is = refl;
     L = [];
     live-is = refl;
     once = tt;
     T = λ _ _. 0;
     S = Rattle.tree.specs.Fresh.S₀ X₀ (levels - 1) (root-height G Z p good) (g .some-table);
-    inv = fresh X₀ (levels - 1) (root-height G Z p good) (g .some-table) (readAt G (p .words)) (placeAt (p .list)) (λ t i. zero-at (length ws) _) (λ i l. getD-down tables i (omega arith));
+    inv = fresh X₀ (levels - 1) (root-height G Z p good) (g .some-table) (readAt G (p .words)) (placeAt (p .list)) (λ t i. zero-at (length ws) _) (λ i l. getD-down (total area) i (omega arith));
   }
     where
       p : Pool
-      p = pool (setup levels base tables (tables - 1)) (replicate (length ws) 0) (down tables)
+      p = pool (setupOf levels area (total area - 1)) (replicate (length ws) 0) (down (total area))
 
       good : GoodSetup G (p .numbers) (length (p .words)) (length (p .list))
       good = record {
-        numbers = record { enough = g .enough; not-more = g .not-more; some-table = g .some-table; few = g .few; aligned = g .aligned; fits = g .fits; words-are = length-replicate (length ws) 0 ∙ g .words-are; places-are = length-down tables };
+        numbers = record { enough = g .enough; not-more = g .not-more; some-table = g .some-table; few = g .few; placed = g .placed; words-are = length-replicate (length ws) 0 ∙ g .words-are; places-are = length-down (total area) };
         room = omega (arith, g .some-table);
       }
 
@@ -87,15 +87,14 @@ module _ (G : Granule) (Z : Sane G) where
         mappings = mappings-count ∙ sym (length-map (I .L) (shown G Z))
 
   -- a pool that the audit accepts holds the ledger of its mappings
-  pub accepted-holds : (p : Pool) (t m : ℕ) → auditW G p ≡ audited t m → Holds G p (ledger (p .numbers .levels) (p .numbers .base) (p .numbers .tables) (mappingsOf G p))
+  pub accepted-holds : (p : Pool) (t m : ℕ) → auditW G p ≡ audited t m → Holds G p (ledger (p .numbers .levels) (areaOf (p .numbers)) (mappingsOf G p))
   accepted-holds p t m e = let (g, s, _, _) = audit-counts G p t m e in from (good-setup g) s
     where
-      from : GoodSetup G (p .numbers) (length (p .words)) (length (p .list)) → SoundPool G p → Holds G p (ledger (p .numbers .levels) (p .numbers .base) (p .numbers .tables) (mappingsOf G p))
+      from : GoodSetup G (p .numbers) (length (p .words)) (length (p .list)) → SoundPool G p → Holds G p (ledger (p .numbers .levels) (areaOf (p .numbers)) (mappingsOf G p))
       from good s = record {
         good = good;
         levels-are = refl;
-        base-is = refl;
-        tables-are = refl;
+        area-is = refl;
         sound = s;
         live = λ m a. a;
         listed = λ m a. a;

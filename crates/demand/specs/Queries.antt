@@ -12,6 +12,7 @@ use lib.Dec.{ltb, leb, eqb}
 use lib.ListN.{length}
 use borrow.Author.Tests.{leb-true, leb-false}
 use Rattle.path.specs.Geometry.{Granule, pageSize, entries, sizeAt, spaceOf, Sane}
+use Rattle.path.specs.Areas.{Area, areaOf, total, GoodArea}
 use Rattle.path.specs.Laws.{setup-good, space-some}
 use Rattle.path.specs.Paths.{baseAt, pathOf}
 use Rattle.entry.specs.Laws.{framed-paged}
@@ -47,30 +48,30 @@ entry-frame (frame y) t x q = cc
 entry-frame table t x q = cc
 
 module _ (G : Granule) (Z : Sane G) {p : Pool} {A : Ledger} (I : Sim G Z p A) where
-  abbrev pub P : ℕ
-  P = p .numbers .base
+  abbrev pub area : Area
+  area = areaOf (p .numbers)
 
   abbrev pub n : ℕ
-  n = p .numbers .tables
+  n = total (areaOf (p .numbers))
 
   abbrev pub k₀ : ℕ
   k₀ = p .numbers .levels - 1
 
-  abbrev pub al : P % pageSize G ≡ 0
-  al = I .good .numbers .aligned
+  abbrev pub al : GoodArea G area
+  al = I .good .numbers .placed
 
   abbrev pub X : Geo
-  X = geo G Z P n (p .numbers .levels) al
+  X = geo G Z area (p .numbers .levels) al
 
   abbrev pub R : Rendered X (readAt G (p .words)) (I .T) (I .S)
   R = I .inv .ren
 
   -- the ledger, by the pool's numbers
   abbrev pub own : Ledger
-  own = ledger (p .numbers .levels) P n (map (shown G Z) (I .L))
+  own = ledger (p .numbers .levels) area (map (shown G Z) (I .L))
 
   pub ledger-is : A ≡ own
-  ledger-is = let a = sym (I .levels-are) in let b = sym (I .base-is) in let c = sym (I .tables-are) in let d = I .live-is in λ i. ledger (a i) (b i) (c i) (d i)
+  ledger-is = let a = sym (I .levels-are) in let b = sym (I .area-is) in let d = I .live-is in λ i. ledger (a i) (b i) (d i)
 
   pub pool-good : goodPool G p ≡ true
   pool-good = setup-good (I .good)
@@ -89,8 +90,8 @@ module _ (G : Granule) (Z : Sane G) {p : Pool} {A : Ledger} (I : Sim G Z p A) wh
   top-zero a l = anc-size G Z a (suc k₀) ∙ div-eq-of-lt (omega (arith, space-is, ap (sizeAt G) root-at))
 
   pub walk-ended : (g a : ℕ) → g ≤ k₀ → a < spaceOf G (p .numbers .levels)
-      → Ended G Z P n (p .numbers .levels) al few (p .words) R a g k₀ (walkTo G p g a)
-  walk-ended g a le l = walk-ends G Z P n (p .numbers .levels) al few (p .words) R a g k₀ noWay 0 le (omega (arith, root-at)) number stands (subst (λ (j : ℕ). Way G Z P n (p .numbers .levels) al few (p .words) R a j noWay) (sym root-at) (no-way G Z P n (p .numbers .levels) al few (p .words) R a))
+      → Ended G Z area (p .numbers .levels) al few (p .words) R a g k₀ (walkTo G p g a)
+  walk-ended g a le l = walk-ends G Z area (p .numbers .levels) al few (p .words) R a g k₀ noWay 0 le (omega (arith, root-at)) number stands (subst (λ (j : ℕ). Way G Z area (p .numbers .levels) al few (p .words) R a j noWay) (sym root-at) (no-way G Z area (p .numbers .levels) al few (p .words) R a))
     where
       Q : Rooted X (I .T) (I .S) k₀
       Q = rooted R root-at
@@ -102,7 +103,7 @@ module _ (G : Granule) (Z : Sane G) {p : Pool} {A : Ledger} (I : Sim G Z p A) wh
       stands = ap (I .S (suc k₀)) (top-zero a l) ∙ Q .stands
 
   -- above the entry where a walk ended stand tables
-  pub tables-above : (g a : ℕ) (o : Walked) → Ended G Z P n (p .numbers .levels) al few (p .words) R a g k₀ o → (j : ℕ) → o .left < j → j ≤ p .numbers .levels
+  pub tables-above : (g a : ℕ) (o : Walked) → Ended G Z area (p .numbers .levels) al few (p .words) R a g k₀ o → (j : ℕ) → o .left < j → j ≤ p .numbers .levels
       → I .S j (anc (entries G) j (pg G Z a)) ≡ table
   tables-above g a o E j l m = go (ℕ-discrete (suc (o .left)) j)
     where
@@ -118,7 +119,7 @@ module _ (G : Granule) (Z : Sane G) {p : Pool} {A : Ledger} (I : Sim G Z p A) wh
       o : Walked
       o = walkTo G p 0 a
 
-      answer : (E : Ended G Z P n (p .numbers .levels) al few (p .words) R a 0 k₀ o) (e : Entry) → o .entry ≡ e → foundAt G a e (o .left) ≡ queryOf (coverOf a (map (shown G Z) (I .L)))
+      answer : (E : Ended G Z area (p .numbers .levels) al few (p .words) R a 0 k₀ o) (e : Entry) → o .entry ≡ e → foundAt G a e (o .left) ≡ queryOf (coverOf a (map (shown G Z) (I .L)))
       answer E e q = at e q (ap readEntry (sym q) ∙ E .ends .says-is)
         where
           s : ℕ
@@ -132,8 +133,8 @@ module _ (G : Granule) (Z : Sane G) {p : Pool} {A : Ledger} (I : Sim G Z p A) wh
           at (Frame b k) q z =
               let F = E .framed b k q in
               let u = base-is G Z a s ∙ ap (λ (x : ℕ). x * sizeAt G s) (sym (anc-size G Z a s)) in
-              let v = sym (payload-base G Z P n (p .numbers .levels) al b k (framed-paged Z F) (F .few)) in
-              let w = sym (payload-attrs G Z P n (p .numbers .levels) al b k (framed-paged Z F) (F .few)) in
+              let v = sym (payload-base G Z area (p .numbers .levels) al b k (framed-paged Z F) (F .few)) in
+              let w = sym (payload-attrs G Z area (p .numbers .levels) al b k (framed-paged Z F) (F .few)) in
               (λ i. found (answers.mapping (u i) (v i) (sizeAt G s) (w i)))
               ∙ sym (ap queryOf (cover-lookup G Z a (I .L) ∙ ap (Option·map (shown G Z)) (query-some R (I .inv .holds) (E .ends) (b + k) (entry-frame (I .S s r) (I .T s r) (b + k) z))))
           at (Table c) q z = absurd (ended R (E .ends) (entry-table (I .S s r) (I .T s r) c z .0))

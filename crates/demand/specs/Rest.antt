@@ -8,6 +8,7 @@ use native.Mathlib.Omega.{arith}
 use native.Mathlib.Decide.{decLt, ℕ-discrete}
 use lib.ListN.{length, length-append}
 use lib.Seq.{length-take-le}
+use Rattle.path.specs.Areas.{Area, areaOf, total, GoodArea}
 use Rattle.path.specs.Geometry.{Granule, entries, sizeAt, spaceOf, Sane}
 use Rattle.path.specs.Laws.{size-pos, size-injective}
 use Rattle.entry.specs.declared.Entry.{Entry}
@@ -29,7 +30,7 @@ use Rattle.demand.specs.Shown.{shownRegion, needed-shown, pg, anc-size, 
 use Rattle.demand.specs.Arm.{readEntry}
 use Rattle.demand.specs.Walks.{Ended}
 use Rattle.demand.specs.Holds.{Holds}
-use Rattle.demand.specs.Sims.{Sim, sim-holds, reached-is, to-distinct}
+use Rattle.demand.specs.Sims.{Sim, sim-holds, reached-is}
 use Rattle.demand.specs.Queries.{k₀, R, own, pool-good, root-at, space-is, walk-ended, tables-above}
 use Rattle.demand.specs.Maps.{own-sim, free-is}
 use Rattle.demand.specs.Others.{audit-own}
@@ -74,7 +75,7 @@ module _ (G : Granule) (Z : Sane G) {p : Pool} {A : Ledger} (I : Sim G Z p A) wh
       o : Walked
       o = walkTo G p h a
 
-      E : Ended G Z (p .numbers .base) (p .numbers .tables) top (I .good .numbers .aligned) (Rattle.demand.specs.Queries.few G Z I) (p .words) (R G Z I) a h k o
+      E : Ended G Z (areaOf (p .numbers)) top (I .good .numbers .placed) (Rattle.demand.specs.Queries.few G Z I) (p .words) (R G Z I) a h k o
       E = walk-ended G Z I h a l in-space
 
       left : o .left ≡ h
@@ -108,7 +109,7 @@ module _ (G : Granule) (Z : Sane G) {p : Pool} {A : Ledger} (I : Sim G Z p A) wh
   H = sim-holds G Z (own-sim G Z I)
 
   all-distinct : Distinct (reachedOf G p ++ freeOf p)
-  all-distinct = distinct-append (reachedOf G p) (freeOf p) (to-distinct (reachedOf G p) (H .sound .once)) (to-distinct (freeOf p) (H .sound .free-once)) (λ t m n. H .sound .free-apart t n m)
+  all-distinct = distinct-append (reachedOf G p) (freeOf p) (H .sound .once) (H .sound .free-once) (λ t m n. H .sound .free-apart t n m)
 
   all-low : (t : ℕ) → List·Memᴰ t (reachedOf G p ++ freeOf p) → t < p .numbers .tables
   all-low t m = ⊎-elim (λ n. pool-reached-low Z p (pool-good G Z I) t n) (λ n. H .sound .free-range t n) (List·Memᴰ·append-cases (reachedOf G p) m)

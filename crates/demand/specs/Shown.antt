@@ -20,7 +20,7 @@ use Rattle.tree.specs.Region.{anc, Same, same?, page, anc-page, anc-address, pa
 use Rattle.tree.specs.Inv.{Mapping, mapping, without, drop-if}
 use Rattle.tree.specs.Ledger.{Covers, Meets, Inside, Needs, needs?, lookup, lack}
 use Rattle.tree.specs.Needed.{Reg, reg, spine, needed, add-all, add-if, member?, add-all-has, add-all-from, needed-has, needed-from, spine-from}
-use Rattle.tree.specs.Count.{Distinct}
+use Rattle.laws.specs.Lists.{Distinct}
 
 -- a test that says the same as a decision chooses the same
 pub cond-ite : {A P : Type 0} (x y : A) (b : Bool) (d : Dec P) → (b ≡ true → P) → (P → b ≡ true) → cond b x y ≡ ite d x y

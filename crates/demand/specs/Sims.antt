@@ -9,6 +9,7 @@ use lib.ListN.{length, getD, take}
 use lib.Seq.{length-take-le, getD-take}
 use Rattle.laws.specs.ListLaws.{mem-at, at-mem}
 use Rattle.path.specs.Geometry.{Granule, pageSize, entries, sizeAt, Sane}
+use Rattle.path.specs.Areas.{Area, areaOf, total, GoodArea}
 use Rattle.path.specs.Numbers.{GoodNumbers, GoodSetup}
 use Rattle.path.specs.Laws.{size-pos, size-injective}
 use Rattle.entry.specs.Words.{entryAt}
@@ -32,15 +33,6 @@ use Rattle.demand.specs.Arm.{readEntry, geo}
 use Rattle.demand.specs.Memories.{readAt, placeAt}
 use Rattle.demand.specs.Visits.{table-reached, table-mappings}
 use Rattle.demand.specs.Holds.{Holds}
-
--- the two ways to say that no number stands twice
-pub to-distinct : (l : List ℕ) → sound.Distinct l → Distinct l
-to-distinct [] d = tt
-to-distinct (x ∷ l) d = (d .0, to-distinct l (d .1))
-
-from-distinct : (l : List ℕ) → Distinct l → sound.Distinct l
-from-distinct [] d = tt
-from-distinct (x ∷ l) d = (d .0, from-distinct l (d .1))
 
 -- the first f places of a list, by place
 place-mem : (f i : ℕ) (l : List ℕ) → f ≤ length l → i < f → List·Memᴰ (placeAt l i) (take f l)
@@ -78,27 +70,26 @@ module _ (G : Granule) (Z : Sane G) where
   pub record Sim (p : Pool) (A : Ledger) : Type 0 where
     pub good : GoodSetup G (p .numbers) (length (p .words)) (length (p .list))
     pub levels-are : p .numbers .levels ≡ A .levels
-    pub base-is : p .numbers .base ≡ A .base
-    pub tables-are : p .numbers .tables ≡ A .tables
+    pub area-is : areaOf (p .numbers) ≡ A .area
     pub L : List Mapping
     pub live-is : A .live ≡ map (shown G Z) L
     pub once : Distinct L
     pub T : ℕ → ℕ → ℕ
     pub S : ℕ → ℕ → Ent
-    pub inv : Inv (geo G Z (p .numbers .base) (p .numbers .tables) (p .numbers .levels) (good .numbers .aligned)) (readAt G (p .words)) (placeAt (p .list)) (p .numbers .free) T S L (p .numbers .levels) 0
+    pub inv : Inv (geo G Z (areaOf (p .numbers)) (p .numbers .levels) (good .numbers .placed)) (readAt G (p .words)) (placeAt (p .list)) (p .numbers .free) T S L (p .numbers .levels) 0
 
   module _ (p : Pool) (good : GoodSetup G (p .numbers) (length (p .words)) (length (p .list))) where
-    abbrev P : ℕ
-    P = p .numbers .base
+    abbrev area : Area
+    area = areaOf (p .numbers)
 
     abbrev n : ℕ
-    n = p .numbers .tables
+    n = total (areaOf (p .numbers))
 
     abbrev k : ℕ
     k = p .numbers .levels - 1
 
     abbrev pub X : Geo
-    X = geo G Z P n (p .numbers .levels) (good .numbers .aligned)
+    X = geo G Z area (p .numbers .levels) (good .numbers .placed)
 
     abbrev W : ℕ → ℕ → ℕ
     W = readAt G (p .words)
@@ -111,10 +102,10 @@ module _ (G : Granule) (Z : Sane G) where
 
     -- what the audit finds, in the theory's terms
     pub reached-is : reachedOf G p ≡ reached X W k
-    reached-is = ap (λ (v : ℕ). ofTable G (p .words) P n k 0 v .reached) (omega arith) ∙ table-reached G Z P n (p .numbers .levels) (good .numbers .aligned) (p .words) (good .numbers .words-are) k 0 0 (omega (arith, good .numbers .some-table))
+    reached-is = ap (λ (v : ℕ). ofTable G (p .words) area k 0 v .reached) (omega arith) ∙ table-reached G Z area (p .numbers .levels) (good .numbers .placed) (p .words) (good .numbers .words-are) k 0 0 (omega (arith, good .numbers .some-table))
 
     pub mappings-are : mappingsOf G p ≡ map (shown G Z) (maps (seen X W k))
-    mappings-are = ap (λ (v : ℕ). ofTable G (p .words) P n k 0 v .mappings) (omega arith) ∙ table-mappings G Z P n (p .numbers .levels) (good .numbers .aligned) (p .words) (good .numbers .words-are) k 0 0 (omega (arith, good .numbers .some-table))
+    mappings-are = ap (λ (v : ℕ). ofTable G (p .words) area k 0 v .mappings) (omega arith) ∙ table-mappings G Z area (p .numbers .levels) (good .numbers .placed) (p .words) (good .numbers .words-are) k 0 0 (omega (arith, good .numbers .some-table))
 
     -- a sound table is sound in both
     entry-to : (e : Entry) (A B : ℕ → Type 0) → ((c : ℕ) → A c → B c) → SoundEntry A e → SoundE (readEntry e) B
@@ -129,15 +120,15 @@ module _ (G : Granule) (Z : Sane G) where
     entry-from (Table c) A B f s = f c s
     entry-from Damaged A B f s = s
 
-    table-to : (h t : ℕ) → SoundTable G (p .words) P n h t → SoundT X W h t
+    table-to : (h t : ℕ) → SoundTable G (p .words) area h t → SoundT X W h t
     unfolding SoundTable
-    table-to zero t s = λ i l. entry-to (entryAt G P n zero (W t i)) (λ _. ⊥) (λ _. ⊥) (λ c z. z) (s i l)
-    table-to (suc h) t s = λ i l. entry-to (entryAt G P n (suc h) (W t i)) (SoundTable G (p .words) P n h) (SoundT X W h) (λ c z. table-to h c z) (s i l)
+    table-to zero t s = λ i l. entry-to (entryAt G area zero (W t i)) (λ _. ⊥) (λ _. ⊥) (λ c z. z) (s i l)
+    table-to (suc h) t s = λ i l. entry-to (entryAt G area (suc h) (W t i)) (SoundTable G (p .words) area h) (SoundT X W h) (λ c z. table-to h c z) (s i l)
 
-    table-from : (h t : ℕ) → SoundT X W h t → SoundTable G (p .words) P n h t
+    table-from : (h t : ℕ) → SoundT X W h t → SoundTable G (p .words) area h t
     unfolding SoundTable
-    table-from zero t s = λ i l. entry-from (entryAt G P n zero (W t i)) (λ _. ⊥) (λ _. ⊥) (λ c z. z) (s i l)
-    table-from (suc h) t s = λ i l. entry-from (entryAt G P n (suc h) (W t i)) (SoundT X W h) (SoundTable G (p .words) P n h) (λ c z. table-from h c z) (s i l)
+    table-from zero t s = λ i l. entry-from (entryAt G area zero (W t i)) (λ _. ⊥) (λ _. ⊥) (λ c z. z) (s i l)
+    table-from (suc h) t s = λ i l. entry-from (entryAt G area (suc h) (W t i)) (SoundT X W h) (SoundTable G (p .words) area h) (λ c z. table-from h c z) (s i l)
 
     pub sound-accepts : SoundPool G p → Accepts X W (placeAt (p .list)) (p .numbers .free) k
     sound-accepts s = record {
@@ -145,14 +136,14 @@ module _ (G : Granule) (Z : Sane G) where
       distinct = d;
       alive = λ c m z. s .used c (in-reached c (there m)) (λ e. d .0 (Memᴰ·cast (sym e) m)) z;
       range = λ i l. s .free-range (placeAt (p .list) i) (free-mem i l);
-      once = λ i j a b e. distinct-place (freeOf p) (to-distinct (freeOf p) (s .free-once)) i j (omega (arith, free-long)) (omega (arith, free-long)) (at i a ∙ e ∙ sym (at j b));
+      once = λ i j a b e. distinct-place (freeOf p) (s .free-once) i j (omega (arith, free-long)) (omega (arith, free-long)) (at i a ∙ e ∙ sym (at j b));
       apart = λ i l m. s .free-apart (placeAt (p .list) i) (free-mem i l) (in-reached (placeAt (p .list) i) m);
       zeros = λ i l. s .free-zero (placeAt (p .list) i) (free-mem i l);
       total = ap (λ (z : List ℕ). p .numbers .free + length z) (sym reached-is) ∙ s .total;
     }
       where
         d : Distinct (reached X W k)
-        d = to-distinct (reached X W k) (subst sound.Distinct reached-is (s .once))
+        d = subst Distinct reached-is (s .once)
 
         in-reached : (c : ℕ) → List·Memᴰ c (reached X W k) → List·Memᴰ c (reachedOf G p)
         in-reached c m = subst (λ (l : List ℕ). List·Memᴰ c l) (sym reached-is) m
@@ -169,9 +160,9 @@ module _ (G : Granule) (Z : Sane G) where
     pub accepts-sound : Accepts X W (placeAt (p .list)) (p .numbers .free) k → SoundPool G p
     accepts-sound a = record {
       tree = table-from k 0 (a .sound);
-      once = subst sound.Distinct (sym reached-is) (from-distinct (reached X W k) (a .distinct));
+      once = subst Distinct (sym reached-is) (a .distinct);
       used = λ t m ne z. ⊎-elim (λ e. ne e) (λ b. a .alive t b z) (List·Memᴰ·cases-cons (to-reached t m));
-      free-once = from-distinct (freeOf p) (place-distinct (freeOf p) (λ i j b c e. a .once i j (omega (arith, free-long)) (omega (arith, free-long)) (sym (at i (omega (arith, free-long))) ∙ e ∙ at j (omega (arith, free-long)))));
+      free-once = (place-distinct (freeOf p) (λ i j b c e. a .once i j (omega (arith, free-long)) (omega (arith, free-long)) (sym (at i (omega (arith, free-long))) ∙ e ∙ at j (omega (arith, free-long)))));
       free-range = λ t m. let (i, l, e) = of-free t m in subst (λ (x : ℕ). x < n) e (a .range i l);
       free-apart = λ t m b. let (i, l, e) = of-free t m in a .apart i l (Memᴰ·cast e (to-reached t b));
       free-zero = λ t m. let (i, l, e) = of-free t m in subst (λ (x : ℕ). (j : ℕ) → j < entries G → W x j ≡ 0) e (a .zeros i l);
@@ -218,8 +209,7 @@ module _ (G : Granule) (Z : Sane G) where
   holds-sim {p} {A} H = record {
     good = H .good;
     levels-are = H .levels-are;
-    base-is = H .base-is;
-    tables-are = H .tables-are;
+    area-is = H .area-is;
     L = D .0;
     live-is = D .1;
     once = unshown (D .0) (subst Distinct (D .1) (H .once));
@@ -253,8 +243,7 @@ module _ (G : Granule) (Z : Sane G) where
   sim-holds {p} {A} I = record {
     good = I .good;
     levels-are = I .levels-are;
-    base-is = I .base-is;
-    tables-are = I .tables-are;
+    area-is = I .area-is;
     sound = accepts-sound p (I .good) (accepts (I .inv) k₀ (root-height p (I .good)));
     live = λ m a. let (b, c, e) = Memᴰ·of-map (shown G Z) (I .L) (subst (λ (l : List answers.Mapping). List·Memᴰ m l) (I .live-is) a) in
         subst (λ (l : List answers.Mapping). List·Memᴰ m l) (sym (mappings-are p (I .good))) (Memᴰ·cast (sym e) (Memᴰ·map (shown G Z) (live-maps (I .inv) k₀ (root-height p (I .good)) b c)));

@@ -12,8 +12,9 @@ use Rattle.laws.specs.Lists.{down}
 use borrow.Author.Tests.{leb-true, leb-false, eqb-true}
 use Rattle.path.specs.Geometry.{Granule, four, entries, pageSize, sizeAt, spaceOf, physical, heightOf, Sane}
 use Rattle.path.specs.Laws.{four-sane, good-numbers}
-use Rattle.path.specs.Numbers.{goodNumbers, GoodNumbers}
-use Rattle.model.specs.Answers.{Answer, formatted, took, gave, found, audited, refused, Mapping, mapping, Pool, pool, setup, Done, done, refuse}
+use Rattle.path.specs.Areas.{Area, areaOf, total, GoodArea}
+use Rattle.path.specs.Numbers.{noSetup, setupOf, goodNumbers, GoodNumbers}
+use Rattle.model.specs.Answers.{Answer, formatted, took, gave, found, audited, refused, Mapping, mapping, Pool, pool, Done, done, refuse}
 use Rattle.model.specs.Calls.{walkTo, formatW, queryW, mapTests, mapAt, mapW, unmapTests, unmapAt, unmapW}
 use Rattle.model.specs.Audit.{auditW}
 use Rattle.model.specs.Sound.{mappingsOf}
@@ -25,7 +26,7 @@ use Rattle.demand.specs.Maps.{Alike, ledgerMap, own-sim, tests-fine, map
 use Rattle.demand.specs.Unmaps.{unmap-alike}
 use Rattle.demand.specs.Others.{fresh-sim, audit-own, accepted-holds}
 use Rattle.demand.specs.Rest.{rests-own}
-use Rattle.demand.specs.Demand3.{Call, formatC, mapC, unmapC, queryC, auditC, goOn, stepW, stepL, answersW, answersL, poolAfter, ledgerAfter, Rests, Demand3}
+use Rattle.demand.specs.Demand3.{Ask, query, audit, Call, formatC, mapC, unmapC, askC, askW, askL, goOn, stepW, stepL, answersW, answersL, poolAfter, ledgerAfter, Rests, Demand3}
 
 module _ (G : Granule) (Z : Sane G) where
   -- one call, by the pool's own ledger
@@ -65,32 +66,35 @@ module _ (G : Granule) (Z : Sane G) where
         go true e = unmap-alike G Z I a (in-space a (eqb-true no 0 e)) (walkTo G p 0 a .entry) refl
         go false e = record { answer = refl; sim = own-sim G Z I }
 
-    format-step : (levels base tables : ℕ) → Alike G Z (stepW G p (formatC levels base tables)) (formatL G (own G Z I) levels base tables)
+    format-step : (levels : ℕ) (area : Area) → Alike G Z (stepW G p (formatC levels area)) (formatL G (own G Z I) levels area)
     unfolding formatW formatL
-    format-step levels base tables = go (goodNumbers G levels base tables (length (p .words)) (length (p .list))) refl
+    format-step levels area = go (goodNumbers G levels area (length (p .words)) (length (p .list))) refl
       where
-        same : goodNumbers G levels base tables (length (p .words)) (length (p .list)) ≡ goodNumbers G levels base tables (entries G * p .numbers .tables) (p .numbers .tables)
-        same = (λ i. goodNumbers G levels base tables (I .good .numbers .words-are i) (I .good .numbers .places-are i))
+        same : goodNumbers G levels area (length (p .words)) (length (p .list)) ≡ goodNumbers G levels area (entries G * total (areaOf (p .numbers))) (total (areaOf (p .numbers)))
+        same = (λ i. goodNumbers G levels area (I .good .numbers .words-are i) (I .good .numbers .places-are i))
 
         left : Bool → Done
-        left y = cond y (done formatted (pool (setup levels base tables (tables - 1)) (replicate (length (p .words)) 0) (down tables))) (refuse 1 (pool (setup 0 0 0 0) (p .words) (p .list)))
+        left y = cond y (done formatted (pool (setupOf levels area (total area - 1)) (replicate (length (p .words)) 0) (down (total area)))) (refuse 1 (pool noSetup (p .words) (p .list)))
 
         right : Bool → Entered
-        right y = cond y (entered formatted (ledger levels base tables [])) (entered (refused 1) (own G Z I))
+        right y = cond y (entered formatted (ledger levels area [])) (entered (refused 1) (own G Z I))
 
-        on : (y : Bool) → goodNumbers G levels base tables (length (p .words)) (length (p .list)) ≡ y → Alike G Z (goOn p (left y) (left y .answer)) (right y)
-        on true e = record { answer = refl; sim = fresh-sim G Z levels base tables (p .words) (p .list) (good-numbers e) }
+        on : (y : Bool) → goodNumbers G levels area (length (p .words)) (length (p .list)) ≡ y → Alike G Z (goOn p (left y) (left y .answer)) (right y)
+        on true e = record { answer = refl; sim = fresh-sim G Z levels area (p .words) (p .list) (good-numbers e) }
         on false e = record { answer = refl; sim = own-sim G Z I }
 
-        go : (y : Bool) → goodNumbers G levels base tables (length (p .words)) (length (p .list)) ≡ y → Alike G Z (goOn p (left (goodNumbers G levels base tables (length (p .words)) (length (p .list)))) (left (goodNumbers G levels base tables (length (p .words)) (length (p .list))) .answer)) (right (goodNumbers G levels base tables (entries G * p .numbers .tables) (p .numbers .tables)))
-        go y e = rw (sym same) (on (goodNumbers G levels base tables (length (p .words)) (length (p .list))) refl)
+        go : (y : Bool) → goodNumbers G levels area (length (p .words)) (length (p .list)) ≡ y → Alike G Z (goOn p (left (goodNumbers G levels area (length (p .words)) (length (p .list)))) (left (goodNumbers G levels area (length (p .words)) (length (p .list))) .answer)) (right (goodNumbers G levels area (entries G * total (areaOf (p .numbers))) (total (areaOf (p .numbers)))))
+        go y e = rw (sym same) (on (goodNumbers G levels area (length (p .words)) (length (p .list))) refl)
+
+    ask-own : (q : Ask) → askW G p q ≡ askL G (own G Z I) q
+    ask-own (query a) = query-own G Z I a
+    ask-own audit = audit-own G Z I
 
     step-own : (c : Call) → Alike G Z (stepW G p c) (stepL G (own G Z I) c)
-    step-own (formatC l b n) = format-step l b n
+    step-own (formatC l r) = format-step l r
     step-own (mapC a b s k) = map-step a b s k
     step-own (unmapC a) = unmap-step a
-    step-own (queryC a) = record { answer = query-own G Z I a; sim = own-sim G Z I }
-    step-own auditC = record { answer = audit-own G Z I; sim = own-sim G Z I }
+    step-own (askC q) = record { answer = ask-own q; sim = own-sim G Z I }
 
     pub step-alike : (c : Call) → Alike G Z (stepW G p c) (stepL G A c)
     step-alike c = subst (λ (B : Ledger). Alike G Z (stepW G p c) (stepL G B c)) (sym (ledger-is G Z I)) (step-own c)
@@ -142,9 +146,19 @@ module _ (G : Granule) (Z : Sane G) where
   other : {a : Answer} → (a ≡ refused 8 → _≡_ {A = ℕ} 0 1) → a ≢ refused 8
   other f e = let z = f e in omega arith
 
+  ask-never-eight : (A : Ledger) (q : Ask) → askL G A q ≢ refused 8
+  unfolding queryL auditL
+  ask-never-eight A (query a) = go (leb (spaceOf G (A .levels)) a) (coverOf a (A .live))
+    where
+      go : (y : Bool) (m : Option Mapping) → cond y (refused 4) (queryOf m) ≢ refused 8
+      go true m = small 4 (omega arith)
+      go false none = other (λ e. cc)
+      go false (some m) = other (λ e. cc)
+  ask-never-eight A audit = other (λ e. cc)
+
   never-eight : (A : Ledger) (c : Call) → stepL G A c .answer ≢ refused 8
-  unfolding formatL mapL unmapL unmapOf queryL auditL
-  never-eight A (formatC l b n) = either (goodNumbers G l b n (entries G * A .tables) (A .tables)) (entered formatted (ledger l b n [])) (entered (refused 1) A) (other (λ e. cc)) (small 1 (omega arith))
+  unfolding formatL mapL unmapL unmapOf
+  never-eight A (formatC l r) = either (goodNumbers G l r (entries G * total (A .area)) (total (A .area))) (entered formatted (ledger l r [])) (entered (refused 1) A) (other (λ e. cc)) (small 1 (omega arith))
   never-eight A (mapC a b s k) =
       let no = mapTests G (A .levels) a b s k in
       let need = tablesLacking G (A .levels) (A .live) (mapping a b s k) in
@@ -158,13 +172,7 @@ module _ (G : Granule) (Z : Sane G) where
       on : (m : Option Mapping) → unmapOf G A a m .answer ≢ refused 8
       on none = other (λ e. cc)
       on (some m) = either (eqb (m .at) a) (entered (gave (m .frame) (m .size) (m .attributes) (freeTables G (withLive A (dropAt a (A .live))) - freeTables G A)) (withLive A (dropAt a (A .live)))) (entered (refused 10) A) (other (λ e. cc)) (other (λ e. cc))
-  never-eight A (queryC a) = go (leb (spaceOf G (A .levels)) a) (coverOf a (A .live))
-    where
-      go : (y : Bool) (m : Option Mapping) → cond y (refused 4) (queryOf m) ≢ refused 8
-      go true m = small 4 (omega arith)
-      go false none = other (λ e. cc)
-      go false (some m) = other (λ e. cc)
-  never-eight A auditC = other (λ e. cc)
+  never-eight A (askC q) = ask-never-eight A q
 
   never : (A : Ledger) (cs : List Call) (a : Answer) → List·Memᴰ a (answersL G A cs) → a ≢ refused 8
   never A [] a m = absurd (List·Memᴰ·not-nil m)
@@ -182,21 +190,21 @@ module _ (G : Granule) (Z : Sane G) where
       I = holds-sim G Z H
 
   -- from a fresh format of any memory
-  pub from-format : (levels base tables : ℕ) (ws list : List ℕ) → formatW G levels base tables ws list .answer ≡ formatted → (cs : List Call)
-      → Demand3 G (formatW G levels base tables ws list .after) (ledger levels base tables []) cs
+  pub from-format : (levels : ℕ) (area : Area) (ws list : List ℕ) → formatW G levels area ws list .answer ≡ formatted → (cs : List Call)
+      → Demand3 G (formatW G levels area ws list .after) (ledger levels area []) cs
   unfolding formatW
-  from-format levels base tables ws list e cs = go (goodNumbers G levels base tables (length ws) (length list)) refl e
+  from-format levels area ws list e cs = go (goodNumbers G levels area (length ws) (length list)) refl e
     where
       left : Bool → Done
-      left y = cond y (done formatted (pool (setup levels base tables (tables - 1)) (replicate (length ws) 0) (down tables))) (refuse 1 (pool (setup 0 0 0 0) ws list))
+      left y = cond y (done formatted (pool (setupOf levels area (total area - 1)) (replicate (length ws) 0) (down (total area)))) (refuse 1 (pool noSetup ws list))
 
-      go : (y : Bool) → goodNumbers G levels base tables (length ws) (length list) ≡ y → left y .answer ≡ formatted → Demand3 G (left y .after) (ledger levels base tables []) cs
-      go true q e = demand3 (sim-holds G Z (fresh-sim G Z levels base tables ws list (good-numbers q))) cs
+      go : (y : Bool) → goodNumbers G levels area (length ws) (length list) ≡ y → left y .answer ≡ formatted → Demand3 G (left y .after) (ledger levels area []) cs
+      go true q e = demand3 (sim-holds G Z (fresh-sim G Z levels area ws list (good-numbers q))) cs
       go false q e = let z : _≡_ {A = ℕ} 0 1 = cc in absurd (omega arith)
 
   -- from a pool that the audit accepts: the ledger is that pool's mappings
   pub from-audit : (p : Pool) (t m : ℕ) → auditW G p ≡ audited t m → (cs : List Call)
-      → Demand3 G p (ledger (p .numbers .levels) (p .numbers .base) (p .numbers .tables) (mappingsOf G p)) cs
+      → Demand3 G p (ledger (p .numbers .levels) (areaOf (p .numbers)) (mappingsOf G p)) cs
   from-audit p t m e cs = demand3 (accepted-holds G Z p t m e) cs
 
   -- one call, as the contracts say it

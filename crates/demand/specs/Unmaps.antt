@@ -11,14 +11,17 @@ use native.Mathlib.Decide.{decLt}
 use lib.Dec.{ltb, leb, eqb}
 use lib.ListN.{length, getD, set, length-set}
 use borrow.Author.Tests.{ltb-true, ltb-false, leb-true, leb-false, eqb-true, eqb-false, lt-ltb, le-ltb, eq-eqb, ne-eqb}
+use Rattle.path.specs.Numbers.{withFree}
+use Rattle.path.specs.Areas.{Area, areaOf, total, GoodArea}
 use Rattle.path.specs.Geometry.{Granule, pageSize, entries, sizeAt, spaceOf, Sane}
+use Rattle.path.specs.Numbers.{withFree}
 use Rattle.path.specs.Laws.{size-pos, entries-pos}
 use Rattle.path.specs.Paths.{pathOf}
 use Rattle.entry.specs.Laws.{framed-paged}
 use Rattle.entry.specs.declared.Entry.{Entry}
 use Rattle.entry.specs.declared.Entry.the-variants.{Empty, Table, Frame, Damaged}
 use Rattle.model.specs.Answers as answers
-use Rattle.model.specs.Answers.{Answer, gave, refused, Pool, pool, withFree, Done, done, refuse}
+use Rattle.model.specs.Answers.{Answer, gave, refused, Pool, pool, Done, done, refuse}
 use Rattle.model.specs.declared.Walked.{Walked}
 use Rattle.model.specs.Walk.{slot, atHeight}
 use Rattle.model.specs.Writes.{Memory, memory, performAll, freed, pruneWrites, unmapWrites}
@@ -39,7 +42,7 @@ use Rattle.demand.specs.Memories.{readAt, placeAt, rd-wr}
 use Rattle.demand.specs.Walks.{Ended, spot, wayAt, never-bad, entry-table}
 use Rattle.demand.specs.Carried.{A, Cleared, clear-first, prune-carried}
 use Rattle.demand.specs.Sims.{Sim}
-use Rattle.demand.specs.Queries.{P, n, k₀, al, X, R, own, few, root-at, walk-ended, tables-above, entry-empty, entry-frame}
+use Rattle.demand.specs.Queries.{area, n, k₀, al, X, R, own, few, root-at, walk-ended, tables-above, entry-empty, entry-frame}
 use Rattle.demand.specs.Maps.{Alike, own-sim, free-is, regood}
 
 -- without one mapping nothing stands twice that did not before
@@ -70,7 +73,7 @@ module _ (G : Granule) (Z : Sane G) {p : Pool} {B : Ledger} (I : Sim G Z p B) (a
   abbrev r : ℕ
   r = anc (entries G) h v
 
-  abbrev E : Ended G Z (P G Z I) (n G Z I) top (al G Z I) (few G Z I) (p .words) (R G Z I) a 0 (k₀ G Z I) o
+  abbrev E : Ended G Z (area G Z I) top (al G Z I) (few G Z I) (p .words) (R G Z I) a 0 (k₀ G Z I) o
   E = walk-ended G Z I 0 a (omega arith) in-space
 
   abbrev way : ℕ → ℕ
@@ -113,7 +116,7 @@ module _ (G : Granule) (Z : Sane G) {p : Pool} {B : Ledger} (I : Sim G Z p B) (a
     pub at-up : I .T (suc h) (r / entries G) ≡ way (suc h)
     at-up = sym (way-is (suc h) (omega arith) low)
 
-    unfoldable pub loose : Loose (X G Z I) (A G Z (P G Z I) (n G Z I) top (al G Z I)) v way (without h r (I .L)) (k₀ G Z I - h) (suc h)
+    unfoldable pub loose : Loose (X G Z I) (A G Z (area G Z I) top (al G Z I)) v way (without h r (I .L)) (k₀ G Z I - h) (suc h)
     loose = record {
       m = words₁;
       q = p .list;
@@ -123,19 +126,19 @@ module _ (G : Granule) (Z : Sane G) {p : Pool} {B : Ledger} (I : Sim G Z p B) (a
       ok = length-set (p .words) (slot G (way (suc h)) (r % entries G)) 0 ∙ I .good .numbers .words-are;
       okᶠ = I .good .numbers .places-are;
       inv = reword (rw at-up at (clear h r x (I .inv) z))
-          (rd-wr G Z (P G Z I) (n G Z I) top (al G Z I) (p .words) (way (suc h)) (r % entries G) 0 (I .good .numbers .words-are) (way-in (suc h) (omega arith) low) (mod-lt r (entries-pos G))) (λ i l. refl);
+          (rd-wr G Z (area G Z I) top (al G Z I) (p .words) (way (suc h)) (r % entries G) 0 (I .good .numbers .words-are) (way-in (suc h) (omega arith) low) (mod-lt r (entries-pos G))) (λ i l. refl);
       stands = upd-other (I .S) h r empty (suc h) (r / entries G) (λ q. omega (arith, q .0)) ∙ E .ends .parent;
       path = λ j l m. way-is j (omega arith) m ∙ sym (upd-other (I .T) h r 0 j (anc (entries G) j v) (λ q. omega (arith, q .0)));
       levels = omega (arith, E .ends .low, root-at G Z I);
     }
 
     -- what pruning comes to
-    abbrev pruned : prunes.Pool (A G Z (P G Z I) (n G Z I) top (al G Z I))
-    pruned = prune (X G Z I) (A G Z (P G Z I) (n G Z I) top (al G Z I)) v way (k₀ G Z I - h) (suc h) words₁ (p .list) f
+    abbrev pruned : prunes.Pool (A G Z (area G Z I) top (al G Z I))
+    pruned = prune (X G Z I) (A G Z (area G Z I) top (al G Z I)) v way (k₀ G Z I - h) (suc h) words₁ (p .list) f
 
-    C : Pruned (X G Z I) (A G Z (P G Z I) (n G Z I) top (al G Z I)) v way (without h r (I .L)) pruned
+    C : Pruned (X G Z I) (A G Z (area G Z I) top (al G Z I)) v way (without h r (I .L)) pruned
     unfolding loose
-    C = prune-ok (X G Z I) (A G Z (P G Z I) (n G Z I) top (al G Z I)) v way (k₀ G Z I - h) (suc h) loose
+    C = prune-ok (X G Z I) (A G Z (area G Z I) top (al G Z I)) v way (k₀ G Z I - h) (suc h) loose
 
     abbrev given : ℕ
     given = freed G (p .words) (o .tables) (pathOf G a) h (k₀ G Z I - h)
@@ -143,32 +146,31 @@ module _ (G : Granule) (Z : Sane G) {p : Pool} {B : Ledger} (I : Sim G Z p B) (a
     abbrev memory₁ : Memory
     memory₁ = performAll G (unmapWrites G (o .tables) (pathOf G a) h f given) (memory (p .words) (p .list))
 
-    pub carried : prunes.pool {A = A G Z (P G Z I) (n G Z I) top (al G Z I)} (memory₁ .words) (memory₁ .list) (f + given) ≡ pruned
+    pub carried : prunes.pool {A = A G Z (area G Z I) top (al G Z I)} (memory₁ .words) (memory₁ .list) (f + given) ≡ pruned
     unfolding performAll
     carried =
-        ap (λ (m : List ℕ). prunes.pool {A = A G Z (P G Z I) (n G Z I) top (al G Z I)} (performAll G (pruneWrites G (o .tables) (pathOf G a) h f given) (memory m (p .list)) .words) (performAll G (pruneWrites G (o .tables) (pathOf G a) h f given) (memory m (p .list)) .list) (f + given)) first
-        ∙ prune-carried G Z (P G Z I) (n G Z I) top (al G Z I) v (pathOf G a) (o .tables) sp (few G Z I) h way-in way-apart (p .words) (I .good .numbers .words-are) (k₀ G Z I - h) h words₁ (p .list) f (omega arith) (omega (arith, E .ends .low, root-at G Z I))
-        (clear-first G Z (P G Z I) (n G Z I) top (al G Z I) v (pathOf G a) (o .tables) sp (few G Z I) h way-in way-apart (p .words) (I .good .numbers .words-are) h (omega arith) low)
+        ap (λ (m : List ℕ). prunes.pool {A = A G Z (area G Z I) top (al G Z I)} (performAll G (pruneWrites G (o .tables) (pathOf G a) h f given) (memory m (p .list)) .words) (performAll G (pruneWrites G (o .tables) (pathOf G a) h f given) (memory m (p .list)) .list) (f + given)) first
+        ∙ prune-carried G Z (area G Z I) top (al G Z I) v (pathOf G a) (o .tables) sp (few G Z I) h way-in way-apart (p .words) (I .good .numbers .words-are) (k₀ G Z I - h) h words₁ (p .list) f (omega arith) (omega (arith, E .ends .low, root-at G Z I))
+        (clear-first G Z (area G Z I) top (al G Z I) v (pathOf G a) (o .tables) sp (few G Z I) h way-in way-apart (p .words) (I .good .numbers .words-are) h (omega arith) low)
       where
         sp : (j : ℕ) → j < 4 → atHeight (pathOf G a) j ≡ anc (entries G) j v % entries G
-        sp = spot G Z (P G Z I) (n G Z I) top (al G Z I) (few G Z I) (p .words) (R G Z I) a
+        sp = spot G Z (area G Z I) top (al G Z I) (few G Z I) (p .words) (R G Z I) a
 
         first : set (p .words) (slot G (atHeight (o .tables) h) (atHeight (pathOf G a) h)) 0 ≡ words₁
         first = ap (λ (t : ℕ). set (p .words) (slot G t (atHeight (pathOf G a) h)) 0) (ap (λ (j : ℕ). getD (o .tables) j 0) (omega (arith, few G Z I, low))) ∙ ap (λ (i : ℕ). set (p .words) (slot G (way (suc h)) i) 0) (sp h (omega (arith, few G Z I, low)))
 
     -- a pool of the theory, with this pool's numbers
-    abbrev back : prunes.Pool (A G Z (P G Z I) (n G Z I) top (al G Z I)) → Pool
+    abbrev back : prunes.Pool (A G Z (area G Z I) top (al G Z I)) → Pool
     back q = pool (withFree (p .numbers) (q .f)) (q .m) (q .q)
 
     abbrev ledger₁ : Ledger
     ledger₁ = withLive (own G Z I) (dropAt a (map (shown G Z) (I .L)))
 
     after : Sim G Z (written G p (unmapWrites G (o .tables) (pathOf G a) h f given) (f + given)) ledger₁
-    after = subst (λ (q : prunes.Pool (A G Z (P G Z I) (n G Z I) top (al G Z I))). Sim G Z (back q) ledger₁) (sym carried) (record {
+    after = subst (λ (q : prunes.Pool (A G Z (area G Z I) top (al G Z I))). Sim G Z (back q) ledger₁) (sym carried) (record {
       good = regood (I .good) (length (pruned .m)) (length (pruned .q)) (pruned .f) (C .ok) (C .okᶠ) (free-room (C .inv));
       levels-are = refl;
-      base-is = refl;
-      tables-are = refl;
+      area-is = refl;
       L = without h r (I .L);
       live-is = dropped;
       once = distinct-without h r (I .L) (I .once);
@@ -178,7 +180,7 @@ module _ (G : Granule) (Z : Sane G) {p : Pool} {B : Ledger} (I : Sim G Z p B) (a
     })
 
     room : f + given < n G Z I
-    room = subst (λ (q : prunes.Pool (A G Z (P G Z I) (n G Z I) top (al G Z I))). q .f < n G Z I) (sym carried) (free-room (C .inv))
+    room = subst (λ (q : prunes.Pool (A G Z (area G Z I) top (al G Z I))). q .f < n G Z I) (sym carried) (free-room (C .inv))
 
     -- as many tables come back as the ledger needs less
     given-is : freeTables G ledger₁ - freeTables G (own G Z I) ≡ given
@@ -203,8 +205,8 @@ module _ (G : Granule) (Z : Sane G) {p : Pool} {B : Ledger} (I : Sim G Z p B) (a
       frees b k z q true e =
           let starts = eqb-true (a % sizeAt G h) 0 e in
           let F = E .framed b k q in
-          let u = sym (payload-base G Z (P G Z I) (n G Z I) top (al G Z I) b k (framed-paged Z F) (F .few)) in
-          let w = sym (payload-attrs G Z (P G Z I) (n G Z I) top (al G Z I) b k (framed-paged Z F) (F .few)) in
+          let u = sym (payload-base G Z (area G Z I) top (al G Z I) b k (framed-paged Z F) (F .few)) in
+          let w = sym (payload-attrs G Z (area G Z I) top (al G Z I) b k (framed-paged Z F) (F .few)) in
           let c = sym (given-is b k z starts) in
           let fits : f + given b k z starts ≤ n G Z I - 1 = omega (arith, room b k z starts) in
           rw (covered b k z, eq-eqb _ _ (start-is b k z starts), le-ltb (n G Z I - 1) (f + given b k z starts) fits)

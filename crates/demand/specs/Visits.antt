@@ -16,6 +16,7 @@ use Rattle.entry.specs.Words.{entryAt, Framed}
 use Rattle.entry.specs.Laws.{frame-only, table-only, framed-paged}
 use Rattle.entry.specs.declared.Entry.{Entry}
 use Rattle.entry.specs.declared.Entry.the-variants.{Empty, Table, Frame, Damaged}
+use Rattle.path.specs.Areas.{Area, total, GoodArea}
 use Rattle.model.specs.Answers as answers
 use Rattle.model.specs.Walk.{slot}
 use Rattle.model.specs.Audit.{Found, nothing, _⊕_, tableWords, ofEntry, ofEntries, ofVisit, ofTable}
@@ -47,9 +48,9 @@ pub record Part {Y : Type 0} (π : Found → List Y) (q : List Item → List Y) 
   pub no-item : q [] ≡ []
   pub more-items : (a b : List Item) → q (a ++ b) ≡ q a ++ q b
 
-module _ (G : Granule) (Z : Sane G) (P n top : ℕ) (al : P % pageSize G ≡ 0) (ws : List ℕ) (long : length ws ≡ entries G * n) where
+module _ (G : Granule) (Z : Sane G) (area : Area) (top : ℕ) (al : GoodArea G area) (ws : List ℕ) (long : length ws ≡ entries G * total area) where
   abbrev X : Geo
-  X = geo G Z P n top al
+  X = geo G Z area top al
 
   abbrev K : ℕ
   K = entries G
@@ -59,20 +60,20 @@ module _ (G : Granule) (Z : Sane G) (P n top : ℕ) (al : P % pageSize G ≡ 0) 
 
   module _ {Y : Type 0} {π : Found → List Y} {q : List Item → List Y} (Q : Part π q) (h : ℕ) (below : ℕ → ℕ → Found) where
     -- entries one after the other
-    entries-append : (v : ℕ) (a b : List ℕ) → π (ofEntries G P n h v below (a ++ b)) ≡ π (ofEntries G P n h v below a) ++ π (ofEntries G P n h (v + length a * sizeAt G h) below b)
+    entries-append : (v : ℕ) (a b : List ℕ) → π (ofEntries G area h v below (a ++ b)) ≡ π (ofEntries G area h v below a) ++ π (ofEntries G area h (v + length a * sizeAt G h) below b)
     unfolding ofEntries
-    entries-append v [] b = ap (λ (u : ℕ). π (ofEntries G P n h u below b)) (omega arith) ∙ ap (λ (l : List Y). l ++ π (ofEntries G P n h (v + 0 * sizeAt G h) below b)) (sym (Q .none-found true))
+    entries-append v [] b = ap (λ (u : ℕ). π (ofEntries G area h u below b)) (omega arith) ∙ ap (λ (l : List Y). l ++ π (ofEntries G area h (v + 0 * sizeAt G h) below b)) (sym (Q .none-found true))
     entries-append v (w ∷ a) b =
-        Q .joined (ofEntry G h v below (entryAt G P n h w)) (ofEntries G P n h (v + sizeAt G h) below (a ++ b))
+        Q .joined (ofEntry G h v below (entryAt G area h w)) (ofEntries G area h (v + sizeAt G h) below (a ++ b))
         ∙ ap (λ (l : List Y). first ++ l) (entries-append (v + sizeAt G h) a b)
-        ∙ sym (append-assoc first (π (ofEntries G P n h (v + sizeAt G h) below a)) (π (ofEntries G P n h (v + sizeAt G h + length a * sizeAt G h) below b)))
-        ∙ ap (λ (l : List Y). l ++ π (ofEntries G P n h (v + sizeAt G h + length a * sizeAt G h) below b)) (sym (Q .joined (ofEntry G h v below (entryAt G P n h w)) (ofEntries G P n h (v + sizeAt G h) below a)))
-        ∙ ap (λ (u : ℕ). π (ofEntries G P n h v below (w ∷ a)) ++ π (ofEntries G P n h u below b)) (omega (arith, suc-mul (length a) (sizeAt G h)))
+        ∙ sym (append-assoc first (π (ofEntries G area h (v + sizeAt G h) below a)) (π (ofEntries G area h (v + sizeAt G h + length a * sizeAt G h) below b)))
+        ∙ ap (λ (l : List Y). l ++ π (ofEntries G area h (v + sizeAt G h + length a * sizeAt G h) below b)) (sym (Q .joined (ofEntry G h v below (entryAt G area h w)) (ofEntries G area h (v + sizeAt G h) below a)))
+        ∙ ap (λ (u : ℕ). π (ofEntries G area h v below (w ∷ a)) ++ π (ofEntries G area h u below b)) (omega (arith, suc-mul (length a) (sizeAt G h)))
       where
         first : List Y
-        first = π (ofEntry G h v below (entryAt G P n h w))
+        first = π (ofEntry G h v below (entryAt G area h w))
 
-    module _ (t r : ℕ) (l : t < n) (f : ℕ → List Item) (same : (i : ℕ) → i < K → π (ofEntry G h ((r * K + i) * sizeAt G h) below (entryAt G P n h (W t i))) ≡ q (f i)) where
+    module _ (t r : ℕ) (l : t < total area) (f : ℕ → List Item) (same : (i : ℕ) → i < K → π (ofEntry G h ((r * K + i) * sizeAt G h) below (entryAt G area h (W t i))) ≡ q (f i)) where
       abbrev xs : List ℕ
       xs = tableWords G ws t
 
@@ -82,13 +83,13 @@ module _ (G : Granule) (Z : Sane G) (P n top : ℕ) (al : P % pageSize G ≡ 0) 
       at : (i : ℕ) → i < K → getD xs i 0 ≡ W t i
       at i b = getD-part ws (slot G t 0) K i b ∙ ap (λ (j : ℕ). getD ws j 0) (omega arith)
 
-      prefix : (i : ℕ) → i ≤ K → π (ofEntries G P n h (r * K * sizeAt G h) below (take i xs)) ≡ q (gather f i)
+      prefix : (i : ℕ) → i ≤ K → π (ofEntries G area h (r * K * sizeAt G h) below (take i xs)) ≡ q (gather f i)
       unfolding ofEntries
       prefix zero b = Q .none-found true ∙ sym (Q .no-item)
       prefix (suc i) b =
-          ap (λ (z : List ℕ). π (ofEntries G P n h (r * K * sizeAt G h) below z)) (take-suc xs i 0 (omega (arith, size)))
+          ap (λ (z : List ℕ). π (ofEntries G area h (r * K * sizeAt G h) below z)) (take-suc xs i 0 (omega (arith, size)))
           ∙ entries-append (r * K * sizeAt G h) (take i xs) (getD xs i 0 ∷ [])
-          ∙ ap (λ (z : List Y). z ++ π (ofEntry G h u below (entryAt G P n h (getD xs i 0)) ⊕ nothing true)) (prefix i (omega arith))
+          ∙ ap (λ (z : List Y). z ++ π (ofEntry G h u below (entryAt G area h (getD xs i 0)) ⊕ nothing true)) (prefix i (omega arith))
           ∙ ap (λ (z : List Y). q (gather f i) ++ z) last
           ∙ sym (Q .more-items (gather f i) (f i))
         where
@@ -98,16 +99,16 @@ module _ (G : Granule) (Z : Sane G) (P n top : ℕ) (al : P % pageSize G ≡ 0) 
           u-is : u ≡ (r * K + i) * sizeAt G h
           u-is = ap (λ (j : ℕ). r * K * sizeAt G h + j * sizeAt G h) (length-take-le i xs (omega (arith, size))) ∙ sym (add-mul (r * K) i (sizeAt G h))
 
-          last : π (ofEntry G h u below (entryAt G P n h (getD xs i 0)) ⊕ nothing true) ≡ q (f i)
-          last = Q .joined (ofEntry G h u below (entryAt G P n h (getD xs i 0))) (nothing true)
-              ∙ ap (λ (z : List Y). π (ofEntry G h u below (entryAt G P n h (getD xs i 0))) ++ z) (Q .none-found true)
-              ∙ append-nil (π (ofEntry G h u below (entryAt G P n h (getD xs i 0))))
-              ∙ ap (λ (w : ℕ). π (ofEntry G h u below (entryAt G P n h w))) (at i b)
-              ∙ ap (λ (w : ℕ). π (ofEntry G h w below (entryAt G P n h (W t i)))) u-is
+          last : π (ofEntry G h u below (entryAt G area h (getD xs i 0)) ⊕ nothing true) ≡ q (f i)
+          last = Q .joined (ofEntry G h u below (entryAt G area h (getD xs i 0))) (nothing true)
+              ∙ ap (λ (z : List Y). π (ofEntry G h u below (entryAt G area h (getD xs i 0))) ++ z) (Q .none-found true)
+              ∙ append-nil (π (ofEntry G h u below (entryAt G area h (getD xs i 0))))
+              ∙ ap (λ (w : ℕ). π (ofEntry G h u below (entryAt G area h w))) (at i b)
+              ∙ ap (λ (w : ℕ). π (ofEntry G h w below (entryAt G area h (W t i)))) u-is
               ∙ same i b
 
-      pub table-entries : π (ofEntries G P n h (r * K * sizeAt G h) below xs) ≡ q (gather f K)
-      table-entries = ap (λ (z : List ℕ). π (ofEntries G P n h (r * K * sizeAt G h) below z)) (sym (take-all K xs (omega (arith, size)))) ∙ prefix K (omega arith)
+      pub table-entries : π (ofEntries G area h (r * K * sizeAt G h) below xs) ≡ q (gather f K)
+      table-entries = ap (λ (z : List ℕ). π (ofEntries G area h (r * K * sizeAt G h) below z)) (sym (take-all K xs (omega (arith, size)))) ∙ prefix K (omega arith)
 
   -- the tables reached
   pub reached-part : Part (λ (o : Found). o .reached) tabs
@@ -118,21 +119,21 @@ module _ (G : Granule) (Z : Sane G) (P n top : ℕ) (al : P % pageSize G ≡ 0) 
   mappings-part = record { none-found = λ b. refl; joined = λ a b. refl; no-item = refl; more-items = λ a b. ap (map (shown G Z)) (pick-append itemMap a b) ∙ map-append (shown G Z) (maps a) (maps b) }
 
   -- one entry
-  entry-reached : (h r v w : ℕ) (below : ℕ → ℕ → Found) (under : ℕ → List Item) → ((c : ℕ) → entryAt G P n h w ≡ Table c → below c v .reached ≡ c ∷ tabs (under c))
-      → (e : Entry) → entryAt G P n h w ≡ e → ofEntry G h v below e .reached ≡ tabs (entry h r (readEntry e) under)
+  entry-reached : (h r v w : ℕ) (below : ℕ → ℕ → Found) (under : ℕ → List Item) → ((c : ℕ) → entryAt G area h w ≡ Table c → below c v .reached ≡ c ∷ tabs (under c))
+      → (e : Entry) → entryAt G area h w ≡ e → ofEntry G h v below e .reached ≡ tabs (entry h r (readEntry e) under)
   entry-reached h r v w below under f Empty q = refl
   entry-reached h r v w below under f (Frame b k) q = refl
   entry-reached h r v w below under f Damaged q = refl
   entry-reached h r v w below under f (Table c) q = f c q
 
   entry-mappings : (h r w : ℕ) (below : ℕ → ℕ → Found) (under : ℕ → List Item)
-      → ((c : ℕ) → entryAt G P n h w ≡ Table c → below c (r * sizeAt G h) .mappings ≡ map (shown G Z) (maps (under c)))
-      → (e : Entry) → entryAt G P n h w ≡ e → ofEntry G h (r * sizeAt G h) below e .mappings ≡ map (shown G Z) (maps (entry h r (readEntry e) under))
+      → ((c : ℕ) → entryAt G area h w ≡ Table c → below c (r * sizeAt G h) .mappings ≡ map (shown G Z) (maps (under c)))
+      → (e : Entry) → entryAt G area h w ≡ e → ofEntry G h (r * sizeAt G h) below e .mappings ≡ map (shown G Z) (maps (entry h r (readEntry e) under))
   entry-mappings h r w below under f Empty q = refl
   entry-mappings h r w below under f (Frame b k) q =
-      let (F, _) = frame-only Z P n h w q in
-      ap (λ (x : ℕ). answers.mapping (r * sizeAt G h) x (sizeAt G h) k ∷ []) (sym (payload-base G Z P n top al b k (framed-paged Z F) (F .few)))
-      ∙ ap (λ (x : ℕ). answers.mapping (r * sizeAt G h) (baseOf (b + k)) (sizeAt G h) x ∷ []) (sym (payload-attrs G Z P n top al b k (framed-paged Z F) (F .few)))
+      let (F, _) = frame-only Z area h w q in
+      ap (λ (x : ℕ). answers.mapping (r * sizeAt G h) x (sizeAt G h) k ∷ []) (sym (payload-base G Z area top al b k (framed-paged Z F) (F .few)))
+      ∙ ap (λ (x : ℕ). answers.mapping (r * sizeAt G h) (baseOf (b + k)) (sizeAt G h) x ∷ []) (sym (payload-attrs G Z area top al b k (framed-paged Z F) (F .few)))
   entry-mappings h r w below under f Damaged q = refl
   entry-mappings h r w below under f (Table c) q = f c q
 
@@ -140,26 +141,26 @@ module _ (G : Granule) (Z : Sane G) (P n top : ℕ) (al : P % pageSize G ≡ 0) 
   start : (h r : ℕ) → r * sizeAt G (suc h) ≡ r * K * sizeAt G h
   start h r = ap (λ (x : ℕ). r * x) (size-suc G h) ∙ sym (mul-assoc r K (sizeAt G h))
 
-  low : (h w c : ℕ) → entryAt G P n h w ≡ Table c → c < n
-  low h w c q = table-only Z P n h w q .2
+  low : (h w c : ℕ) → entryAt G area h w ≡ Table c → c < total area
+  low h w c q = table-only Z area h w q .2
 
   -- a table: what it and the tables below it hold
-  pub table-reached : (h t r : ℕ) → t < n → ofTable G ws P n h t (r * sizeAt G (suc h)) .reached ≡ t ∷ tabs (visit X W h t r)
+  pub table-reached : (h t r : ℕ) → t < total area → ofTable G ws area h t (r * sizeAt G (suc h)) .reached ≡ t ∷ tabs (visit X W h t r)
   unfolding ofTable visit
-  table-reached zero t r l = ap (λ (z : List ℕ). t ∷ z) (ap (λ (v : ℕ). ofEntries G P n zero v (λ _ _. nothing false) (tableWords G ws t) .reached) (start zero r)
-      ∙ table-entries reached-part zero (λ _ _. nothing false) t r l (λ i. entry zero (r * K + i) (readEntry (entryAt G P n zero (W t i))) (λ _. []))
-      (λ i b. entry-reached zero (r * K + i) ((r * K + i) * sizeAt G zero) (W t i) (λ _ _. nothing false) (λ _. []) (λ c q. absurd (omega (arith, table-only Z P n zero (W t i) q .0))) (entryAt G P n zero (W t i)) refl))
-  table-reached (suc h) t r l = ap (λ (z : List ℕ). t ∷ z) (ap (λ (v : ℕ). ofEntries G P n (suc h) v (λ c u. ofTable G ws P n h c u) (tableWords G ws t) .reached) (start (suc h) r)
-      ∙ table-entries reached-part (suc h) (λ c u. ofTable G ws P n h c u) t r l (λ i. entry (suc h) (r * K + i) (readEntry (entryAt G P n (suc h) (W t i))) (λ c. visit X W h c (r * K + i)))
-      (λ i b. entry-reached (suc h) (r * K + i) ((r * K + i) * sizeAt G (suc h)) (W t i) (λ c u. ofTable G ws P n h c u) (λ c. visit X W h c (r * K + i))
-      (λ c q. table-reached h c (r * K + i) (low (suc h) (W t i) c q)) (entryAt G P n (suc h) (W t i)) refl))
+  table-reached zero t r l = ap (λ (z : List ℕ). t ∷ z) (ap (λ (v : ℕ). ofEntries G area zero v (λ _ _. nothing false) (tableWords G ws t) .reached) (start zero r)
+      ∙ table-entries reached-part zero (λ _ _. nothing false) t r l (λ i. entry zero (r * K + i) (readEntry (entryAt G area zero (W t i))) (λ _. []))
+      (λ i b. entry-reached zero (r * K + i) ((r * K + i) * sizeAt G zero) (W t i) (λ _ _. nothing false) (λ _. []) (λ c q. absurd (omega (arith, table-only Z area zero (W t i) q .0))) (entryAt G area zero (W t i)) refl))
+  table-reached (suc h) t r l = ap (λ (z : List ℕ). t ∷ z) (ap (λ (v : ℕ). ofEntries G area (suc h) v (λ c u. ofTable G ws area h c u) (tableWords G ws t) .reached) (start (suc h) r)
+      ∙ table-entries reached-part (suc h) (λ c u. ofTable G ws area h c u) t r l (λ i. entry (suc h) (r * K + i) (readEntry (entryAt G area (suc h) (W t i))) (λ c. visit X W h c (r * K + i)))
+      (λ i b. entry-reached (suc h) (r * K + i) ((r * K + i) * sizeAt G (suc h)) (W t i) (λ c u. ofTable G ws area h c u) (λ c. visit X W h c (r * K + i))
+      (λ c q. table-reached h c (r * K + i) (low (suc h) (W t i) c q)) (entryAt G area (suc h) (W t i)) refl))
 
-  pub table-mappings : (h t r : ℕ) → t < n → ofTable G ws P n h t (r * sizeAt G (suc h)) .mappings ≡ map (shown G Z) (maps (visit X W h t r))
+  pub table-mappings : (h t r : ℕ) → t < total area → ofTable G ws area h t (r * sizeAt G (suc h)) .mappings ≡ map (shown G Z) (maps (visit X W h t r))
   unfolding ofTable visit
-  table-mappings zero t r l = ap (λ (v : ℕ). ofEntries G P n zero v (λ _ _. nothing false) (tableWords G ws t) .mappings) (start zero r)
-      ∙ table-entries mappings-part zero (λ _ _. nothing false) t r l (λ i. entry zero (r * K + i) (readEntry (entryAt G P n zero (W t i))) (λ _. []))
-      (λ i b. entry-mappings zero (r * K + i) (W t i) (λ _ _. nothing false) (λ _. []) (λ c q. absurd (omega (arith, table-only Z P n zero (W t i) q .0))) (entryAt G P n zero (W t i)) refl)
-  table-mappings (suc h) t r l = ap (λ (v : ℕ). ofEntries G P n (suc h) v (λ c u. ofTable G ws P n h c u) (tableWords G ws t) .mappings) (start (suc h) r)
-      ∙ table-entries mappings-part (suc h) (λ c u. ofTable G ws P n h c u) t r l (λ i. entry (suc h) (r * K + i) (readEntry (entryAt G P n (suc h) (W t i))) (λ c. visit X W h c (r * K + i)))
-      (λ i b. entry-mappings (suc h) (r * K + i) (W t i) (λ c u. ofTable G ws P n h c u) (λ c. visit X W h c (r * K + i))
-      (λ c q. table-mappings h c (r * K + i) (low (suc h) (W t i) c q)) (entryAt G P n (suc h) (W t i)) refl)
+  table-mappings zero t r l = ap (λ (v : ℕ). ofEntries G area zero v (λ _ _. nothing false) (tableWords G ws t) .mappings) (start zero r)
+      ∙ table-entries mappings-part zero (λ _ _. nothing false) t r l (λ i. entry zero (r * K + i) (readEntry (entryAt G area zero (W t i))) (λ _. []))
+      (λ i b. entry-mappings zero (r * K + i) (W t i) (λ _ _. nothing false) (λ _. []) (λ c q. absurd (omega (arith, table-only Z area zero (W t i) q .0))) (entryAt G area zero (W t i)) refl)
+  table-mappings (suc h) t r l = ap (λ (v : ℕ). ofEntries G area (suc h) v (λ c u. ofTable G ws area h c u) (tableWords G ws t) .mappings) (start (suc h) r)
+      ∙ table-entries mappings-part (suc h) (λ c u. ofTable G ws area h c u) t r l (λ i. entry (suc h) (r * K + i) (readEntry (entryAt G area (suc h) (W t i))) (λ c. visit X W h c (r * K + i)))
+      (λ i b. entry-mappings (suc h) (r * K + i) (W t i) (λ c u. ofTable G ws area h c u) (λ c. visit X W h c (r * K + i))
+      (λ c q. table-mappings h c (r * K + i) (low (suc h) (W t i) c q)) (entryAt G area (suc h) (W t i)) refl)

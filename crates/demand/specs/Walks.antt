@@ -19,6 +19,7 @@ use Rattle.entry.specs.Words.{entryAt, Framed}
 use Rattle.entry.specs.Laws.{frame-only}
 use Rattle.entry.specs.declared.Entry.{Entry}
 use Rattle.entry.specs.declared.Entry.the-variants.{Empty, Table, Frame, Damaged}
+use Rattle.path.specs.Areas.{Area, total, GoodArea}
 use Rattle.model.specs.declared.Walked.{Walked}
 use Rattle.model.specs.Walk.{slot, atHeight, noWay, onward, walkFrom}
 use Rattle.tree.specs.Region.{anc}
@@ -54,9 +55,9 @@ never-bad empty t q = let y : _≡_ {A = ℕ} 0 1 = cc in omega arith
 never-bad (frame x) t q = let y : _≡_ {A = ℕ} 0 1 = cc in omega arith
 never-bad table t q = let y : _≡_ {A = ℕ} 0 1 = cc in omega arith
 
-module _ (G : Granule) (Z : Sane G) (P n top : ℕ) (al : P % pageSize G ≡ 0) (few : top ≤ 4) (ws : List ℕ) {T : ℕ → ℕ → ℕ} {S : ℕ → ℕ → Ent} (R : Rendered (geo G Z P n top al) (readAt G ws) T S) (a : ℕ) where
+module _ (G : Granule) (Z : Sane G) (area : Area) (top : ℕ) (al : GoodArea G area) (few : top ≤ 4) (ws : List ℕ) {T : ℕ → ℕ → ℕ} {S : ℕ → ℕ → Ent} (R : Rendered (geo G Z area top al) (readAt G ws) T S) (a : ℕ) where
   abbrev X : Geo
-  X = geo G Z P n top al
+  X = geo G Z area top al
 
   abbrev v : ℕ
   v = pg G Z a
@@ -99,11 +100,11 @@ module _ (G : Granule) (Z : Sane G) (P n top : ℕ) (al : P % pageSize G ≡ 0) 
   abbrev word : ℕ → ℕ → ℕ
   word h t = getD ws (slot G t (atHeight (pathOf G a) h)) 0
 
-  reads : (h t : ℕ) → h < top → t ≡ T (suc h) (at (suc h)) → S (suc h) (at (suc h)) ≡ table → readEntry (entryAt G P n h (word h t)) ≡ readOf (S h (at h)) (T h (at h))
+  reads : (h t : ℕ) → h < top → t ≡ T (suc h) (at (suc h)) → S (suc h) (at (suc h)) ≡ table → readEntry (entryAt G area h (word h t)) ≡ readOf (S h (at h)) (T h (at h))
   unfolding indexAt
   reads h t l e s =
-      ap (λ (i : ℕ). readEntry (entryAt G P n h (readAt G ws t i))) (path-of-at G a {h = h} (omega arith) ∙ ap (λ (x : ℕ). x % entries G) (sym (anc-size G Z a h)))
-      ∙ ap (λ (x : ℕ). readEntry (entryAt G P n h (readAt G ws x (at h % entries G)))) e ∙ read-is R h (at h) s
+      ap (λ (i : ℕ). readEntry (entryAt G area h (readAt G ws t i))) (path-of-at G a {h = h} (omega arith) ∙ ap (λ (x : ℕ). x % entries G) (sym (anc-size G Z a h)))
+      ∙ ap (λ (x : ℕ). readEntry (entryAt G area h (readAt G ws x (at h % entries G)))) e ∙ read-is R h (at h) s
 
   -- a table that the walk goes on to was not come to before
   not-met : (h : ℕ) (way : List ℕ) (c : ℕ) → h < top → Way h way → S h (at h) ≡ table → c ≡ T h (at h) → among c way ≡ false
@@ -120,14 +121,14 @@ module _ (G : Granule) (Z : Sane G) (P n top : ℕ) (al : P % pageSize G ≡ 0) 
     pub framed : (b k : ℕ) → o .entry ≡ Frame b k → Framed G (o .left) b k
 
   -- the walk stops at the entry of height h
-  here : (g h x : ℕ) (way : List ℕ) (e : Entry) → entryAt G P n h x ≡ e → S (suc h) (at (suc h)) ≡ table → (S h (at h) ≢ table) ⊎ (h ≡ g) → readEntry e ≡ readOf (S h (at h)) (T h (at h)) → Way h way → Ended g h (Rattle.model.specs.Walk.stop e h way)
-  here g h x way e y s d q w = record { ends = halt s d q (w .along); way = w; framed = λ b k z. frame-only Z P n h x (y ∙ z) .0 }
+  here : (g h x : ℕ) (way : List ℕ) (e : Entry) → entryAt G area h x ≡ e → S (suc h) (at (suc h)) ≡ table → (S h (at h) ≢ table) ⊎ (h ≡ g) → readEntry e ≡ readOf (S h (at h)) (T h (at h)) → Way h way → Ended g h (Rattle.model.specs.Walk.stop e h way)
+  here g h x way e y s d q w = record { ends = halt s d q (w .along); way = w; framed = λ b k z. frame-only Z area h x (y ∙ z) .0 }
 
   pub walk-ends : (g h : ℕ) (way : List ℕ) (t : ℕ) → g ≤ h → h < top → t ≡ T (suc h) (at (suc h)) → S (suc h) (at (suc h)) ≡ table → Way (suc h) way
-      → Ended g h (walkFrom G ws P n g (pathOf G a) h way t)
+      → Ended g h (walkFrom G ws area g (pathOf G a) h way t)
   unfolding walkFrom onward
-  walk-ends g zero way t le l e s w = here g zero (word zero t) (set way (3 - zero) t) (entryAt G P n zero (word zero t)) refl s (inl (R .leaf v)) (reads zero t l e s) (on-way zero way t l e w)
-  walk-ends g (suc h) way t le l e s w = go (entryAt G P n (suc h) (word (suc h) t)) refl (reads (suc h) t l e s) (λ c x y z. walk-ends g h way′ c x (omega arith) y z w′)
+  walk-ends g zero way t le l e s w = here g zero (word zero t) (set way (3 - zero) t) (entryAt G area zero (word zero t)) refl s (inl (R .leaf v)) (reads zero t l e s) (on-way zero way t l e w)
+  walk-ends g (suc h) way t le l e s w = go (entryAt G area (suc h) (word (suc h) t)) refl (reads (suc h) t l e s) (λ c x y z. walk-ends g h way′ c x (omega arith) y z w′)
     where
       way′ : List ℕ
       way′ = set way (3 - suc h) t
@@ -136,7 +137,7 @@ module _ (G : Granule) (Z : Sane G) (P n top : ℕ) (al : P % pageSize G ≡ 0) 
       w′ = on-way (suc h) way t l e w
 
       on : ℕ → Walked
-      on c = walkFrom G ws P n g (pathOf G a) h way′ c
+      on c = walkFrom G ws area g (pathOf G a) h way′ c
 
       s₁ : Ent
       s₁ = S (suc h) (at (suc h))
@@ -144,7 +145,7 @@ module _ (G : Granule) (Z : Sane G) (P n top : ℕ) (al : P % pageSize G ≡ 0) 
       t₁ : ℕ
       t₁ = T (suc h) (at (suc h))
 
-      go : (o : Entry) → entryAt G P n (suc h) (word (suc h) t) ≡ o → readEntry o ≡ readOf s₁ t₁ → ((c : ℕ) → g ≤ h → c ≡ t₁ → s₁ ≡ table → Ended g h (on c)) → Ended g (suc h) (onward o g h way′ on)
+      go : (o : Entry) → entryAt G area (suc h) (word (suc h) t) ≡ o → readEntry o ≡ readOf s₁ t₁ → ((c : ℕ) → g ≤ h → c ≡ t₁ → s₁ ≡ table → Ended g h (on c)) → Ended g (suc h) (onward o g h way′ on)
       go Empty y q ih = here g (suc h) (word (suc h) t) way′ Empty y s (inl (entry-not-table Empty s₁ t₁ q (λ c z. let y : _≡_ {A = ℕ} 0 1 = cc in omega arith))) q w′
       go (Frame b k) y q ih = here g (suc h) (word (suc h) t) way′ (Frame b k) y s (inl (entry-not-table (Frame b k) s₁ t₁ q (λ c z. let y : _≡_ {A = ℕ} 0 1 = cc in omega arith))) q w′
       go Damaged y q ih = absurd (never-bad s₁ t₁ q)

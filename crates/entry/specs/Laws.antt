@@ -11,6 +11,7 @@ use borrow.Author.Tests.{lt-ltb, le-leb, eq-eqb, ne-eqb, ltb-true, leb-true, eqb
 use Rattle.path.specs.Geometry.{Granule, Sane, pageSize, sizeAt, physical}
 use Rattle.path.specs.Laws.{page-pos, size-pos}
 use Rattle.path.specs.RegionLaws.{multiple-gap}
+use Rattle.path.specs.Areas.{Area, total, tableAt, GoodArea}
 use Rattle.entry.specs.Words.{frameWord, tableWord, Framed, Says, childAt, baseIn, attrsIn, frameAt, entryAt}
 use Rattle.entry.specs.Words.Says.{says-empty, says-table, says-frame, says-damaged}
 use Rattle.entry.specs.Parts.{low-of}
@@ -140,90 +141,90 @@ module _ {G : Granule} (S : Sane G) where
 
 -- ---- tables
 
-pub table-word-one : (G : Granule) (P c d : ℕ) → tableWord G P c ≡ tableWord G P d → c ≡ d
+pub table-word-one : (G : Granule) (area : Area) (c d : ℕ) → tableWord G area c ≡ tableWord G area d → c ≡ d
 unfolding tableWord
-table-word-one G P c d e = eq-of-mul-eq-mul-left (pageSize G) (page-pos G) c d (omega arith)
+table-word-one G area c d e = eq-of-mul-eq-mul-left (pageSize G) (page-pos G) c d (omega arith)
 
 -- the child that a table's word names
-pub child-back : (G : Granule) (P n c : ℕ) → c < n → childAt G P n (tableWord G P c) ≡ c
+pub child-back : (G : Granule) (area : Area) (c : ℕ) → c < total area → childAt G area (tableWord G area c) ≡ c
 unfolding childAt tableWord
-child-back G P n c l =
+child-back G area c l =
     let m = pageSize G * c in
-    let off : P + m + 3 - 3 - P ≡ m = omega arith in
-    rw (off, mul-div-right c (page-pos G), lt-ltb c n l, eq-eqb (P + m + 3) (P + m + 3) refl)
+    let off : area .base + m + 3 - 3 - area .base ≡ m = omega arith in
+    rw (off, mul-div-right c (page-pos G), lt-ltb c (total area) l, eq-eqb (area .base + m + 3) (area .base + m + 3) refl)
 
 -- and no other word names it
-pub child-only : (G : Granule) (P n w : ℕ) {c : ℕ} → childAt G P n w ≡ c → 1 ≤ c → (c < n) × (w ≡ tableWord G P c)
+pub child-only : (G : Granule) (area : Area) (w : ℕ) {c : ℕ} → childAt G area w ≡ c → 1 ≤ c → (c < total area) × (w ≡ tableWord G area c)
 unfolding childAt
-child-only G P n w {c} e some = go (ltb k n && eqb w (tableWord G P k)) refl e
+child-only G area w {c} e some = go (ltb k (total area) && eqb w (tableWord G area k)) refl e
   where
     k : ℕ
-    k = (w - 3 - P) / pageSize G
+    k = (w - 3 - area .base) / pageSize G
 
-    go : (t : Bool) → (ltb k n && eqb w (tableWord G P k)) ≡ t → cond t k 0 ≡ c → (c < n) × (w ≡ tableWord G P c)
+    go : (t : Bool) → (ltb k (total area) && eqb w (tableWord G area k)) ≡ t → cond t k 0 ≡ c → (c < total area) × (w ≡ tableWord G area c)
     go true p e =
-        let (lt, same) = and-true (ltb k n) (eqb w (tableWord G P k)) p in
-        (rw (← e) (ltb-true k n lt), rw (← e) (eqb-true w (tableWord G P k) same))
+        let (lt, same) = and-true (ltb k (total area)) (eqb w (tableWord G area k)) p in
+        (rw (← e) (ltb-true k (total area) lt), rw (← e) (eqb-true w (tableWord G area k) same))
     go false p e = absurd (omega arith)
 
 -- a word that is no table's names none
-pub child-none : (G : Granule) (P n w : ℕ) → ((c : ℕ) → 1 ≤ c → c < n → w ≡ tableWord G P c → ⊥) → childAt G P n w ≡ 0
-child-none G P n w f = go (childAt G P n w) refl
+pub child-none : (G : Granule) (area : Area) (w : ℕ) → ((c : ℕ) → 1 ≤ c → c < total area → w ≡ tableWord G area c → ⊥) → childAt G area w ≡ 0
+child-none G area w f = go (childAt G area w) refl
   where
-    go : (c : ℕ) → childAt G P n w ≡ c → c ≡ 0
+    go : (c : ℕ) → childAt G area w ≡ c → c ≡ 0
     go zero e = refl
-    go (suc c) e = let (lt, same) = child-only G P n w e (omega arith) in absurd (f (suc c) (omega arith) lt same)
+    go (suc c) e = let (lt, same) = child-only G area w e (omega arith) in absurd (f (suc c) (omega arith) lt same)
 
 -- ---- entries
 
-pub entry-zero : (G : Granule) (P n h : ℕ) → entryAt G P n h 0 ≡ Empty
+pub entry-zero : (G : Granule) (area : Area) (h : ℕ) → entryAt G area h 0 ≡ Empty
 unfolding entryAt
-entry-zero G P n h = refl
+entry-zero G area h = refl
 
 -- what a table's word says is that table
-pub table-back : (G : Granule) (P n h c : ℕ) → 1 ≤ h → 1 ≤ c → c < n → entryAt G P n h (tableWord G P c) ≡ Table c
+pub table-back : (G : Granule) (area : Area) (h c : ℕ) → 1 ≤ h → 1 ≤ c → c < total area → entryAt G area h (tableWord G area c) ≡ Table c
 unfolding entryAt
-table-back G P n h c high some lt =
+table-back G area h c high some lt =
     rw (
-      ne-eqb (tableWord G P c) 0 (λ e. omega (arith, table-word-ge G P c)),
-      child-back G P n c lt,
+      ne-eqb (tableWord G area c) 0 (λ e. omega (arith, table-word-ge G area c)),
+      child-back G area c lt,
       lt-ltb 0 h high,
       lt-ltb 0 c some,
     )
 
 -- a word that is not 0 and names no table is read as a frame
-pub entry-frame : (G : Granule) (P n h w : ℕ) → (w ≡ 0 → ⊥) → (1 ≤ h → childAt G P n w ≡ 0) → entryAt G P n h w ≡ frameAt G h w
+pub entry-frame : (G : Granule) (area : Area) (h w : ℕ) → (w ≡ 0 → ⊥) → (1 ≤ h → childAt G area w ≡ 0) → entryAt G area h w ≡ frameAt G h w
 unfolding entryAt
-entry-frame G P n h w some f = rw (ne-eqb w 0 some) (go (ltb 0 h && ltb 0 (childAt G P n w)) refl)
+entry-frame G area h w some f = rw (ne-eqb w 0 some) (go (ltb 0 h && ltb 0 (childAt G area w)) refl)
   where
-    go : (t : Bool) → (ltb 0 h && ltb 0 (childAt G P n w)) ≡ t → cond t (Table (childAt G P n w)) (frameAt G h w) ≡ frameAt G h w
+    go : (t : Bool) → (ltb 0 h && ltb 0 (childAt G area w)) ≡ t → cond t (Table (childAt G area w)) (frameAt G h w) ≡ frameAt G h w
     go true e =
-        let (high, named) = and-true (ltb 0 h) (ltb 0 (childAt G P n w)) e in
-        absurd (omega (arith, f (ltb-true 0 h high), ltb-true 0 (childAt G P n w) named))
+        let (high, named) = and-true (ltb 0 h) (ltb 0 (childAt G area w)) e in
+        absurd (omega (arith, f (ltb-true 0 h high), ltb-true 0 (childAt G area w) named))
     go false e = refl
 
 module _ {G : Granule} (S : Sane G) where
   -- what is computed from a word is what the word says
-  pub says-entry : (P n h w : ℕ) → Says G P n h w (entryAt G P n h w)
+  pub says-entry : (area : Area) (h w : ℕ) → Says G area h w (entryAt G area h w)
   unfolding entryAt frameAt
-  says-entry P n h w = go (eqb w 0) named (isFrame G h w) refl refl refl
+  says-entry area h w = go (eqb w 0) named (isFrame G h w) refl refl refl
     where
       named : Bool
-      named = ltb 0 h && ltb 0 (childAt G P n w)
+      named = ltb 0 h && ltb 0 (childAt G area w)
 
-      frame : isFrame G h w ≡ true → Says G P n h w (Frame (baseIn w) (attrsIn w))
+      frame : isFrame G h w ≡ true → Says G area h w (Frame (baseIn w) (attrsIn w))
       frame r = let f = own-frame S h w r in says-frame (baseIn w) (attrsIn w) (f .0) (f .1)
 
-      table : named ≡ true → Says G P n h w (Table (childAt G P n w))
+      table : named ≡ true → Says G area h w (Table (childAt G area w))
       table q =
-          let (x, y) = and-true (ltb 0 h) (ltb 0 (childAt G P n w)) q in
-          let some = ltb-true 0 (childAt G P n w) y in
-          let f = child-only G P n w refl some in
-          says-table (childAt G P n w) (ltb-true 0 h x) some (f .0) (f .1)
+          let (x, y) = and-true (ltb 0 h) (ltb 0 (childAt G area w)) q in
+          let some = ltb-true 0 (childAt G area w) y in
+          let f = child-only G area w refl some in
+          says-table (childAt G area w) (ltb-true 0 h x) some (f .0) (f .1)
 
-      no-table : named ≡ false → (c : ℕ) → 1 ≤ h → 1 ≤ c → c < n → w ≡ tableWord G P c → ⊥
+      no-table : named ≡ false → (c : ℕ) → 1 ≤ h → 1 ≤ c → c < total area → w ≡ tableWord G area c → ⊥
       no-table q c high some lt e =
-          let t : childAt G P n w ≡ c = rw e (child-back G P n c lt) in
+          let t : childAt G area w ≡ c = rw e (child-back G area c lt) in
           let f = rw (lt-ltb 0 h high, t, lt-ltb 0 c some) at q in
           let z : _≡_ {A = ℕ} 0 1 = cc in
           omega arith
@@ -239,64 +240,64 @@ module _ {G : Granule} (S : Sane G) where
           → eqb w 0 ≡ x
           → named ≡ y
           → isFrame G h w ≡ z
-          → Says G P n h w (cond x Empty (cond y (Table (childAt G P n w)) (cond z (Frame (baseIn w) (attrsIn w)) Damaged)))
+          → Says G area h w (cond x Empty (cond y (Table (childAt G area w)) (cond z (Frame (baseIn w) (attrsIn w)) Damaged)))
       go true y z p q r = says-empty (eqb-true w 0 p)
       go false true z p q r = table q
       go false false true p q r = frame r
       go false false false p q r = says-damaged (eqb-false w 0 p) (no-table q) (no-frame r)
 
   -- so what is read was written
-  pub empty-only : (P n h w : ℕ) → entryAt G P n h w ≡ Empty → w ≡ 0
-  empty-only P n h w e = of (rw e at (says-entry P n h w))
+  pub empty-only : (area : Area) (h w : ℕ) → entryAt G area h w ≡ Empty → w ≡ 0
+  empty-only area h w e = of (rw e at (says-entry area h w))
     where
-      of : Says G P n h w Empty → w ≡ 0
+      of : Says G area h w Empty → w ≡ 0
       of (says-empty z) = z
 
-  pub table-only : (P n h w : ℕ) {c : ℕ} → entryAt G P n h w ≡ Table c → (1 ≤ h) × (1 ≤ c) × (c < n) × (w ≡ tableWord G P c)
-  table-only P n h w {c} e = of (rw e at (says-entry P n h w))
+  pub table-only : (area : Area) (h w : ℕ) {c : ℕ} → entryAt G area h w ≡ Table c → (1 ≤ h) × (1 ≤ c) × (c < total area) × (w ≡ tableWord G area c)
+  table-only area h w {c} e = of (rw e at (says-entry area h w))
     where
-      of : Says G P n h w (Table c) → (1 ≤ h) × (1 ≤ c) × (c < n) × (w ≡ tableWord G P c)
+      of : Says G area h w (Table c) → (1 ≤ h) × (1 ≤ c) × (c < total area) × (w ≡ tableWord G area c)
       of (says-table c high some lt z) = (high, some, lt, z)
 
-  pub frame-only : (P n h w : ℕ) {b a : ℕ} → entryAt G P n h w ≡ Frame b a → Framed G h b a × (w ≡ frameWord b h a)
-  frame-only P n h w {b} {a} e = of (rw e at (says-entry P n h w))
+  pub frame-only : (area : Area) (h w : ℕ) {b a : ℕ} → entryAt G area h w ≡ Frame b a → Framed G h b a × (w ≡ frameWord b h a)
+  frame-only area h w {b} {a} e = of (rw e at (says-entry area h w))
     where
-      of : Says G P n h w (Frame b a) → Framed G h b a × (w ≡ frameWord b h a)
+      of : Says G area h w (Frame b a) → Framed G h b a × (w ≡ frameWord b h a)
       of (says-frame b a f z) = (f, z)
 
   -- no word is both a table's and a frame's, since a table's ends in 3
-  pub table-low : (P c : ℕ) → P % pageSize G ≡ 0 → tableWord G P c % 4096 ≡ 3
+  pub table-low : (area : Area) (c : ℕ) → GoodArea G area → tableWord G area c % 4096 ≡ 3
   unfolding tableWord
-  table-low P c paged =
-      let p = power-down P {i = 12} {j = G .page} (S .page-least) paged in
+  table-low area c placed =
+      let p = power-down (area .base) {i = 12} {j = G .page} (S .page-least) (placed .aligned) in
       let q = power-down (pageSize G * c) {i = 12} {j = G .page} (S .page-least) (mul-mod-right (pageSize G) c) in
       omega arith
 
-  pub not-both : (P c : ℕ) {h b a : ℕ} → P % pageSize G ≡ 0 → Framed G h b a → frameWord b h a ≡ tableWord G P c → ⊥
-  not-both P c {h} {b} {a} paged f e =
-      low-of b h a (framed-below S f) (framed-paged S f) (f .few) (ap (λ (x : ℕ). x % 4096) e ∙ table-low P c paged)
+  pub not-both : (area : Area) (c : ℕ) {h b a : ℕ} → GoodArea G area → Framed G h b a → frameWord b h a ≡ tableWord G area c → ⊥
+  not-both area c {h} {b} {a} placed f e =
+      low-of b h a (framed-below S f) (framed-paged S f) (f .few) (ap (λ (x : ℕ). x % 4096) e ∙ table-low area c placed)
 
   -- what a frame's word says is that frame
-  pub frame-back : (P n : ℕ) {h b a : ℕ} → P % pageSize G ≡ 0 → Framed G h b a → entryAt G P n h (frameWord b h a) ≡ Frame b a
-  frame-back P n {h} {b} {a} paged f =
-      entry-frame G P n h (frameWord b h a) (λ e. omega (arith, frame-word-ge b h a)) (λ high. no-child) ∙ frame-at-back S f
+  pub frame-back : (area : Area) {h b a : ℕ} → GoodArea G area → Framed G h b a → entryAt G area h (frameWord b h a) ≡ Frame b a
+  frame-back area {h} {b} {a} placed f =
+      entry-frame G area h (frameWord b h a) (λ e. omega (arith, frame-word-ge b h a)) (λ high. no-child) ∙ frame-at-back S f
     where
-      no-child : childAt G P n (frameWord b h a) ≡ 0
-      no-child = child-none G P n (frameWord b h a) (λ c some lt e. not-both P c paged f e)
+      no-child : childAt G area (frameWord b h a) ≡ 0
+      no-child = child-none G area (frameWord b h a) (λ c some lt e. not-both area c placed f e)
 
   -- a word says nothing but what is computed from it
-  pub entry-says : {P n h w : ℕ} {e : Entry} → P % pageSize G ≡ 0 → Says G P n h w e → entryAt G P n h w ≡ e
-  entry-says {P} {n} {h} paged (says-empty z) = rw z (entry-zero G P n h)
-  entry-says {P} {n} {h} paged (says-table c high some lt z) = rw z (table-back G P n h c high some lt)
-  entry-says {P} {n} paged (says-frame b a f z) = rw z (frame-back P n paged f)
-  entry-says {P} {n} {h} {w} paged (says-damaged no-empty no-table no-frame) = of (says-entry P n h w)
+  pub entry-says : {area : Area} {h w : ℕ} {e : Entry} → GoodArea G area → Says G area h w e → entryAt G area h w ≡ e
+  entry-says {area} {h} placed (says-empty z) = rw z (entry-zero G area h)
+  entry-says {area} {h} placed (says-table c high some lt z) = rw z (table-back G area h c high some lt)
+  entry-says {area} placed (says-frame b a f z) = rw z (frame-back area placed f)
+  entry-says {area} {h} {w} placed (says-damaged no-empty no-table no-frame) = of (says-entry area h w)
     where
-      of : {e : Entry} → Says G P n h w e → e ≡ Damaged
+      of : {e : Entry} → Says G area h w e → e ≡ Damaged
       of (says-empty z) = absurd (no-empty z)
       of (says-table c high some lt z) = absurd (no-table c high some lt z)
       of (says-frame b a f z) = absurd (no-frame b a f z)
       of (says-damaged x y z) = refl
 
   -- so it says one thing
-  pub one-reading : {P n h w : ℕ} {e f : Entry} → P % pageSize G ≡ 0 → Says G P n h w e → Says G P n h w f → e ≡ f
-  one-reading paged x y = sym (entry-says paged x) ∙ entry-says paged y
+  pub one-reading : {area : Area} {h w : ℕ} {e f : Entry} → GoodArea G area → Says G area h w e → Says G area h w f → e ≡ f
+  one-reading placed x y = sym (entry-says placed x) ∙ entry-says placed y

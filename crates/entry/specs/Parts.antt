@@ -6,6 +6,7 @@ use native.Mathlib.Omega.{arith}
 use native.Mathlib.Nat.{mul-le-mul-left}
 use lib.Dec.{eqb}
 use Rattle.path.specs.Geometry.{Granule, pageSize, physical}
+use Rattle.path.specs.Areas.{Area, total, tableAt, GoodArea}
 use Rattle.entry.specs.Words.{attrWord, typeAt, frameWord, tableWord, baseIn, attrsIn}
 
 -- ---- bounds
@@ -32,13 +33,13 @@ pub frame-word-lt : (b h a : ℕ) → b < physical → frameWord b h a < 2 ^ 64
 unfolding frameWord
 frame-word-lt b h a l = omega (arith, type-le h)
 
-pub table-word-ge : (G : Granule) (P c : ℕ) → 3 ≤ tableWord G P c
+pub table-word-ge : (G : Granule) (area : Area) (c : ℕ) → 3 ≤ tableWord G area c
 unfolding tableWord
-table-word-ge G P c = omega arith
+table-word-ge G area c = omega arith
 
-pub table-word-lt : (G : Granule) (P n c : ℕ) → P + pageSize G * n ≤ physical → c < n → tableWord G P c < 2 ^ 64
+pub table-word-lt : (G : Granule) (area : Area) (c : ℕ) → GoodArea G area → c < total area → tableWord G area c < 2 ^ 64
 unfolding tableWord
-table-word-lt G P n c fits l = omega (arith, mul-le-mul-left {m = c} {n = n} (pageSize G) (omega arith))
+table-word-lt G area c placed l = omega (arith, placed .fits, mul-le-mul-left {m = c} {n = total area} (pageSize G) (omega arith))
 
 pub attrs-lt : (w : ℕ) → attrsIn w < 16
 attrs-lt w = omega arith

@@ -1,9 +1,10 @@
--- The entry words of the Arm stage 2 format, and what a word says. P is the pool's base, n its table count, h the height of the entry.
+-- The entry words of the Arm stage 2 format, and what a word says, where h is the height of the entry.
 use Prim.Native.Nat.{ℕ, _+_, _-_, _*_, _/_, _%_, _^_, _≤_, _<_}
 use mathlib.Core.Path.{_≡_}
 use mathlib.Core.Bool.{cond, _&&_}
 use lib.Dec.{ltb, leb, eqb}
 use Rattle.path.specs.Geometry.{Granule, pageSize, sizeAt, physical}
+use Rattle.path.specs.Areas.{Area, total, tableAt}
 use Rattle.entry.specs.declared.Entry.{Entry}
 use Rattle.entry.specs.declared.Entry.the-variants.{Empty, Table, Frame, Damaged}
 
@@ -24,8 +25,8 @@ unfoldable pub frameWord : ℕ → ℕ → ℕ → ℕ
 frameWord base h attributes = base + typeAt h + attrWord attributes
 
 -- the word that names a table: its address + 3
-unfoldable pub tableWord : Granule → ℕ → ℕ → ℕ
-tableWord G P c = P + pageSize G * c + 3
+unfoldable pub tableWord : Granule → Area → ℕ → ℕ
+tableWord G area c = tableAt G area c + 3
 
 -- what may stand as a frame at height h: the level has frames, the attributes are 0 to 15, the base is a multiple of the size, and base + size is at
 -- most 2^48
@@ -37,20 +38,20 @@ pub record Framed (G : Granule) (h base attributes : ℕ) : Type 0 where
 
 -- what a word says at height h, as the paper has it: empty is exactly 0; a table is the address + 3 of a child 1 to n - 1, at any level but the
 -- last; a frame is the word of a base, a multiple of its size, and attributes; any other word is damaged
-pub data Says (G : Granule) (P n h w : ℕ) : Entry → Type 0 where
-  says-empty : w ≡ 0 → Says G P n h w Empty
-  says-table : (c : ℕ) → 1 ≤ h → 1 ≤ c → c < n → w ≡ tableWord G P c → Says G P n h w (Table c)
-  says-frame : (b a : ℕ) → Framed G h b a → w ≡ frameWord b h a → Says G P n h w (Frame b a)
+pub data Says (G : Granule) (area : Area) (h w : ℕ) : Entry → Type 0 where
+  says-empty : w ≡ 0 → Says G area h w Empty
+  says-table : (c : ℕ) → 1 ≤ h → 1 ≤ c → c < total area → w ≡ tableWord G area c → Says G area h w (Table c)
+  says-frame : (b a : ℕ) → Framed G h b a → w ≡ frameWord b h a → Says G area h w (Frame b a)
   says-damaged :
       (w ≡ 0 → ⊥)
-      → ((c : ℕ) → 1 ≤ h → 1 ≤ c → c < n → w ≡ tableWord G P c → ⊥)
+      → ((c : ℕ) → 1 ≤ h → 1 ≤ c → c < total area → w ≡ tableWord G area c → ⊥)
       → ((b a : ℕ) → Framed G h b a → w ≡ frameWord b h a → ⊥)
-      → Says G P n h w Damaged
+      → Says G area h w Damaged
 
 -- The same, computed; Laws says that the two agree. The child that a word names as a table, 0 where it names none:
-unfoldable pub childAt : Granule → ℕ → ℕ → ℕ → ℕ
-childAt G P n w =
-    let c = (w - 3 - P) / pageSize G in cond (ltb c n && eqb w (tableWord G P c)) c 0
+unfoldable pub childAt : Granule → Area → ℕ → ℕ
+childAt G area w =
+    let c = (w - 3 - area .base) / pageSize G in cond (ltb c (total area) && eqb w (tableWord G area c)) c 0
 
 -- the base that a frame's word has: bits 47:12
 abbrev pub baseIn : ℕ → ℕ
@@ -68,6 +69,6 @@ frameAt G h w =
     Damaged
 
 -- what a word says at height h
-unfoldable pub entryAt : Granule → ℕ → ℕ → ℕ → ℕ → Entry
-entryAt G P n h w =
-    cond (eqb w 0) Empty (cond (ltb 0 h && ltb 0 (childAt G P n w)) (Table (childAt G P n w)) (frameAt G h w))
+unfoldable pub entryAt : Granule → Area → ℕ → ℕ → Entry
+entryAt G area h w =
+    cond (eqb w 0) Empty (cond (ltb 0 h && ltb 0 (childAt G area w)) (Table (childAt G area w)) (frameAt G h w))

@@ -1,9 +1,10 @@
 // Entry words: the sixteen attribute words, the word of a frame and of a table, and what a word says.
 ghost use mathlib.Core.Path.{_≡_};
-ghost use Prim.Native.Nat.{_<_, _^_};
+ghost use Prim.Native.Nat.{ℕ, _<_, _^_};
 ghost use mathlib.Core.Bool.{cond};
 ghost use lib.Dec.{ltb, leb};
 ghost use Rattle.path.specs.Geometry.{four, physical};
+ghost use Rattle.path.specs.Areas.{areaAt};
 ghost use Rattle.entry.specs.Words.{attrWord, attrsIn, typeAt, tableWord, childAt, frameAt, entryAt};
 ghost use Rattle.entry.specs.Host.{hostWord, hostMeaning, meaningOf};
 
@@ -83,7 +84,7 @@ pub fn frame_word(base: u64, size: u64, attributes: u64) -> u64
 
 // The word that names table c of a pool; 0 where the pool's base is above 2^48.
 pub fn table_word(base: u64, c: u32) -> u64
-    ensures { λ r. ⌜ r ≡ cond (leb base physical) (tableWord four base c) 0 ⌝ }
+    ensures { λ r. ⌜ ((n : ℕ) → r ≡ cond (leb base physical) (tableWord four (areaAt base n) c) 0) ⌝ }
 {
     if base > path::PHYSICAL {
         return 0;
@@ -127,7 +128,7 @@ fn frame_at(w: u64, height: usize) -> Entry
 
 // The child that a word names as a table, 1 to tables - 1; 0 where it names none.
 fn child_in(w: u64, base: u64, tables: u32) -> u32
-    ensures { λ r. ⌜ r ≡ childAt four base tables w ⌝ }
+    ensures { λ r. ⌜ r ≡ childAt four (areaAt base tables) w ⌝ }
 {
     if w < 3 {
         return 0;
@@ -149,7 +150,7 @@ fn child_in(w: u64, base: u64, tables: u32) -> u32
 
 // What a word says at a height of a tree whose tables, so many, stand from base on.
 pub fn read_word(w: u64, height: usize, base: u64, tables: u32) -> Entry
-    ensures { λ r. ⌜ r ≡ entryAt four base tables height w ⌝ }
+    ensures { λ r. ⌜ r ≡ entryAt four (areaAt base tables) height w ⌝ }
 {
     if w == 0 {
         return Entry::Empty;

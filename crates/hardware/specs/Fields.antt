@@ -10,6 +10,7 @@ use lib.Pow.{pow-add, pow-mono}
 use lib.Dec.{eqb}
 use borrow.Author.Tests.{eq-eqb, ne-eqb, le-leb}
 use Rattle.path.specs.Geometry.{Granule, Sane, pageSize, sizeAt, physical}
+use Rattle.path.specs.Areas.{Area, areaOf, total, tableAt, GoodArea}
 use Rattle.path.specs.Laws.{page-pos}
 use Rattle.entry.specs.Words.{typeAt, frameWord, tableWord, Framed}
 use Rattle.entry.specs.Laws.{type-le, framed-paged, framed-below, table-low}
@@ -218,26 +219,26 @@ pub step-zero : (G : Granule) (a h : ℕ) → stepBy G a h 0 ≡ fault
 step-zero G a h = refl
 
 -- a table's word goes on to the table
-pub step-table : {G : Granule} → Sane G → (P n a h c : ℕ) → P % pageSize G ≡ 0 → P + pageSize G * n ≤ physical → 1 ≤ h → c < n
-    → stepBy G a h (tableWord G P c) ≡ next (P + pageSize G * c)
+pub step-table : {G : Granule} → Sane G → (area : Area) (a h c : ℕ) → GoodArea G area → 1 ≤ h → c < total area
+    → stepBy G a h (tableWord G area c) ≡ next (tableAt G area c)
 unfolding tableWord
-step-table {G} Z P n a zero c al fits high l = absurd (omega arith)
-step-table {G} Z P n a (suc h) c al fits high l =
-    let low = table-low Z P c al in
+step-table {G} Z area a zero c al high l = absurd (omega arith)
+step-table {G} Z area a (suc h) c al high l =
+    let low = table-low Z area c al in
     rw (eq-eqb (validBit w) 1 (omega arith), eq-eqb (tableBit w) 1 (omega arith))
-    (ap {B = Step} (λ (x : ℕ). next x) (output (G .page) 0 (P + pageSize G * c) 3 tall paged below few (omega arith)))
+    (ap {B = Step} (λ (x : ℕ). next x) (output (G .page) 0 (tableAt G area c) 3 tall paged below few (omega arith)))
   where
     w : ℕ
-    w = tableWord G P c
+    w = tableWord G area c
 
     tall : G .page ≤ 48
     tall = omega (arith, Z .space-fits)
 
-    paged : (P + pageSize G * c) % pageSize G ≡ 0
-    paged = add-mul-mod-self-left P (pageSize G) c ∙ al
+    paged : (tableAt G area c) % pageSize G ≡ 0
+    paged = add-mul-mod-self-left (area .base) (pageSize G) c ∙ al .aligned
 
-    below : P + pageSize G * c < physical
-    below = omega (arith, page-pos G, mul-suc (pageSize G) c, mul-le-mul-left {m = suc c} {n = n} (pageSize G) l)
+    below : tableAt G area c < physical
+    below = omega (arith, al .fits, page-pos G, mul-suc (pageSize G) c, mul-le-mul-left {m = suc c} {n = total area} (pageSize G) l)
 
     few : 3 < pageSize G
     few = omega (arith, pow-mono {i = 12} {j = G .page} (Z .page-least))

@@ -9,6 +9,7 @@ use lib.Seq.{getD-set-same, getD-set-other}
 use Rattle.laws.specs.Lists.{zeroed}
 use Rattle.laws.specs.ListLaws.{length-zeroed}
 use Rattle.path.specs.Geometry.{Granule, Sane, entries}
+use Rattle.path.specs.Areas.{Area, areaOf, total, tableAt, GoodArea}
 use Rattle.entry.specs.Words.{tableWord}
 use Rattle.model.specs.Answers.{Pool}
 use Rattle.model.specs.Walk.{slot, atHeight}
@@ -16,7 +17,7 @@ use Rattle.model.specs.Writes.{Write, store, wipe, give, Memory, memory, perfor
 use Rattle.model.specs.Ledger.{Ledger}
 use Rattle.demand.specs.Memories.{one-place, in-table, rd-kept}
 use Rattle.demand.specs.Sims.{Sim}
-use Rattle.demand.specs.Queries.{P, n, al}
+use Rattle.demand.specs.Queries.{area, n, al}
 use Rattle.hardware.specs.Machine.{zerosFrom, singles}
 use Rattle.hardware.specs.Plans.{Each, each-append, each-zeros, Sound, Leaves}
 
@@ -33,11 +34,11 @@ module _ (G : Granule) (Z : Sane G) {p : Pool} {A : Ledger} (I : Sim G Z p A) (p
   free i = getD (p .list) i 0
 
   abbrev link : ℕ → ℕ
-  link c = tableWord G (P G Z I) c
+  link c = tableWord G (area G Z I) c
 
   -- the planned writes from table t on, with f tables free and `need` to be taken, and the words that they leave
   abbrev planned : ℕ → ℕ → ℕ → List Write
-  planned t f need = mapWrites G (P G Z I) path (p .list) g word t f need
+  planned t f need = mapWrites G (area G Z I) path (p .list) g word t f need
 
   abbrev left-by : ℕ → ℕ → ℕ → Memory → List ℕ
   left-by t f need m = performAll G (planned t f need) m .words
@@ -79,7 +80,7 @@ module _ (G : Granule) (Z : Sane G) {p : Pool} {A : Ledger} (I : Sim G Z p A) (p
       let n₀ : t′ ≢ c = λ e. a (f - 1) (omega arith) (sym e) in
       elsewhere need c (f - 1) (omega arith) (omega arith) t′ j lt n₀ (λ i q. a i (omega arith)) (linked t c h m)
       ∙ getD-set-other (zeroed (m .words) (slot G c 0) K) (slot G t (at h)) (slot G t′ j) (link c) 0 (λ e. d (one-place (below h b) lt e .0))
-      ∙ rd-kept G Z (P G Z I) (n G Z I) (p .numbers .levels) (al G Z I) (m .words) c t′ j lt n₀
+      ∙ rd-kept G Z (area G Z I) (p .numbers .levels) (al G Z I) (m .words) c t′ j lt n₀
 
   -- all single writes but that of the frame's word
   pub but-last : ℕ → ℕ → ℕ → List Write

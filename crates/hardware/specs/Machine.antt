@@ -18,16 +18,17 @@ use mathlib.Core.Option.{Option, some, none, Option·map}
 use lib.Dec.{ltb, leb, eqb}
 use lib.ListN.{length, getD, take}
 use Rattle.path.specs.Geometry.{Granule, entries, heightOf}
+use Rattle.path.specs.Areas.{Area, areaOf, total, tableAt}
 use Rattle.path.specs.Paths.{pathOf}
 use Rattle.path.specs.declared.Setup.{Setup}
 use Rattle.entry.specs.Words.{frameWord}
-use Rattle.model.specs.Answers.{Mapping, mapping, Answer, formatted, took, gave, found, audited, refused, Pool}
+use Rattle.model.specs.Answers.{Mapping, mapping, Answer, answered, refusal, Pool}
 use Rattle.model.specs.Walk.{slot, atHeight}
 use Rattle.model.specs.Writes.{Write, store, wipe, give, memory, performAll, mapWrites, unmapWrites}
 use Rattle.model.specs.Calls.{walkTo}
 use Rattle.model.specs.Ledger.{Ledger, holdsAddress, coverOf}
 use Rattle.demand.specs.Holds.{Holds}
-use Rattle.demand.specs.Demand3.{Call, formatC, mapC, unmapC, queryC, auditC, stepW, stepL, poolAfter, ledgerAfter}
+use Rattle.demand.specs.Demand3.{Call, formatC, mapC, unmapC, askC, stepW, stepL, poolAfter, ledgerAfter}
 
 -- ---- the hardware
 
@@ -205,9 +206,9 @@ inputEnd G levels = 2 ^ shift G levels
 abbrev pub stage2 : Granule → ℕ → ℕ → (ℕ → ℕ → ℕ) → ℕ → Option Translation
 stage2 G levels b mem a = cond (ltb a (inputEnd G levels)) (walk G mem a (levels - 1) b) none
 
--- in this memory the words stand from address b on, eight bytes each; elsewhere anything stands
-abbrev pub Stands : ℕ → List ℕ → (ℕ → ℕ) → Type 0
-Stands b ws mem = (i : ℕ) → i < length ws → mem (b + 8 * i) ≡ getD ws i 0
+-- in this memory the tables' words stand in their area, eight bytes each; elsewhere anything stands
+abbrev pub Stands : Granule → Area → List ℕ → (ℕ → ℕ) → Type 0
+Stands G area ws mem = (t i : ℕ) → t < total area → i < entries G → mem (tableAt G area t + 8 * i) ≡ getD ws (slot G t i) 0
 
 -- ---- the ledger
 
@@ -263,34 +264,30 @@ singles G (w ∷ ws) = single G w ++ singles G ws
 
 -- whether an answer is no refusal
 abbrev pub accepts : Answer → Bool
-accepts formatted = true
-accepts (took t) = true
-accepts (gave b s k t) = true
-accepts (found m) = true
-accepts (audited t m) = true
-accepts (refused k) = false
+accepts (answered values) = true
+accepts (refusal k values) = false
 
--- the tables that an answer says were taken or given back
+-- the tables that map or unmap says it took or gave back: the last of the values that it answers
+abbrev pub lastOf : List ℕ → ℕ
+lastOf [] = 0
+lastOf (x ∷ []) = x
+lastOf (x ∷ y ∷ l) = lastOf (y ∷ l)
+
 abbrev pub tablesIn : Answer → ℕ
-tablesIn formatted = 0
-tablesIn (took t) = t
-tablesIn (gave b s k t) = t
-tablesIn (found m) = 0
-tablesIn (audited t m) = 0
-tablesIn (refused k) = 0
+tablesIn (answered values) = lastOf values
+tablesIn (refusal k values) = 0
 
 -- the single writes of an accepted call that takes or gives back t tables
 abbrev pub plan : Granule → Pool → Call → ℕ → List Write
-plan G p (formatC levels base tables) t = zerosFrom 0 (length (p .words)) ++ placesFrom 0 tables
+plan G p (formatC levels area) t = zerosFrom 0 (length (p .words)) ++ placesFrom 0 (total area)
 plan G p (mapC a b size k) t =
     let g = heightOf G size in
     let o = walkTo G p g a in
     singles G
-    (mapWrites G (p .numbers .base) (pathOf G a) (p .list) g (frameWord b g k) (atHeight (o .tables) (o .left)) (p .numbers .free) t)
+    (mapWrites G (areaOf (p .numbers)) (pathOf G a) (p .list) g (frameWord b g k) (atHeight (o .tables) (o .left)) (p .numbers .free) t)
 plan G p (unmapC a) t =
     let o = walkTo G p 0 a in singles G (unmapWrites G (o .tables) (pathOf G a) (o .left) (p .numbers .free) t)
-plan G p (queryC a) t = []
-plan G p auditC t = []
+plan G p (askC q) t = []
 
 -- a refused call writes nothing
 abbrev pub writesOf : Granule → Pool → Call → List Write
@@ -313,7 +310,7 @@ visible (false ∷ bs) (w ∷ ws) = visible bs ws
 module _ (G : Granule) (p : Pool) (L L′ : List Mapping) (ws : List Write) where
   -- this memory holds the pool's words as they are after some of the writes
   abbrev Shows : List Write → (ℕ → ℕ) → Type 0
-  Shows xs mem = Stands (p .numbers .base) (wordsAfter G p xs) mem
+  Shows xs mem = Stands G (areaOf (p .numbers)) (wordsAfter G p xs) mem
 
   -- after each write: up to one of them every address reads as before the call, and from that one on every address reads as after it
   pub record Switch : Type 0 where
@@ -335,11 +332,10 @@ module _ (G : Granule) (p : Pool) (L L′ : List Mapping) (ws : List Write) wher
 
 -- a call whose writes change what is read at once: any but format, which clears the words one after the other, so that its addresses fault in turn
 abbrev pub AtOnce : Call → Type 0
-AtOnce (formatC levels base tables) = ⊥
+AtOnce (formatC levels area) = ⊥
 AtOnce (mapC a b size k) = Unit {0}
 AtOnce (unmapC a) = Unit {0}
-AtOnce (queryC a) = Unit {0}
-AtOnce auditC = Unit {0}
+AtOnce (askC q) = Unit {0}
 
 -- whether a mapping, if there is one, holds an address
 abbrev pub heldBy : ℕ → Option Mapping → Bool
@@ -348,16 +344,15 @@ heldBy x (some m) = holdsAddress x m
 
 -- whether a call may change what an address reads: map those of its range, unmap those of the mapping that holds its address, format all
 abbrev pub concerns : Ledger → Call → ℕ → Bool
-concerns A (formatC levels base tables) x = true
+concerns A (formatC levels area) x = true
 concerns A (mapC a b size k) x = holdsAddress x (mapping a b size k)
 concerns A (unmapC a) x = heldBy x (coverOf a (A .live))
-concerns A (queryC a) x = false
-concerns A auditC x = false
+concerns A (askC q) x = false
 
 -- the call c on a pool p that holds the ledger A
 pub record Machine (G : Granule) (p : Pool) (A : Ledger) (c : Call) : Type 0 where
   -- at rest every address, past the space too, reads as the ledger says
-  pub rest : (mem : ℕ → ℕ) → Stands (p .numbers .base) (p .words) mem → Reads G (p .numbers) (λ _. mem) (A .live)
+  pub rest : (mem : ℕ → ℕ) → Stands G (areaOf (p .numbers)) (p .words) mem → Reads G (p .numbers) (λ _. mem) (A .live)
   -- the call's single writes, one after the other, are what it does to the lent memory
   pub whole : performAll G (writesOf G p c) (memory (p .words) (p .list)) ≡ memory (stepW G p c .after .words) (stepW G p c .after .list)
   -- after each of them, in whatever order they become visible, and while a walk is under way, the ledger is read, or the one after the call

@@ -9,6 +9,7 @@ use native.Mathlib.Decide.{ℕ-discrete}
 use lib.ListN.{length, take, length-append}
 use lib.Seq.{take-append-le, take-all}
 use Rattle.path.specs.Geometry.{Granule, Sane, entries, heightOf}
+use Rattle.path.specs.Areas.{Area, areaOf, total, tableAt, GoodArea}
 use Rattle.path.specs.Laws.{entries-pos}
 use Rattle.path.specs.Paths.{pathOf}
 use Rattle.entry.specs.Words.{frameWord, tableWord}
@@ -31,7 +32,7 @@ use Rattle.demand.specs.Memories.{readAt, placeAt}
 use Rattle.demand.specs.Walks.{Ended, spot}
 use Rattle.demand.specs.Carried.{A}
 use Rattle.demand.specs.Sims.{Sim}
-use Rattle.demand.specs.Queries.{P, n, k₀, al, X, R, few, root-at, walk-ended, entry-empty}
+use Rattle.demand.specs.Queries.{area, n, k₀, al, X, R, few, root-at, walk-ended, entry-empty}
 use Rattle.demand.specs.Maps.{Fine, tests-fine, new-shown, region-is, good-frame, low, s-low, ready, t-is, carried}
 use Rattle.hardware.specs.Machine.{told, Stands, Reads, singles, wordsAfter}
 use Rattle.hardware.specs.Trees.{Within, new-zero, Grown, grown}
@@ -80,7 +81,7 @@ module _ (G : Granule) (Z : Sane G) {p : Pool} {B : Ledger} (I : Sim G Z p B) (a
   F : Fine G top a b size k
   F = tests-fine G top a b size k (Y .tests)
 
-  E : Ended G Z (P G Z I) (n G Z I) top (al G Z I) (few G Z I) (p .words) (R G Z I) a g (k₀ G Z I) o
+  E : Ended G Z (area G Z I) top (al G Z I) (few G Z I) (p .words) (R G Z I) a g (k₀ G Z I) o
   E = walk-ended G Z I g a (low G Z I a b size k F) (F .start-in)
 
   vacant : I .S s (anc K s v) ≡ empty
@@ -95,7 +96,7 @@ module _ (G : Granule) (Z : Sane G) {p : Pool} {B : Ledger} (I : Sim G Z p B) (a
   -- ---- the writes, the words that they leave, and their tree
 
   abbrev planned : List Write
-  planned = mapWrites G (P G Z I) (pathOf G a) (p .list) g (frameWord b g k) t f (s - g)
+  planned = mapWrites G (area G Z I) (pathOf G a) (p .list) g (frameWord b g k) t f (s - g)
 
   abbrev ws : List Write
   ws = singles G planned
@@ -104,7 +105,7 @@ module _ (G : Granule) (Z : Sane G) {p : Pool} {B : Ledger} (I : Sim G Z p B) (a
   new = performAll G planned m₀ .words
 
   abbrev Tables : Store (X G Z I)
-  Tables = A G Z (P G Z I) (n G Z I) top (al G Z I)
+  Tables = A G Z (area G Z I) top (al G Z I)
 
   N : Grown (X G Z I) Tables (placeAt (p .list)) g v x (ready G Z I a b size k F vacant (Y .room))
       (grow (X G Z I) Tables (placeAt (p .list)) g v x s (p .words) t f)
@@ -143,7 +144,7 @@ module _ (G : Granule) (Z : Sane G) {p : Pool} {B : Ledger} (I : Sim G Z p B) (a
 
   below : (h : ℕ) → h < 4 → atHeight (pathOf G a) h < K
   below h l =
-      let e = spot G Z (P G Z I) (n G Z I) top (al G Z I) (few G Z I) (p .words) (R G Z I) a h l in
+      let e = spot G Z (area G Z I) top (al G Z I) (few G Z I) (p .words) (R G Z I) a h l in
       subst (λ (i : ℕ). i < K) (sym e) (mod-lt (anc K h v) (entries-pos G))
 
   number : t ≡ I .T (suc s) (anc K (suc s) v)
@@ -209,8 +210,8 @@ module _ (G : Granule) (Z : Sane G) {p : Pool} {B : Ledger} (I : Sim G Z p B) (a
   final : Last G Z I (pathOf G a) g (frameWord b g k) below (s - g) t f new
   final = last G Z I (pathOf G a) g (frameWord b g k) below (s - g) t f (Y .room) high W m₀ long
 
-  no-link : (c : ℕ) → readAt G new u i ≡ tableWord G (P G Z I) c → ⊥
-  no-link c e = not-both Z (P G Z I) c (al G Z I) (good-frame G Z I a b size k F) (sym framed ∙ e)
+  no-link : (c : ℕ) → readAt G new u i ≡ tableWord G (area G Z I) c → ⊥
+  no-link c e = not-both Z (area G Z I) c (al G Z I) (good-frame G Z I a b size k F) (sym framed ∙ e)
 
   still : (j : ℕ) → readAt G (wordsAfter G p (take j front)) u i ≡ 0
   still j =
@@ -221,7 +222,7 @@ module _ (G : Granule) (Z : Sane G) {p : Pool} {B : Ledger} (I : Sim G Z p B) (a
 
   -- ---- what the hardware reads
 
-  until : (j : ℕ) → j ≤ length front → (mem : ℕ → ℕ) → Stands (P G Z I) (wordsAfter G p (take j ws)) mem
+  until : (j : ℕ) → j ≤ length front → (mem : ℕ → ℕ) → Stands G (area G Z I) (wordsAfter G p (take j ws)) mem
       → Reads G (p .numbers) (λ _. mem) live
   until j l mem S =
       ⊎-elim (λ q. q) (λ q. absurd (clash (q .1)))
@@ -240,10 +241,10 @@ module _ (G : Granule) (Z : Sane G) {p : Pool} {B : Ledger} (I : Sim G Z p B) (a
       clash q =
           let z : 0 ≡ frameWord (baseOf x) g (attrsOf x) = sym there ∙ q ∙ framed in omega (arith, frame-word-ge (baseOf x) g (attrsOf x))
 
-  since : (j : ℕ) → length front < j → (mem : ℕ → ℕ) → Stands (P G Z I) (wordsAfter G p (take j ws)) mem
+  since : (j : ℕ) → length front < j → (mem : ℕ → ℕ) → Stands G (area G Z I) (wordsAfter G p (take j ws)) mem
       → Reads G (p .numbers) (λ _. mem) (map (shown G Z) L′)
   since j l mem S =
-      reads-rest G Z I new (performed-length G planned m₀) R′ H′ mem (subst (λ (z : List ℕ). Stands (P G Z I) z mem) same S)
+      reads-rest G Z I new (performed-length G planned m₀) R′ H′ mem (subst (λ (z : List ℕ). Stands G (area G Z I) z mem) same S)
     where
       one-more : length ws ≡ length front + 1
       one-more = ap length (final .split) ∙ length-append front _

@@ -10,6 +10,7 @@ use native.Mathlib.Omega.{arith}
 use native.Mathlib.Decide.{ℕ-discrete, decLt, le-ind}
 use borrow.Author.Tests.{lt-ltb, le-ltb}
 use Rattle.path.specs.Geometry.{Granule, Sane, pageSize, entries, sizeAt}
+use Rattle.path.specs.Areas.{Area, areaOf, total, tableAt, GoodArea}
 use Rattle.path.specs.Laws.{entries-pos, size-pos}
 use Rattle.model.specs.Answers as answers
 use Rattle.model.specs.Answers.{Pool}
@@ -21,7 +22,7 @@ use Rattle.tree.specs.Inv.{Mapping, mapping, Holds, frame-low}
 use Rattle.tree.specs.Ledger.{first-none, query-none, query-some}
 use Rattle.demand.specs.Shown.{shown, pg, anc-size, cover-lookup, baseOf, attrsOf}
 use Rattle.demand.specs.Sims.{Sim}
-use Rattle.demand.specs.Queries.{P, n, k₀, al, X, root-at}
+use Rattle.demand.specs.Queries.{area, n, k₀, al, X, root-at}
 use Rattle.hardware.specs.Machine.{indexBits, inputEnd, Translation, Step, fault, hit, next, stepBy, onStep, walk, stage2, saysOf, told}
 use Rattle.hardware.specs.Fields.{step-frame, step-zero, step-table}
 use Rattle.hardware.specs.Trees.{Within, new-zero}
@@ -40,7 +41,7 @@ module _ (G : Granule) (Z : Sane G) {p : Pool} {A : Ledger} (I : Sim G Z p A) wh
 
   -- where table t stands
   abbrev pub place : ℕ → ℕ
-  place t = P G Z I + pageSize G * t
+  place t = tableAt G (area G Z I) t
 
   -- what a ledger of the theory says of an address
   abbrev pub tells : List Mapping → ℕ → Option Translation
@@ -48,7 +49,7 @@ module _ (G : Granule) (Z : Sane G) {p : Pool} {A : Ledger} (I : Sim G Z p A) wh
 
   -- what the hardware gives for an address
   abbrev pub gives : (ℕ → ℕ → ℕ) → ℕ → Option Translation
-  gives mem a = stage2 G top (P G Z I) mem a
+  gives mem a = stage2 G top (area G Z I .base) mem a
 
   -- the index that the hardware takes from an address
   index-is : (a h : ℕ) → indexBits G a h ≡ anc K h (pg G Z a) % K
@@ -90,7 +91,7 @@ module _ (G : Granule) (Z : Sane G) {p : Pool} {A : Ledger} (I : Sim G Z p A) wh
         go (frame x) s =
             step-frame Z (R .good h r x s) a
             ∙ ap {B = Step} (λ (y : ℕ). hit (saysOf a (answers.mapping (y * sizeAt G h) (baseOf x) (sizeAt G h) (attrsOf x)))) (sym (anc-size G Z a h))
-        go table s = step-table Z (P G Z I) (n G Z I) a h (T h r) (al G Z I) (I .good .numbers .fits) (high s h refl) (R .range h r s)
+        go table s = step-table Z (area G Z I) a h (T h r) (al G Z I) (high s h refl) (R .range h r s)
 
     -- what the ledger says where the walk of an address ends
     module _ (a h : ℕ) (q : S (suc h) (anc K (suc h) (pg G Z a)) ≡ table) where
@@ -283,7 +284,7 @@ module _ (G : Granule) (Z : Sane G) {p : Pool} {A : Ledger} (I : Sim G Z p A) wh
     abbrev root : ℕ → ℕ
     root v = place (T′ (suc k) (anc K (suc k) v))
 
-    root-is : (v : ℕ) → anc K top v ≡ 0 → (S′ (suc k) (anc K (suc k) v) ≡ table) × (root v ≡ P G Z I)
+    root-is : (v : ℕ) → anc K top v ≡ 0 → (S′ (suc k) (anc K (suc k) v) ≡ table) × (root v ≡ area G Z I .base)
     root-is v e =
         let z : anc K (suc k) v ≡ 0 = ap (λ (j : ℕ). anc K j v) (root-at G Z I) ∙ e in
         let s = R′ .root in

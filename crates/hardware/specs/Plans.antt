@@ -13,6 +13,7 @@ use borrow.Author.Tests.{ltb-true}
 use Rattle.laws.specs.Lists.{zeroed, down, among}
 use Rattle.laws.specs.ListLaws.{length-zeroed, getD-zeroed, getD-zeroed-before, getD-zeroed-after, getD-past}
 use Rattle.path.specs.Geometry.{Granule, entries}
+use Rattle.path.specs.Areas.{Area, areaOf, total, tableAt, GoodArea}
 use Rattle.model.specs.Walk.{slot}
 use Rattle.model.specs.Writes.{Write, store, wipe, give, Memory, memory, perform, performAll, mapWrites, mayTake, pruneWrites}
 use Rattle.demand.specs.Shown.{and-true}
@@ -173,17 +174,17 @@ module _ (G : Granule) where
   InRange n (give i t) = Unit {0}
 
   -- those that map may take do, and unmap wipes none
-  pub map-range : (P n : ℕ) (path list : List ℕ) (g word need t f : ℕ) (seen : List ℕ) → mayTake list n seen f need ≡ true
-      → Each (InRange (entries G * n)) (mapWrites G P path list g word t f need)
+  pub map-range : (area : Area) (path list : List ℕ) (g word need t f : ℕ) (seen : List ℕ) → mayTake list (total area) seen f need ≡ true
+      → Each (InRange (entries G * total area)) (mapWrites G area path list g word t f need)
   unfolding mapWrites mayTake
-  map-range P n path list g word zero t f seen e = (tt, tt)
-  map-range P n path list g word (suc need) t f seen e =
+  map-range area path list g word zero t f seen e = (tt, tt)
+  map-range area path list g word (suc need) t f seen e =
       let c = getD list (f - 1) 0 in
       let (_, e₁) = and-true (ltb 0 c) _ e in
-      let (b, e₂) = and-true (ltb c n) _ e₁ in
+      let (b, e₂) = and-true (ltb c (total area)) _ e₁ in
       let (_, e₃) = and-true (not (among c seen)) _ e₂ in
-      let l : c < n = ltb-true c n b in
-      (omega (arith, table-ends (entries G) l), (tt, map-range P n path list g word need c (f - 1) (c ∷ seen) e₃))
+      let l : c < total area = ltb-true c (total area) b in
+      (omega (arith, table-ends (entries G) l), (tt, map-range area path list g word need c (f - 1) (c ∷ seen) e₃))
 
   pub prune-range : (n : ℕ) (way path : List ℕ) (k h f : ℕ) → Each (InRange n) (pruneWrites G way path h f k)
   unfolding pruneWrites

@@ -9,6 +9,7 @@ use lib.ListN.{length, take, replicate}
 use Rattle.laws.specs.Lists.{down}
 use Rattle.laws.specs.ListLaws.{allZero-at, allZero-replicate, getD-down}
 use Rattle.path.specs.Geometry.{Granule, Sane, four}
+use Rattle.path.specs.Areas.{Area, areaOf, total, tableAt, GoodArea}
 use Rattle.path.specs.Laws.{four-sane}
 use Rattle.path.specs.Numbers.{GoodNumbers}
 use Rattle.model.specs.Answers.{Mapping, mapping, Answer, Pool, Done}
@@ -25,7 +26,7 @@ use Rattle.demand.specs.Sims.{Sim, holds-sim}
 use Rattle.demand.specs.Queries.{n, k₀, X, R, own, ledger-is, root-at}
 use Rattle.demand.specs.Maps.{own-sim}
 use Rattle.demand.specs.Theorem.{step-alike, after-sim}
-use Rattle.demand.specs.Demand3.{Call, formatC, mapC, unmapC, queryC, auditC, stepW, stepL}
+use Rattle.demand.specs.Demand3.{Call, formatC, mapC, unmapC, askC, askW, stepW, stepL}
 use Rattle.hardware.specs.Machine.{told, Stands, Reads, zerosFrom, placesFrom, accepts, tablesIn, plan, writesOf, wordsAfter, visible}
 use Rattle.hardware.specs.Machine.{AtOnce, concerns, Machine, Promise}
 use Rattle.hardware.specs.Trees.{Within, within-same}
@@ -39,27 +40,25 @@ use Rattle.hardware.specs.UnmapSeen.{unmap-seen, unmap-outside}
 
 -- the live mappings after a call, by its answer
 abbrev liveBy : List Mapping → Call → Answer → List Mapping
-liveBy L (formatC levels base tables) r = cond (accepts r) [] L
+liveBy L (formatC levels area) r = cond (accepts r) [] L
 liveBy L (mapC a b size k) r = cond (accepts r) (mapping a b size k ∷ L) L
 liveBy L (unmapC a) r = cond (accepts r) (dropAt a L) L
-liveBy L (queryC a) r = L
-liveBy L auditC r = L
+liveBy L (askC q) r = L
 
 live-by : (G : Granule) (A : Ledger) (c : Call) → stepL G A c .after .live ≡ liveBy (A .live) c (stepL G A c .answer)
-live-by G A (formatC levels base tables) = format-live G A levels base tables
+live-by G A (formatC levels area) = format-live G A levels area
 live-by G A (mapC a b size k) = map-live G A a b size k
 live-by G A (unmapC a) = unmap-live G A a
-live-by G A (queryC a) = refl
-live-by G A auditC = refl
+live-by G A (askC q) = refl
 
 module _ (G : Granule) (Z : Sane G) {p : Pool} {A : Ledger} (I : Sim G Z p A) where
   abbrev live : List Mapping
   live = map (shown G Z) (I .L)
 
   -- without a write nothing changes
-  still : (mem : ℕ → ℕ) (ws : List Write) → ws ≡ [] → Stands (p .numbers .base) (wordsAfter G p ws) mem → Reads G (p .numbers) (λ _. mem) live
+  still : (mem : ℕ → ℕ) (ws : List Write) → ws ≡ [] → Stands G (areaOf (p .numbers)) (wordsAfter G p ws) mem → Reads G (p .numbers) (λ _. mem) live
   unfolding performAll
-  still mem ws e S = at-rest G Z I mem (subst (λ (l : List Write). Stands (p .numbers .base) (wordsAfter G p l) mem) e S)
+  still mem ws e S = at-rest G Z I mem (subst (λ (l : List Write). Stands G (areaOf (p .numbers)) (wordsAfter G p l) mem) e S)
 
   idle : (One : Type 0) → Seen G p live live [] One
   idle One = record {
@@ -80,12 +79,12 @@ module _ (G : Granule) (Z : Sane G) {p : Pool} {A : Ledger} (I : Sim G Z p A) wh
   idle-or b One = subst (λ (ws : List Write). Seen G p live live ws One) (sym (no-write b)) (idle One)
 
   -- format: the words go to 0 one after the other, and with them the tree that only its root is left of
-  module _ (levels base tables : ℕ) (N : GoodNumbers G levels base tables (length (p .words)) (length (p .list))) where
+  module _ (levels : ℕ) (area : Area) (N : GoodNumbers G levels area (length (p .words)) (length (p .list))) where
     abbrev zeros : List ℕ
     zeros = replicate (length (p .words)) 0
 
     abbrev ws : List Write
-    ws = zerosFrom 0 (length (p .words)) ++ placesFrom 0 tables
+    ws = zerosFrom 0 (length (p .words)) ++ placesFrom 0 (total area)
 
     some : 0 < n G Z I
     some = I .good .numbers .some-table
@@ -129,12 +128,12 @@ module _ (G : Granule) (Z : Sane G) {p : Pool} {A : Ledger} (I : Sim G Z p A) wh
 
     clears : Each Clears ws
     clears =
-        each-append Clears (zerosFrom 0 (length (p .words))) (placesFrom 0 tables)
-        (each-zeros Clears 0 (length (p .words)) (λ j _ _. refl)) (places-clear tables 0)
+        each-append Clears (zerosFrom 0 (length (p .words))) (placesFrom 0 (total area))
+        (each-zeros Clears 0 (length (p .words)) (λ j _ _. refl)) (places-clear (total area) 0)
 
     sound : Each (Sound (p .words) zeros) ws
     sound =
-        subst (λ (z : List ℕ). Each (Sound (p .words) z) ws) (ap (λ (m : Memory). m .words) (format-carries G p levels base tables _ (format-clears N)))
+        subst (λ (z : List ℕ). Each (Sound (p .words) z) ws) (ap (λ (m : Memory). m .words) (format-carries G p levels area _ (format-clears N)))
         (clears-sound G (p .words) ws clears (memory (p .words) (p .list)))
 
     format-seen : Seen G p live [] ws ⊥
@@ -149,10 +148,10 @@ module _ (G : Granule) (Z : Sane G) {p : Pool} {A : Ledger} (I : Sim G Z p A) wh
   By c d = Seen G p live (liveBy live c (d .answer)) (cond (accepts (d .answer)) (plan G p c (tablesIn (d .answer))) []) (AtOnce c)
 
   seen : (c : Call) → By c (stepW G p c)
-  seen (formatC levels base tables) = go (stepW G p (formatC levels base tables)) (format-view G p levels base tables)
+  seen (formatC levels area) = go (stepW G p (formatC levels area)) (format-view G p levels area)
     where
-      go : (d : Done) → FormatView G p levels base tables d → By (formatC levels base tables) d
-      go d (format-clears N) = format-seen levels base tables N
+      go : (d : Done) → FormatView G p levels area d → By (formatC levels area) d
+      go d (format-clears N) = format-seen levels area N
       go d format-refuses = idle ⊥
   seen (mapC a b size k) = go (stepW G p (mapC a b size k)) (map-view G p a b size k)
     where
@@ -164,13 +163,12 @@ module _ (G : Granule) (Z : Sane G) {p : Pool} {A : Ledger} (I : Sim G Z p A) wh
       go : (d : Done) → UnmapView G p a d → By (unmapC a) d
       go d (unmap-gives b k Y) = unmap-seen G Z I a b k Y (Unit {0})
       go d (unmap-refuses j) = idle (Unit {0})
-  seen (queryC a) = idle-or (accepts (stepW G p (queryC a) .answer)) (Unit {0})
-  seen auditC = idle-or (accepts (stepW G p auditC .answer)) (Unit {0})
+  seen (askC q) = idle-or (accepts (askW G p q)) (Unit {0})
 
   -- and outside the mapping concerned
   elsewhere : (c : Call) (x : ℕ) → concerns (own G Z I) c x ≡ false → told (liveBy live c (stepW G p c .answer)) x ≡ told live x
   unfolding coverOf
-  elsewhere (formatC levels base tables) x e = let z : _≡_ {A = ℕ} 0 1 = cc in absurd (omega arith)
+  elsewhere (formatC levels area) x e = let z : _≡_ {A = ℕ} 0 1 = cc in absurd (omega arith)
   elsewhere (mapC a b size k) x e = go (accepts (stepW G p (mapC a b size k) .answer))
     where
       go : (y : Bool) → told (cond y (mapping a b size k ∷ live) live) x ≡ told live x
@@ -181,8 +179,7 @@ module _ (G : Granule) (Z : Sane G) {p : Pool} {A : Ledger} (I : Sim G Z p A) wh
       go : (d : Done) → UnmapView G p a d → told (cond (accepts (d .answer)) (dropAt a live) live) x ≡ told live x
       go d (unmap-gives b k Y) = unmap-outside G Z I a b k Y x e
       go d (unmap-refuses j) = refl
-  elsewhere (queryC a) x e = refl
-  elsewhere auditC x e = refl
+  elsewhere (askC q) x e = refl
 
   -- the ledger's mappings after the call
   after-is : (c : Call) → liveBy live c (stepW G p c .answer) ≡ stepL G (own G Z I) c .after .live

@@ -9,6 +9,7 @@ use native.Mathlib.Nat.{mod-lt}
 use native.Mathlib.Omega.{arith}
 use lib.ListN.{getD, take}
 use Rattle.path.specs.Geometry.{Granule, Sane, entries, spaceOf}
+use Rattle.path.specs.Areas.{Area, areaOf, total, tableAt, GoodArea}
 use Rattle.path.specs.Laws.{entries-pos}
 use Rattle.path.specs.Paths.{pathOf}
 use Rattle.entry.specs.Words.{frameWord}
@@ -31,7 +32,7 @@ use Rattle.demand.specs.Memories.{readAt}
 use Rattle.demand.specs.Walks.{Ended, spot, wayAt}
 use Rattle.demand.specs.Carried.{A}
 use Rattle.demand.specs.Sims.{Sim}
-use Rattle.demand.specs.Queries.{P, n, k₀, al, X, R, few, walk-ended, entry-frame}
+use Rattle.demand.specs.Queries.{area, n, k₀, al, X, R, few, walk-ended, entry-frame}
 use Rattle.demand.specs.Unmaps.{low, way-is, loose, carried, dropped}
 use Rattle.demand.specs.Theorem.{in-space}
 use Rattle.hardware.specs.Machine.{told, heldBy, Stands, Reads, singles, wordsAfter}
@@ -77,7 +78,7 @@ module _ (G : Granule) (Z : Sane G) {p : Pool} {B : Ledger} (I : Sim G Z p B) (a
   here : a < spaceOf G top
   here = in-space G Z I a (Y .tests)
 
-  E : Ended G Z (P G Z I) (n G Z I) top (al G Z I) (few G Z I) (p .words) (R G Z I) a 0 (k₀ G Z I) o
+  E : Ended G Z (area G Z I) top (al G Z I) (few G Z I) (p .words) (R G Z I) a 0 (k₀ G Z I) o
   E = walk-ended G Z I 0 a (omega arith) here
 
   -- the frame that goes
@@ -99,7 +100,7 @@ module _ (G : Granule) (Z : Sane G) {p : Pool} {B : Ledger} (I : Sim G Z p B) (a
   new = performAll G planned m₀ .words
 
   abbrev Tables : Store (X G Z I)
-  Tables = A G Z (P G Z I) (n G Z I) top (al G Z I)
+  Tables = A G Z (area G Z I) top (al G Z I)
 
   abbrev way : ℕ → ℕ
   way = wayAt (o .tables)
@@ -173,7 +174,7 @@ module _ (G : Granule) (Z : Sane G) {p : Pool} {B : Ledger} (I : Sim G Z p B) (a
       let l = low G Z I a here in
       let w = ap (λ (j : ℕ). getD (o .tables) j 0) (let z : 3 - h ≡ 4 - suc h = omega (arith, few G Z I, l) in z) in
       let e : atHeight (o .tables) h ≡ u = w ∙ way-is G Z I a here (suc h) (omega arith) l in
-      let q = spot G Z (P G Z I) (n G Z I) top (al G Z I) (few G Z I) (p .words) (R G Z I) a h (omega (arith, few G Z I, l)) in
+      let q = spot G Z (area G Z I) top (al G Z I) (few G Z I) (p .words) (R G Z I) a h (omega (arith, few G Z I, l)) in
       λ j. slot G (e j) (q j)
 
   -- after the first write it is 0
@@ -185,12 +186,12 @@ module _ (G : Granule) (Z : Sane G) {p : Pool} {B : Ledger} (I : Sim G Z p B) (a
 
   -- ---- what the hardware reads
 
-  until : (j : ℕ) → j ≤ 0 → (mem : ℕ → ℕ) → Stands (P G Z I) (wordsAfter G p (take j ws)) mem → Reads G (p .numbers) (λ _. mem) live
+  until : (j : ℕ) → j ≤ 0 → (mem : ℕ → ℕ) → Stands G (area G Z I) (wordsAfter G p (take j ws)) mem → Reads G (p .numbers) (λ _. mem) live
   unfolding performAll
   until zero l mem S = at-rest G Z I mem S
   until (suc j) l mem S = absurd (omega arith)
 
-  since : (j : ℕ) → 0 < j → (mem : ℕ → ℕ) → Stands (P G Z I) (wordsAfter G p (take j ws)) mem
+  since : (j : ℕ) → 0 < j → (mem : ℕ → ℕ) → Stands G (area G Z I) (wordsAfter G p (take j ws)) mem
       → Reads G (p .numbers) (λ _. mem) (map (shown G Z) L′)
   since zero l mem S = absurd (omega arith)
   since (suc j) l mem S =

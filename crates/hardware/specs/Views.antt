@@ -11,20 +11,21 @@ use borrow.Author.Tests.{ltb-false, eqb-true}
 use Rattle.laws.specs.Lists.{zeroed, down}
 use Rattle.laws.specs.ListLaws.{zeroed-is}
 use Rattle.path.specs.Geometry.{Granule, entries, sizeAt, heightOf}
-use Rattle.path.specs.Numbers.{goodNumbers, GoodNumbers}
+use Rattle.path.specs.Areas.{Area, areaOf, total, tableAt, GoodArea}
+use Rattle.path.specs.Numbers.{noSetup, setupOf, goodNumbers, GoodNumbers}
 use Rattle.path.specs.Laws.{good-numbers, good-setup}
 use Rattle.path.specs.Paths.{pathOf}
 use Rattle.entry.specs.Words.{frameWord}
 use Rattle.entry.specs.declared.Entry.{Entry}
 use Rattle.entry.specs.declared.Entry.the-variants.{Empty, Table, Frame, Damaged}
 use Rattle.model.specs.declared.Walked.{Walked}
-use Rattle.model.specs.Answers.{Mapping, mapping, formatted, took, gave, refused, Pool, pool, setup, Done, done, refuse}
+use Rattle.model.specs.Answers.{Mapping, mapping, formatted, took, gave, refused, Pool, pool, Done, done, refuse}
 use Rattle.model.specs.Walk.{atHeight}
 use Rattle.model.specs.Writes.{Write, memory, performAll, mapWrites, mayTake, freed, unmapWrites}
 use Rattle.model.specs.Calls.{goodPool, written, walkTo, formatW, mapTests, mapHere, mapAt, mapW, unmapTests, unmapHere, unmapAt, unmapW}
 use Rattle.model.specs.Ledger.{Ledger, ledger, withLive, anyOverlap, coverOf, dropAt, freeTables, tablesLacking}
 use Rattle.model.specs.Ledger.{Entered, entered, formatL, mapL, unmapOf, unmapL}
-use Rattle.demand.specs.Demand3.{Call, formatC, mapC, unmapC, queryC, auditC, goOn, stepW}
+use Rattle.demand.specs.Demand3.{Call, formatC, mapC, unmapC, askC, askW, goOn, stepW}
 use Rattle.hardware.specs.Machine.{zerosFrom, placesFrom, accepts, tablesIn, plan, writesOf}
 use Rattle.hardware.specs.Plans.{Each, InRange, perform-append, zeros-carried, singles-carried, places-carried, map-range, prune-range}
 
@@ -59,7 +60,7 @@ module _ (G : Granule) (p : Pool) where
 
     abbrev planned : List Write
     planned =
-        mapWrites G (p .numbers .base) (pathOf G a) (p .list) g (frameWord b g k) (atHeight (o .tables) (o .left)) f need
+        mapWrites G (areaOf (p .numbers)) (pathOf G a) (p .list) g (frameWord b g k) (atHeight (o .tables) (o .left)) f need
 
     -- an accepted map: no test refuses, the walk ended at an empty entry, and there are tables to take
     pub record Took : Type 0 where
@@ -67,7 +68,7 @@ module _ (G : Granule) (p : Pool) where
       pub tests : mapTests G (p .numbers .levels) a b size k ≡ 0
       pub vacant : o .entry ≡ Empty
       pub room : need ≤ f
-      pub may : mayTake (p .list) (p .numbers .tables) (o .tables) f need ≡ true
+      pub may : mayTake (p .list) (total (areaOf (p .numbers))) (o .tables) f need ≡ true
 
     abbrev taking : Done
     taking = done (took need) (written G p planned (f - need))
@@ -85,7 +86,7 @@ module _ (G : Granule) (p : Pool) where
         no = mapTests G (p .numbers .levels) a b size k
 
         may : Bool
-        may = mayTake (p .list) (p .numbers .tables) (o .tables) f need
+        may = mayTake (p .list) (total (areaOf (p .numbers))) (o .tables) f need
 
         last : goodPool G p ≡ true → no ≡ 0 → o .entry ≡ Empty → need ≤ f → (y : Bool) → may ≡ y → MapView (cond y taking (refuse 8 p))
         last q r e l true s = map-takes (record { good = q; tests = r; vacant = e; room = l; may = s })
@@ -115,7 +116,7 @@ module _ (G : Granule) (p : Pool) where
     map-carries d (map-takes T) =
         let long = sym (good-setup (T .good) .numbers .words-are) in
         singles-carried G planned (memory (p .words) (p .list))
-        (subst (λ (n : ℕ). Each (InRange G n) planned) long (map-range G (p .numbers .base) (p .numbers .tables) (pathOf G a) (p .list) g (frameWord b g k) need _ f (o .tables) (T .may)))
+        (subst (λ (n : ℕ). Each (InRange G n) planned) long (map-range G (areaOf (p .numbers)) (pathOf G a) (p .list) g (frameWord b g k) need _ f (o .tables) (T .may)))
     map-carries d (map-refuses n) = refl
 
   -- ---- unmap
@@ -160,7 +161,7 @@ module _ (G : Granule) (p : Pool) where
         start : (b k : ℕ) → goodPool G p ≡ true → no ≡ 0 → o₀ .entry ≡ Frame b k → (y : Bool) → eqb (a % sizeAt G (o₀ .left)) 0 ≡ y
             → UnmapView (cond y (unmapHere G p a b k o₀ given) (refuse 10 p))
         start b k q r e true s =
-            room b k (record { good = q; tests = r; framed = e; starts = eqb-true _ 0 s }) (ltb (p .numbers .tables - 1) (f + given))
+            room b k (record { good = q; tests = r; framed = e; starts = eqb-true _ 0 s }) (ltb (total (areaOf (p .numbers)) - 1) (f + given))
         start b k q r e false s = unmap-refuses 10
 
         at : goodPool G p ≡ true → no ≡ 0 → (e : Entry) → o₀ .entry ≡ e → UnmapView (unmapAt G p a o₀ e)
@@ -185,26 +186,26 @@ module _ (G : Granule) (p : Pool) where
 
   -- ---- format
 
-  module _ (levels base tables : ℕ) where
+  module _ (levels : ℕ) (area : Area) where
     abbrev zeros : List ℕ
     zeros = replicate (length (p .words)) 0
 
     abbrev formatting : Done
-    formatting = done formatted (pool (setup levels base tables (tables - 1)) zeros (down tables))
+    formatting = done formatted (pool (setupOf levels area (total area - 1)) zeros (down (total area)))
 
     -- what a format comes to
     pub data FormatView : Done → Type 0 where
-      format-clears : GoodNumbers G levels base tables (length (p .words)) (length (p .list)) → FormatView formatting
+      format-clears : GoodNumbers G levels area (length (p .words)) (length (p .list)) → FormatView formatting
       format-refuses : FormatView (done (refused 1) p)
 
-    pub format-view : FormatView (stepW G p (formatC levels base tables))
+    pub format-view : FormatView (stepW G p (formatC levels area))
     unfolding formatW
-    format-view = go (goodNumbers G levels base tables (length (p .words)) (length (p .list))) refl
+    format-view = go (goodNumbers G levels area (length (p .words)) (length (p .list))) refl
       where
         came : Bool → Done
-        came y = cond y formatting (refuse 1 (pool (setup 0 0 0 0) (p .words) (p .list)))
+        came y = cond y formatting (refuse 1 (pool noSetup (p .words) (p .list)))
 
-        go : (y : Bool) → goodNumbers G levels base tables (length (p .words)) (length (p .list)) ≡ y → FormatView (goOn p (came y) (came y .answer))
+        go : (y : Bool) → goodNumbers G levels area (length (p .words)) (length (p .list)) ≡ y → FormatView (goOn p (came y) (came y .answer))
         go true e = format-clears (good-numbers e)
         go false e = format-refuses
 
@@ -214,25 +215,23 @@ module _ (G : Granule) (p : Pool) where
         ∙ ap (λ (l : List ℕ). zeros ++ l) (drop-of-length-le (p .words) {i = length (p .words)} (omega arith))
         ∙ append-nil zeros
 
-    pub format-carries : (d : Done) → FormatView d → Carries G p (formatC levels base tables) d
+    pub format-carries : (d : Done) → FormatView d → Carries G p (formatC levels area) d
     unfolding performAll
     format-carries d (format-clears N) =
         let first = zeros-carried G (length (p .words)) 0 (p .words) (p .list) (omega arith) ∙ ap (λ (ws : List ℕ). memory ws (p .list)) all-zero in
-        perform-append G (zerosFrom 0 (length (p .words))) (placesFrom 0 tables) (memory (p .words) (p .list))
-        ∙ ap (performAll G (placesFrom 0 tables)) first
-        ∙ places-carried G tables 0 zeros (p .list) (omega (arith, N .places-are))
+        perform-append G (zerosFrom 0 (length (p .words))) (placesFrom 0 (total area)) (memory (p .words) (p .list))
+        ∙ ap (performAll G (placesFrom 0 (total area))) first
+        ∙ places-carried G (total area) 0 zeros (p .list) (omega (arith, N .places-are))
     format-carries d format-refuses = refl
 
   -- a call's single writes are what it does to the lent memory, whatever the pool
   pub writes-carried : (c : Call)
       → performAll G (writesOf G p c) (memory (p .words) (p .list)) ≡ memory (stepW G p c .after .words) (stepW G p c .after .list)
   unfolding performAll
-  writes-carried (formatC levels base tables) = format-carries levels base tables _ (format-view levels base tables)
+  writes-carried (formatC levels area) = format-carries levels area _ (format-view levels area)
   writes-carried (mapC a b size k) = map-carries a b size k _ (map-view a b size k)
   writes-carried (unmapC a) = unmap-carries a _ (unmap-view a)
-  writes-carried (queryC a) =
-      ap (λ (ws : List Write). performAll G ws (memory (p .words) (p .list))) (no-write (accepts (stepW G p (queryC a) .answer)))
-  writes-carried auditC = ap (λ (ws : List Write). performAll G ws (memory (p .words) (p .list))) (no-write (accepts (stepW G p auditC .answer)))
+  writes-carried (askC q) = ap (λ (ws : List Write). performAll G ws (memory (p .words) (p .list))) (no-write (accepts (askW G p q)))
 
 -- ---- the ledger after a call, by its answer
 
@@ -297,8 +296,8 @@ module _ (G : Granule) (A : Ledger) where
           let given = freeTables G B - freeTables G A in
           by A M (eqb (m .at) a) (entered (gave (m .frame) (m .size) (m .attributes) given) B) (entered (refused 10) A) refl refl
 
-  pub format-live : (levels base tables : ℕ) → By A [] (formatL G A levels base tables)
+  pub format-live : (levels : ℕ) (area : Area) → By A [] (formatL G A levels area)
   unfolding formatL
-  format-live levels base tables =
-      let good = goodNumbers G levels base tables (entries G * A .tables) (A .tables) in
-      by A [] good (entered formatted (ledger levels base tables [])) (entered (refused 1) A) refl refl
+  format-live levels area =
+      let good = goodNumbers G levels area (entries G * total (A .area)) (total (A .area)) in
+      by A [] good (entered formatted (ledger levels area [])) (entered (refused 1) A) refl refl

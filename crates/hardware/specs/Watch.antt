@@ -11,6 +11,7 @@ use native.Mathlib.Decide.{ℕ-discrete}
 use lib.ListN.{length}
 use lib.Pow.{pow-add}
 use Rattle.path.specs.Geometry.{Granule, Sane, pageSize, entries}
+use Rattle.path.specs.Areas.{Area, areaOf, total, tableAt, GoodArea}
 use Rattle.model.specs.Answers as answers
 use Rattle.model.specs.Answers.{Pool}
 use Rattle.model.specs.Walk.{slot}
@@ -23,7 +24,7 @@ use Rattle.tree.specs.Ledger.{lookup}
 use Rattle.demand.specs.Shown.{shown, pg, cover-lookup}
 use Rattle.demand.specs.Memories.{readAt, in-table}
 use Rattle.demand.specs.Sims.{Sim}
-use Rattle.demand.specs.Queries.{P, n, X, R}
+use Rattle.demand.specs.Queries.{area, n, X, R}
 use Rattle.hardware.specs.Machine.{Translation, saysOf, told, Stands, Reads, wordsAfter, visible, Switch, AnyOrder, Overtaken}
 use Rattle.hardware.specs.Trees.{Within, within-same}
 use Rattle.hardware.specs.Mixed.{place, Mixture, each-address, all-addresses}
@@ -34,10 +35,6 @@ pub record Seen (G : Granule) (p : Pool) (L L′ : List answers.Mapping) (ws : L
   pub each-write : One → Switch G p L L′ ws
   pub any-order : One → AnyOrder G p L L′ ws
   pub overtaken : Overtaken G p L L′ ws
-
--- a table takes a page, eight bytes for a word
-page-words : (G : Granule) → Sane G → pageSize G ≡ 8 * entries G
-page-words G Z = ap (λ (x : ℕ). 2 ^ x) (sym (Z .table-page)) ∙ pow-add 2 (G .index) 3 ∙ mul-comm (entries G) 8
 
 module _ (G : Granule) (Z : Sane G) where
   abbrev K : ℕ
@@ -81,22 +78,19 @@ module _ (G : Granule) (Z : Sane G) where
     live = map (shown G Z) (I .L)
 
     -- in a memory that holds words, each word of a table
-    pub word-at : (ws : List ℕ) → length ws ≡ length old → (mem : ℕ → ℕ) → Stands (P G Z I) ws mem
+    pub word-at : (ws : List ℕ) → length ws ≡ length old → (mem : ℕ → ℕ) → Stands G (area G Z I) ws mem
         → (t i : ℕ) → t < n G Z I → i < K → mem (place G Z I t + 8 * i) ≡ readAt G ws t i
-    word-at ws k mem S t i l b = ap mem address ∙ S (slot G t i) (omega (arith, k, I .good .numbers .words-are, in-table K l b))
-      where
-        address : place G Z I t + 8 * i ≡ P G Z I + 8 * slot G t i
-        address = omega (arith, ap (λ (x : ℕ). x * t) (page-words G Z), mul-assoc 8 K t)
+    word-at ws k mem S t i l b = S t i l b
 
     -- at rest, words that render a tree are read as its ledger says
     pub reads-rest : (ws : List ℕ) → length ws ≡ length old → {T : ℕ → ℕ → ℕ} {S : ℕ → ℕ → Ent} {L : List Mapping}
         → Rendered (X G Z I) (readAt G ws) T S → Holds S L
-        → (mem : ℕ → ℕ) → Stands (P G Z I) ws mem → Reads G (p .numbers) (λ _. mem) (map (shown G Z) L)
+        → (mem : ℕ → ℕ) → Stands G (area G Z I) ws mem → Reads G (p .numbers) (λ _. mem) (map (shown G Z) L)
     reads-rest ws k R₁ H₁ mem S a =
         ⊎-elim (λ e. e) (λ e. e)
         (each-address G Z I R₁ H₁ R₁ H₁ within-same (λ _. mem) (λ h t i l b. inl (word-at ws k mem S t i l b)) a)
 
-    pub at-rest : (mem : ℕ → ℕ) → Stands (P G Z I) old mem → Reads G (p .numbers) (λ _. mem) live
+    pub at-rest : (mem : ℕ → ℕ) → Stands G (area G Z I) old mem → Reads G (p .numbers) (λ _. mem) live
     at-rest mem S = reads-rest old refl (R G Z I) (I .inv .holds) mem S
 
     -- ---- single writes ws, each of a word as it was or as it will be; in the end the words are `new`, of another tree
@@ -108,13 +102,13 @@ module _ (G : Granule) (Z : Sane G) where
 
       -- memories that hold the words after some of them are a mixture
       mixed : (part : ℕ → List Write) → ((h : ℕ) → Each (Sound old new) (part h)) → (mem : ℕ → ℕ → ℕ)
-          → ((h : ℕ) → Stands (P G Z I) (wordsAfter G p (part h)) (mem h)) → Mixture G Z I (readAt G old) (readAt G new) mem
+          → ((h : ℕ) → Stands G (area G Z I) (wordsAfter G p (part h)) (mem h)) → Mixture G Z I (readAt G old) (readAt G new) mem
       mixed part e mem S h t i l b =
           let q = word-at (wordsAfter G p (part h)) (performed-length G (part h) (memory old (p .list))) (mem h) (S h) t i l b in
           ⊎-elim (λ z. inl (q ∙ z)) (λ z. inr (q ∙ z)) (between G old new (part h) (e h) (memory old (p .list)) (λ j. inl refl) (slot G t i))
 
       mixed-visible : (seen : ℕ → List Bool) (mem : ℕ → ℕ → ℕ)
-          → ((h : ℕ) → Stands (P G Z I) (wordsAfter G p (visible (seen h) ws)) (mem h)) → Mixture G Z I (readAt G old) (readAt G new) mem
+          → ((h : ℕ) → Stands G (area G Z I) (wordsAfter G p (visible (seen h) ws)) (mem h)) → Mixture G Z I (readAt G old) (readAt G new) mem
       mixed-visible seen mem S = mixed (λ h. visible (seen h) ws) (λ h. each-visible (Sound old new) (seen h) ws sound) mem S
 
       turned : (mem : ℕ → ℕ → ℕ) → Mixture G Z I (readAt G old) (readAt G new) mem → Mixture G Z I (readAt G new) (readAt G old) mem
@@ -129,7 +123,7 @@ module _ (G : Granule) (Z : Sane G) where
         module _ (g v x : ℕ) (more : S′ g (anc K g v) ≡ frame x)
             (others : (a : ℕ) → anc K g (pg G Z a) ≢ anc K g v → told live a ≡ told live′ a) where
           -- after some of the writes all read as before, or all as after; and then the frame's word is there
-          pub part-up : (xs : List Write) → Each (Sound old new) xs → (mem : ℕ → ℕ) → Stands (P G Z I) (wordsAfter G p xs) mem
+          pub part-up : (xs : List Write) → Each (Sound old new) xs → (mem : ℕ → ℕ) → Stands G (area G Z I) (wordsAfter G p xs) mem
               → Reads G (p .numbers) (λ _. mem) live
               ⊎ (Reads G (p .numbers) (λ _. mem) live′
               × (let t = T′ (suc g) (anc K (suc g) v) in mem (place G Z I t + 8 * (anc K g v % K)) ≡ readAt G new t (anc K g v % K)))
@@ -152,7 +146,7 @@ module _ (G : Granule) (Z : Sane G) where
         module _ (g v x : ℕ) (more : I .S g (anc K g v) ≡ frame x)
             (others : (a : ℕ) → anc K g (pg G Z a) ≢ anc K g v → told live′ a ≡ told live a) where
           -- after some of the writes all read as after, or all as before; and then the frame's word is still there
-          pub part-down : (xs : List Write) → Each (Sound old new) xs → (mem : ℕ → ℕ) → Stands (P G Z I) (wordsAfter G p xs) mem
+          pub part-down : (xs : List Write) → Each (Sound old new) xs → (mem : ℕ → ℕ) → Stands G (area G Z I) (wordsAfter G p xs) mem
               → Reads G (p .numbers) (λ _. mem) live′
               ⊎ (Reads G (p .numbers) (λ _. mem) live
               × (let t = I .T (suc g) (anc K (suc g) v) in mem (place G Z I t + 8 * (anc K g v % K)) ≡ readAt G old t (anc K g v % K)))

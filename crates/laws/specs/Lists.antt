@@ -1,7 +1,7 @@
 -- Lists of numbers: parts, zeros, members.
 use Prim.Native.Nat.{ℕ, zero, suc, _+_, _*_, _-_}
 use mathlib.Core.Bool.{Bool, true, false, cond, _&&_, _||_, not}
-use mathlib.Core.List.{List, [], _∷_, _++_}
+use mathlib.Core.List.{List, [], _∷_, _++_, List·Memᴰ}
 use lib.ListN.{length, take, drop, replicate}
 use lib.Dec.{eqb, leb}
 
@@ -32,3 +32,8 @@ distinct (x ∷ xs) = not (among x xs) && distinct xs
 unfoldable pub down : ℕ → List ℕ
 down zero = []
 down (suc n) = n ∷ down n
+
+-- no member of a list stands twice
+abbrev pub Distinct : {A : Type 0} → List A → Type 0
+Distinct [] = Unit {0}
+Distinct (x ∷ l) = (List·Memᴰ x l → ⊥) × Distinct l

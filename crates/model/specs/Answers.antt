@@ -1,9 +1,12 @@
 -- Pools, answers, and the paper's number and values for each case of an answer.
 use Prim.Native.Nat.{ℕ}
-use mathlib.Core.List.{List}
+use mathlib.Core.List.{List, [], _∷_}
 use Rattle.path.specs.declared.Setup.{Setup}
 use Rattle.model.specs.declared.FormatAnswer.{FormatAnswer}
 use Rattle.model.specs.declared.FormatAnswer.the-variants as F
+use Rattle.model.specs.declared.Formatted.{Formatted}
+use Rattle.model.specs.declared.Mapped.{Mapped}
+use Rattle.model.specs.declared.Unmapped.{Unmapped}
 use Rattle.model.specs.declared.MapAnswer.{MapAnswer}
 use Rattle.model.specs.declared.MapAnswer.the-variants as M
 use Rattle.model.specs.declared.UnmapAnswer.{UnmapAnswer}
@@ -23,19 +26,33 @@ pub record Mapping : Type 0 where
 abbrev pub mapping : ℕ → ℕ → ℕ → ℕ → Mapping
 mapping a b s k = record { at = a; frame = b; size = s; attributes = k }
 
--- what a call can answer
+-- what a call can answer: its values, or a refusal's number with what goes with it
 pub data Answer : Type 0 where
-  formatted : Answer
-  -- map: the tables taken
-  took : ℕ → Answer
-  -- unmap: the frame removed (base, size, attributes) and the tables given back
-  gave : ℕ → ℕ → ℕ → ℕ → Answer
-  -- query: the mapping
-  found : Mapping → Answer
-  -- audit: the reached tables and the mappings
-  audited : ℕ → ℕ → Answer
-  -- a refusal, by its number
-  refused : ℕ → Answer
+  answered : List ℕ → Answer
+  refusal : ℕ → List ℕ → Answer
+
+abbrev pub formatted : Answer
+formatted = answered []
+
+-- map: the tables taken
+abbrev pub took : ℕ → Answer
+took t = answered (t ∷ [])
+
+-- unmap: the frame removed (base, size, attributes) and the tables given back
+abbrev pub gave : ℕ → ℕ → ℕ → ℕ → Answer
+gave b s k t = answered (b ∷ s ∷ k ∷ t ∷ [])
+
+-- query: the mapping
+abbrev pub found : Mapping → Answer
+found m = answered (m .at ∷ m .frame ∷ m .size ∷ m .attributes ∷ [])
+
+-- audit: the reached tables and the mappings
+abbrev pub audited : ℕ → ℕ → Answer
+audited t m = answered (t ∷ m ∷ [])
+
+-- a refusal with its number and nothing more
+abbrev pub refused : ℕ → Answer
+refused k = refusal k []
 
 -- the paper's answer for each case of the code's answers
 abbrev pub saysFormat : FormatAnswer → Answer
@@ -58,13 +75,6 @@ abbrev pub saysAudit : AuditAnswer → Answer
 saysAudit (A.Sound t m) = audited t m
 saysAudit (A.Refused k) = refused k
 
-abbrev pub setup : ℕ → ℕ → ℕ → ℕ → Setup
-setup l b t f = record { levels = l; base = b; tables = t; free = f }
-
--- the setup numbers with another free count
-abbrev pub withFree : Setup → ℕ → Setup
-withFree s f = setup (s .levels) (s .base) (s .tables) f
-
 -- setup numbers, table words and free list
 pub record Pool : Type 0 where
   pub numbers : Setup
@@ -81,6 +91,16 @@ pub record Done : Type 0 where
 
 abbrev pub done : Answer → Pool → Done
 done a p = record { answer = a; after = p }
+
+-- what format, map and unmap did, by the record that the code hands back and the lent memory at its end
+abbrev pub formatDid : Formatted → List ℕ → List ℕ → Done
+formatDid r words list = done (saysFormat (r .answer)) (pool (r .setup) words list)
+
+abbrev pub mapDid : Mapped → List ℕ → List ℕ → Done
+mapDid r words list = done (saysMap (r .answer)) (pool (r .setup) words list)
+
+abbrev pub unmapDid : Unmapped → List ℕ → List ℕ → Done
+unmapDid r words list = done (saysUnmap (r .answer)) (pool (r .setup) words list)
 
 -- a refusal leaves everything as it was
 abbrev pub refuse : ℕ → Pool → Done

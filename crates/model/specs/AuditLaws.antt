@@ -2,7 +2,7 @@
 use Prim.Native.Nat.{ℕ, zero, suc, _+_, _-_, _<_}
 use mathlib.Core.Path.{_≡_, refl, sym, ap, subst, _∙_}
 use mathlib.Core.Logic.{_↔_, _≢_, _⊎_, ⊎-elim}
-use mathlib.Core.Bool.{Bool, true, false, cond, _||_, not, true≢false, false≢true, and-eq-true-iff}
+use mathlib.Core.Bool.{Bool, true, false, cond, _&&_, _||_, not, true≢false, false≢true, and-eq-true-iff}
 use mathlib.Core.List.{List, [], _∷_, _++_, List·Memᴰ·head as here, List·Memᴰ·tail as there, List·Memᴰ·not-nil, List·Memᴰ·cases-cons, List·Memᴰ·append-cases, Memᴰ·append-left, Memᴰ·append-right}
 use native.Mathlib.Numerals.{sub-one}
 use native.Mathlib.Decide.{decLt}
@@ -10,20 +10,21 @@ use native.Mathlib.Omega.{arith}
 use lib.Dec.{eqb, ltb}
 use lib.ListN.{length, getD, take, drop, replicate, length-replicate, take-append-drop, List·getD-eq-default}
 use borrow.Author.Tests.{eq-eqb, eqb-true, eqb-false, lt-ltb, ltb-true}
-use Rattle.laws.specs.Lists.{part, allZero, distinct, down}
+use Rattle.laws.specs.Lists.{part, allZero, distinct, down, Distinct}
 use Rattle.laws.specs.ListLaws.{length-part-le, getD-part, allZero-at, allZero-replicate, allZero-part-at, allZero-part-of, mem-at, at-mem, distinct-head, distinct-tail, distinct-cons, distinct-append, distinct-left, distinct-right, distinct-apart, length-down, distinct-down}
 use Rattle.path.specs.Geometry.{Granule, Sane, entries}
-use Rattle.path.specs.Numbers.{goodNumbers, GoodNumbers}
+use Rattle.path.specs.Areas.{Area, areaOf, total}
+use Rattle.path.specs.Numbers.{noSetup, setupOf, goodNumbers, GoodNumbers}
 use Rattle.path.specs.Laws.{good-numbers, good-setup, setup-good}
 use Rattle.entry.specs.Words.{entryAt}
 use Rattle.entry.specs.Laws.{entry-zero, table-only}
 use Rattle.entry.specs.declared.Entry.{Entry}
 use Rattle.entry.specs.declared.Entry.the-variants.{Empty, Table, Frame, Damaged}
-use Rattle.model.specs.Answers.{formatted, audited, refused, setup, Pool, pool, Done, done, refuse}
+use Rattle.model.specs.Answers.{formatted, audited, refused, Pool, pool, Done, done, refuse}
 use Rattle.model.specs.Walk.{slot}
 use Rattle.model.specs.Calls.{goodPool, formatW}
 use Rattle.model.specs.Audit.{Found, nothing, _⊕_, tableWords, ofEntry, ofEntries, ofVisit, ofTable, ofPool, freeOf, freeSound, soundPool, auditW}
-use Rattle.model.specs.Sound.{Each, Distinct, wordAt, SoundEntry, SoundTable, EmptyTable, reachedOf, mappingsOf, SoundPool}
+use Rattle.model.specs.Sound.{Each, wordAt, SoundEntry, SoundTable, EmptyTable, reachedOf, mappingsOf, SoundPool}
 
 -- ---- each member of a list
 
@@ -86,7 +87,7 @@ module _ (G : Granule) (ws : List ℕ) (t : ℕ) where
   zero-some f = allZero-part-of ws (slot G t 0) (entries G) (λ i l. word-part G ws t i ∙ f i l)
 
   -- the visit's test: not empty, unless it is the root
-  visit-back : ofVisit (tableWords G ws t) t .ok ≡ true → t ≢ 0 → EmptyTable G ws t → ⊥
+  visit-back : ofVisit (tableWords G ws t) t .full ≡ true → t ≢ 0 → EmptyTable G ws t → ⊥
   visit-back e n z = go (eqb t 0) (allZero (tableWords G ws t)) refl refl e
     where
       go : (a b : Bool) → eqb t 0 ≡ a → allZero (tableWords G ws t) ≡ b → (a || not b) ≡ true → ⊥
@@ -94,7 +95,7 @@ module _ (G : Granule) (ws : List ℕ) (t : ℕ) where
       go false true p q e = false≢true e
       go false false p q e = true≢false (sym (zero-some z) ∙ q)
 
-  visit-some : (t ≢ 0 → EmptyTable G ws t → ⊥) → ofVisit (tableWords G ws t) t .ok ≡ true
+  visit-some : (t ≢ 0 → EmptyTable G ws t → ⊥) → ofVisit (tableWords G ws t) t .full ≡ true
   visit-some f = go (eqb t 0) (allZero (tableWords G ws t)) refl refl
     where
       go : (a b : Bool) → eqb t 0 ≡ a → allZero (tableWords G ws t) ≡ b → (a || not b) ≡ true
@@ -105,105 +106,151 @@ module _ (G : Granule) (ws : List ℕ) (t : ℕ) where
 -- ---- what a traversal finds
 
 -- a table and what is below it, where `below c v` is found in table c one level down
-abbrev pub node : Granule → List ℕ → ℕ → ℕ → ℕ → (ℕ → ℕ → Found) → ℕ → ℕ → Found
-node G ws P n h below t v = ofVisit (tableWords G ws t) t ⊕ ofEntries G P n h v below (tableWords G ws t)
+abbrev pub node : Granule → List ℕ → Area → ℕ → (ℕ → ℕ → Found) → ℕ → ℕ → Found
+node G ws area h below t v = ofVisit (tableWords G ws t) t ⊕ ofEntries G area h v below (tableWords G ws t)
 
 -- the tables reached are in the pool
-module _ {G : Granule} (S : Sane G) (ws : List ℕ) (P n h : ℕ) (below : ℕ → ℕ → Found)
-    (f : (c v : ℕ) → c < n → Each (λ t. t < n) (below c v .reached)) where
-  low-entry : (v w : ℕ) (e : Entry) → entryAt G P n h w ≡ e → Each (λ t. t < n) (ofEntry G h v below e .reached)
-  low-entry v w Empty q = each-nil (λ t. t < n)
-  low-entry v w (Table c) q = f c v (table-only S P n h w q .2)
-  low-entry v w (Frame b k) q = each-nil (λ t. t < n)
-  low-entry v w Damaged q = each-nil (λ t. t < n)
+module _ {G : Granule} (S : Sane G) (ws : List ℕ) (area : Area) (h : ℕ) (below : ℕ → ℕ → Found)
+    (f : (c v : ℕ) → c < total area → Each (λ t. t < total area) (below c v .reached)) where
+  low-entry : (v w : ℕ) (e : Entry) → entryAt G area h w ≡ e → Each (λ t. t < total area) (ofEntry G h v below e .reached)
+  low-entry v w Empty q = each-nil (λ t. t < total area)
+  low-entry v w (Table c) q = f c v (table-only S area h w q .2)
+  low-entry v w (Frame b k) q = each-nil (λ t. t < total area)
+  low-entry v w Damaged q = each-nil (λ t. t < total area)
 
-  low-entries : (v : ℕ) (l : List ℕ) → Each (λ t. t < n) (ofEntries G P n h v below l .reached)
+  low-entries : (v : ℕ) (l : List ℕ) → Each (λ t. t < total area) (ofEntries G area h v below l .reached)
   unfolding ofEntries
-  low-entries v [] = each-nil (λ t. t < n)
-  low-entries v (w ∷ l) = each-append (λ t. t < n) _ _ (low-entry v w _ refl) (low-entries _ l)
+  low-entries v [] = each-nil (λ t. t < total area)
+  low-entries v (w ∷ l) = each-append (λ t. t < total area) _ _ (low-entry v w _ refl) (low-entries _ l)
 
-  low-node : (t v : ℕ) → t < n → Each (λ u. u < n) (node G ws P n h below t v .reached)
-  low-node t v l = each-cons (λ u. u < n) t _ l (low-entries v (tableWords G ws t))
+  low-node : (t v : ℕ) → t < total area → Each (λ u. u < total area) (node G ws area h below t v .reached)
+  low-node t v l = each-cons (λ u. u < total area) t _ l (low-entries v (tableWords G ws t))
 
-pub reached-low : {G : Granule} → Sane G → (ws : List ℕ) (P n h t v : ℕ) → t < n → Each (λ u. u < n) (ofTable G ws P n h t v .reached)
+pub reached-low : {G : Granule} → Sane G → (ws : List ℕ) (area : Area) (h t v : ℕ) → t < total area → Each (λ u. u < total area) (ofTable G ws area h t v .reached)
 unfolding ofTable
-reached-low S ws P n zero = low-node S ws P n zero (λ _ _. nothing false) (λ c u _. each-nil (λ x. x < n))
-reached-low {G} S ws P n (suc h) = low-node S ws P n (suc h) (λ c u. ofTable G ws P n h c u) (reached-low S ws P n h)
+reached-low S ws area zero = low-node S ws area zero (λ _ _. nothing false) (λ c u _. each-nil (λ x. x < total area))
+reached-low {G} S ws area (suc h) = low-node S ws area (suc h) (λ c u. ofTable G ws area h c u) (reached-low S ws area h)
 
 -- the tables reached are in a pool with good numbers
-pub pool-reached-low : {G : Granule} → Sane G → (p : Pool) → goodPool G p ≡ true → Each (λ t. t < p .numbers .tables) (reachedOf G p)
+pub pool-reached-low : {G : Granule} → Sane G → (p : Pool) → goodPool G p ≡ true → Each (λ t. t < total (areaOf (p .numbers))) (reachedOf G p)
 pool-reached-low S p g =
-    reached-low S (p .words) (p .numbers .base) (p .numbers .tables) (p .numbers .levels - 1) 0 0 (good-setup g .numbers .some-table)
+    reached-low S (p .words) (areaOf (p .numbers)) (p .numbers .levels - 1) 0 0 (good-setup g .numbers .some-table)
 
 -- a table of the tree is not empty, unless it is the root
 abbrev Used : Granule → List ℕ → ℕ → Type 0
 Used G ws t = t ≢ 0 → EmptyTable G ws t → ⊥
 
-module _ (G : Granule) (ws : List ℕ) (P n h : ℕ) (below : ℕ → ℕ → Found) (S : ℕ → Type 0) where
-  abbrev SoundWord : ℕ → Type 0
-  SoundWord w = SoundEntry S (entryAt G P n h w)
+module _ (G : Granule) (ws : List ℕ) (area : Area) (h : ℕ) (below : ℕ → ℕ → Found) where
+  module _ (S : ℕ → Type 0) where
+    abbrev SoundWord : ℕ → Type 0
+    SoundWord w = SoundEntry S (entryAt G area h w)
 
-  -- where all is well, the entries are sound and the tables are in use
-  module _ (f : (c v : ℕ) → below c v .ok ≡ true → S c × Each (Used G ws) (below c v .reached)) where
-    entry-back : (v : ℕ) (e : Entry) → ofEntry G h v below e .ok ≡ true → SoundEntry S e × Each (Used G ws) (ofEntry G h v below e .reached)
-    entry-back v Empty o = (tt, each-nil (Used G ws))
-    entry-back v (Table c) o = f c v o
-    entry-back v (Frame b k) o = (tt, each-nil (Used G ws))
-    entry-back v Damaged o = absurd (false≢true o)
+    -- where all is well, the entries are sound,
+    module _ (f : (c v : ℕ) → below c v .ok ≡ true → S c) where
+      entry-back : (v : ℕ) (e : Entry) → ofEntry G h v below e .ok ≡ true → SoundEntry S e
+      entry-back v Empty o = tt
+      entry-back v (Table c) o = f c v o
+      entry-back v (Frame b k) o = tt
+      entry-back v Damaged o = absurd (false≢true o)
 
-    entries-back : (v : ℕ) (l : List ℕ) → ofEntries G P n h v below l .ok ≡ true → Each SoundWord l × Each (Used G ws) (ofEntries G P n h v below l .reached)
+      entries-back : (v : ℕ) (l : List ℕ) → ofEntries G area h v below l .ok ≡ true → Each SoundWord l
+      unfolding ofEntries
+      entries-back v [] o = each-nil SoundWord
+      entries-back v (w ∷ l) o =
+          let (a, b) = and-eq-true-iff _ _ .0 o in
+          each-cons SoundWord w l (entry-back v (entryAt G area h w) a) (entries-back _ l b)
+
+      node-back : (t v : ℕ) → node G ws area h below t v .ok ≡ true → (i : ℕ) → i < entries G → SoundWord (wordAt G ws t i)
+      node-back t v o i l =
+          let s = entries-back v (tableWords G ws t) o in
+          let z : SoundWord 0 = subst (SoundEntry S) (sym (entry-zero G area h)) tt in
+          subst SoundWord (word-part G ws t i) (part-each SoundWord ws (slot G t 0) (entries G) z s i l)
+
+    -- and the other way round
+    module _ (f : (c v : ℕ) → S c → below c v .ok ≡ true) where
+      entry-some : (v : ℕ) (e : Entry) → SoundEntry S e → ofEntry G h v below e .ok ≡ true
+      entry-some v Empty s = refl
+      entry-some v (Table c) s = f c v s
+      entry-some v (Frame b k) s = refl
+      entry-some v Damaged s = absurd s
+
+      entries-some : (v : ℕ) (l : List ℕ) → Each SoundWord l → ofEntries G area h v below l .ok ≡ true
+      unfolding ofEntries
+      entries-some v [] s = refl
+      entries-some v (w ∷ l) s =
+          and-eq-true-iff _ _ .1 (entry-some v (entryAt G area h w) (s w (here refl)), entries-some _ l (λ x m. s x (there m)))
+
+      node-some : (t v : ℕ) → ((i : ℕ) → i < entries G → SoundWord (wordAt G ws t i)) → node G ws area h below t v .ok ≡ true
+      node-some t v s =
+          entries-some v (tableWords G ws t)
+          (each-part SoundWord ws (slot G t 0) (entries G) (λ i l. subst SoundWord (sym (word-part G ws t i)) (s i l)))
+
+  -- where no table is empty, those that are reached are in use,
+  module _ (f : (c v : ℕ) → below c v .full ≡ true → Each (Used G ws) (below c v .reached)) where
+    entry-used : (v : ℕ) (e : Entry) → ofEntry G h v below e .full ≡ true → Each (Used G ws) (ofEntry G h v below e .reached)
+    entry-used v Empty o = each-nil (Used G ws)
+    entry-used v (Table c) o = f c v o
+    entry-used v (Frame b k) o = each-nil (Used G ws)
+    entry-used v Damaged o = each-nil (Used G ws)
+
+    entries-used : (v : ℕ) (l : List ℕ) → ofEntries G area h v below l .full ≡ true → Each (Used G ws) (ofEntries G area h v below l .reached)
     unfolding ofEntries
-    entries-back v [] o = (each-nil SoundWord, each-nil (Used G ws))
-    entries-back v (w ∷ l) o =
+    entries-used v [] o = each-nil (Used G ws)
+    entries-used v (w ∷ l) o =
         let (a, b) = and-eq-true-iff _ _ .0 o in
-        let (p, q) = entry-back v (entryAt G P n h w) a in
-        let (r, s) = entries-back _ l b in
-        (each-cons SoundWord w l p r, each-append (Used G ws) _ _ q s)
+        each-append (Used G ws) _ _ (entry-used v (entryAt G area h w) a) (entries-used _ l b)
 
-    node-back : (t v : ℕ) → node G ws P n h below t v .ok ≡ true → ((i : ℕ) → i < entries G → SoundWord (wordAt G ws t i)) × Each (Used G ws) (node G ws P n h below t v .reached)
-    node-back t v o =
+    node-used : (t v : ℕ) → node G ws area h below t v .full ≡ true → Each (Used G ws) (node G ws area h below t v .reached)
+    node-used t v o =
         let (a, b) = and-eq-true-iff _ _ .0 o in
-        let (s, u) = entries-back v (tableWords G ws t) b in
-        let z : SoundWord 0 = subst (SoundEntry S) (sym (entry-zero G P n h)) tt in (
-          λ i l. subst SoundWord (word-part G ws t i) (part-each SoundWord ws (slot G t 0) (entries G) z s i l),
-          each-cons (Used G ws) t _ (visit-back G ws t a) u,
-        )
+        each-cons (Used G ws) t _ (visit-back G ws t a) (entries-used v (tableWords G ws t) b)
 
   -- and the other way round
-  module _ (f : (c v : ℕ) → S c → Each (Used G ws) (below c v .reached) → below c v .ok ≡ true) where
-    entry-some : (v : ℕ) (e : Entry) → SoundEntry S e → Each (Used G ws) (ofEntry G h v below e .reached) → ofEntry G h v below e .ok ≡ true
-    entry-some v Empty s u = refl
-    entry-some v (Table c) s u = f c v s u
-    entry-some v (Frame b k) s u = refl
-    entry-some v Damaged s u = absurd s
+  module _ (f : (c v : ℕ) → Each (Used G ws) (below c v .reached) → below c v .full ≡ true) where
+    entry-full : (v : ℕ) (e : Entry) → Each (Used G ws) (ofEntry G h v below e .reached) → ofEntry G h v below e .full ≡ true
+    entry-full v Empty u = refl
+    entry-full v (Table c) u = f c v u
+    entry-full v (Frame b k) u = refl
+    entry-full v Damaged u = refl
 
-    entries-some : (v : ℕ) (l : List ℕ) → Each SoundWord l → Each (Used G ws) (ofEntries G P n h v below l .reached) → ofEntries G P n h v below l .ok ≡ true
+    entries-full : (v : ℕ) (l : List ℕ) → Each (Used G ws) (ofEntries G area h v below l .reached) → ofEntries G area h v below l .full ≡ true
     unfolding ofEntries
-    entries-some v [] s u = refl
-    entries-some v (w ∷ l) s u =
-        let e = entryAt G P n h w in
+    entries-full v [] u = refl
+    entries-full v (w ∷ l) u =
+        let e = entryAt G area h w in
         and-eq-true-iff _ _ .1 (
-          entry-some v e (s w (here refl)) (each-left (Used G ws) _ _ u),
-          entries-some _ l (λ x m. s x (there m)) (each-right (Used G ws) (ofEntry G h v below e .reached) _ u),
+          entry-full v e (each-left (Used G ws) _ _ u),
+          entries-full _ l (each-right (Used G ws) (ofEntry G h v below e .reached) _ u),
         )
 
-    node-some : (t v : ℕ) → ((i : ℕ) → i < entries G → SoundWord (wordAt G ws t i)) → Each (Used G ws) (node G ws P n h below t v .reached) → node G ws P n h below t v .ok ≡ true
-    node-some t v s u =
-        let each = each-part SoundWord ws (slot G t 0) (entries G) (λ i l. subst SoundWord (sym (word-part G ws t i)) (s i l)) in
+    node-full : (t v : ℕ) → Each (Used G ws) (node G ws area h below t v .reached) → node G ws area h below t v .full ≡ true
+    node-full t v u =
         and-eq-true-iff _ _ .1 (
           visit-some G ws t (u t (here refl)),
-          entries-some v (tableWords G ws t) each (each-right (Used G ws) (t ∷ []) _ u),
+          entries-full v (tableWords G ws t) (each-right (Used G ws) (t ∷ []) _ u),
         )
 
-pub table-back : (G : Granule) (ws : List ℕ) (P n h t v : ℕ) → ofTable G ws P n h t v .ok ≡ true → SoundTable G ws P n h t × Each (Used G ws) (ofTable G ws P n h t v .reached)
+-- a tree is sound exactly when all is well in it
+pub table-back : (G : Granule) (ws : List ℕ) (area : Area) (h t v : ℕ) → ofTable G ws area h t v .ok ≡ true → SoundTable G ws area h t
 unfolding ofTable SoundTable
-table-back G ws P n zero = node-back G ws P n zero (λ _ _. nothing false) (λ _. ⊥) (λ c v e. absurd (false≢true e))
-table-back G ws P n (suc h) = node-back G ws P n (suc h) (λ c u. ofTable G ws P n h c u) (λ c. SoundTable G ws P n h c) (table-back G ws P n h)
+table-back G ws area zero = node-back G ws area zero (λ _ _. nothing false) (λ _. ⊥) (λ c v e. absurd (false≢true e))
+table-back G ws area (suc h) = node-back G ws area (suc h) (λ c u. ofTable G ws area h c u) (λ c. SoundTable G ws area h c) (table-back G ws area h)
 
-pub table-some : (G : Granule) (ws : List ℕ) (P n h t v : ℕ) → SoundTable G ws P n h t → Each (Used G ws) (ofTable G ws P n h t v .reached) → ofTable G ws P n h t v .ok ≡ true
+pub table-some : (G : Granule) (ws : List ℕ) (area : Area) (h t v : ℕ) → SoundTable G ws area h t → ofTable G ws area h t v .ok ≡ true
 unfolding ofTable SoundTable
-table-some G ws P n zero = node-some G ws P n zero (λ _ _. nothing false) (λ _. ⊥) (λ c v b. absurd b)
-table-some G ws P n (suc h) = node-some G ws P n (suc h) (λ c u. ofTable G ws P n h c u) (λ c. SoundTable G ws P n h c) (table-some G ws P n h)
+table-some G ws area zero = node-some G ws area zero (λ _ _. nothing false) (λ _. ⊥) (λ c v b. absurd b)
+table-some G ws area (suc h) = node-some G ws area (suc h) (λ c u. ofTable G ws area h c u) (λ c. SoundTable G ws area h c) (table-some G ws area h)
+
+-- and it is full exactly when its tables are in use
+pub table-used : (G : Granule) (ws : List ℕ) (area : Area) (h t v : ℕ) → ofTable G ws area h t v .full ≡ true → Each (Used G ws) (ofTable G ws area h t v .reached)
+unfolding ofTable
+table-used G ws area zero = node-used G ws area zero (λ _ _. nothing false) (λ c v e. each-nil (Used G ws))
+table-used G ws area (suc h) = node-used G ws area (suc h) (λ c u. ofTable G ws area h c u) (table-used G ws area h)
+
+pub table-full : (G : Granule) (ws : List ℕ) (area : Area) (h t v : ℕ) → Each (Used G ws) (ofTable G ws area h t v .reached) → ofTable G ws area h t v .full ≡ true
+unfolding ofTable
+table-full G ws area zero = node-full G ws area zero (λ _ _. nothing false) (λ c v u. refl)
+table-full G ws area (suc h) = node-full G ws area (suc h) (λ c u. ofTable G ws area h c u) (table-full G ws area h)
 
 -- ---- the free numbers
 
@@ -230,20 +277,20 @@ module _ (G : Granule) (p : Pool) where
   unfolding soundPool
   sound-only e =
       let R = reachedOf G p in
-      let (o, e₁) = and-eq-true-iff (ofPool G p .ok) _ .0 e in
+      let (w, e₁) = and-eq-true-iff (ofPool G p .ok && ofPool G p .full) _ .0 e in
+      let (o, y) = and-eq-true-iff (ofPool G p .ok) (ofPool G p .full) .0 w in
       let (d, e₂) = and-eq-true-iff (distinct (R ++ freeOf p)) _ .0 e₁ in
-      let (f, c) = and-eq-true-iff (freeSound G (p .words) (p .numbers .tables) (freeOf p)) _ .0 e₂ in
-      let (s, u) = table-back G (p .words) (p .numbers .base) (p .numbers .tables) (p .numbers .levels - 1) 0 0 o in
-      let z = free-back G (p .words) (p .numbers .tables) (freeOf p) f in
+      let (f, c) = and-eq-true-iff (freeSound G (p .words) (total (areaOf (p .numbers))) (freeOf p)) _ .0 e₂ in
+      let z = free-back G (p .words) (total (areaOf (p .numbers))) (freeOf p) f in
       record {
-        tree = s;
+        tree = table-back G (p .words) (areaOf (p .numbers)) (p .numbers .levels - 1) 0 0 o;
         once = distinct-back R (distinct-left R (freeOf p) d);
-        used = u;
+        used = table-used G (p .words) (areaOf (p .numbers)) (p .numbers .levels - 1) 0 0 y;
         free-once = distinct-back (freeOf p) (distinct-right R (freeOf p) d);
         free-range = λ t m. z t m .0;
         free-apart = λ t m k. distinct-apart R (freeOf p) d t k m;
         free-zero = λ t m. z t m .1;
-        total = omega (arith, eqb-true (length R + p .numbers .free) (p .numbers .tables) c);
+        total = omega (arith, eqb-true (length R + p .numbers .free) (total (areaOf (p .numbers))) c);
       }
 
   -- and the other way round
@@ -251,11 +298,12 @@ module _ (G : Granule) (p : Pool) where
   unfolding soundPool
   sound-all s =
       let R = reachedOf G p in
-      let o = table-some G (p .words) (p .numbers .base) (p .numbers .tables) (p .numbers .levels - 1) 0 0 (s .tree) (s .used) in
+      let o = table-some G (p .words) (areaOf (p .numbers)) (p .numbers .levels - 1) 0 0 (s .tree) in
+      let y = table-full G (p .words) (areaOf (p .numbers)) (p .numbers .levels - 1) 0 0 (s .used) in
       let d = distinct-append R (freeOf p) (distinct-some R (s .once)) (distinct-some (freeOf p) (s .free-once)) (λ t m k. s .free-apart t k m) in
-      let f = free-some G (p .words) (p .numbers .tables) (freeOf p) (s .free-range) (s .free-zero) in
-      let c : length R + p .numbers .free ≡ p .numbers .tables = omega (arith, s .total) in
-      and-eq-true-iff _ _ .1 (o, and-eq-true-iff _ _ .1 (d, and-eq-true-iff _ _ .1 (f, eq-eqb _ _ c)))
+      let f = free-some G (p .words) (total (areaOf (p .numbers))) (freeOf p) (s .free-range) (s .free-zero) in
+      let c : length R + p .numbers .free ≡ total (areaOf (p .numbers)) = omega (arith, s .total) in
+      and-eq-true-iff _ _ .1 (and-eq-true-iff _ _ .1 (o, y), and-eq-true-iff _ _ .1 (d, and-eq-true-iff _ _ .1 (f, eq-eqb _ _ c)))
 
   -- the audit's test is exactly the rules
   pub exact : (soundPool G p ≡ true) ↔ SoundPool G p
@@ -296,23 +344,23 @@ module _ (G : Granule) (p : Pool) where
 -- ---- a fresh pool
 
 -- words that are all 0 are empty entries
-module _ (G : Granule) (P n h : ℕ) (below : ℕ → ℕ → Found) where
-  entries-empty : (v : ℕ) (l : List ℕ) → allZero l ≡ true → ofEntries G P n h v below l ≡ nothing true
+module _ (G : Granule) (area : Area) (h : ℕ) (below : ℕ → ℕ → Found) where
+  entries-empty : (v : ℕ) (l : List ℕ) → allZero l ≡ true → ofEntries G area h v below l ≡ nothing true
   unfolding ofEntries allZero
   entries-empty v [] z = refl
   entries-empty v (w ∷ l) z =
       let (a, b) = and-eq-true-iff (eqb w 0) (allZero l) .0 z in
-      let e : entryAt G P n h w ≡ Empty = ap (entryAt G P n h) (eqb-true w 0 a) ∙ entry-zero G P n h in
+      let e : entryAt G area h w ≡ Empty = ap (entryAt G area h) (eqb-true w 0 a) ∙ entry-zero G area h in
       rw (e, entries-empty _ l b)
 
-  root-empty : (ws : List ℕ) (v : ℕ) → EmptyTable G ws 0 → node G ws P n h below 0 v ≡ ofVisit (tableWords G ws 0) 0
+  root-empty : (ws : List ℕ) (v : ℕ) → EmptyTable G ws 0 → node G ws area h below 0 v ≡ ofVisit (tableWords G ws 0) 0
   root-empty ws v z = rw (entries-empty v (tableWords G ws 0) (zero-some G ws 0 z))
 
 -- an empty root is all that is reached
-pub empty-root : (G : Granule) (ws : List ℕ) (P n h v : ℕ) → EmptyTable G ws 0 → ofTable G ws P n h 0 v ≡ ofVisit (tableWords G ws 0) 0
+pub empty-root : (G : Granule) (ws : List ℕ) (area : Area) (h v : ℕ) → EmptyTable G ws 0 → ofTable G ws area h 0 v ≡ ofVisit (tableWords G ws 0) 0
 unfolding ofTable
-empty-root G ws P n zero v z = root-empty G P n zero (λ _ _. nothing false) ws v z
-empty-root G ws P n (suc h) v z = root-empty G P n (suc h) (λ c u. ofTable G ws P n h c u) ws v z
+empty-root G ws area zero v z = root-empty G area zero (λ _ _. nothing false) ws v z
+empty-root G ws area (suc h) v z = root-empty G area (suc h) (λ c u. ofTable G ws area h c u) ws v z
 
 -- n - 1 down to 1
 down-front : (n : ℕ) → Each (λ t. (0 < t) × (t < suc n)) (take n (down (suc n)))
@@ -321,56 +369,56 @@ down-front zero = each-nil (λ t. (0 < t) × (t < 1))
 down-front (suc n) =
     each-cons (λ t. (0 < t) × (t < suc (suc n))) (suc n) _ (omega arith) (λ t m. let (a, b) = down-front n t m in (a, omega arith))
 
-module _ (G : Granule) (levels base n k : ℕ) where
+module _ (G : Granule) (levels : ℕ) (area : Area) (n k : ℕ) (is : total area ≡ suc n) where
   abbrev fresh : Pool
-  fresh = pool (setup levels base (suc n) n) (replicate k 0) (down (suc n))
+  fresh = pool (setupOf levels area n) (replicate k 0) (down (suc n))
 
   all-empty : (t : ℕ) → EmptyTable G (replicate k 0) t
   all-empty t i l = allZero-at (replicate k 0) (allZero-replicate k) (slot G t i)
 
   only-root : ofPool G fresh ≡ ofVisit (tableWords G (replicate k 0) 0) 0
-  only-root = empty-root G (replicate k 0) base (suc n) (levels - 1) 0 (all-empty 0)
+  only-root = empty-root G (replicate k 0) area (levels - 1) 0 (all-empty 0)
 
   pub fresh-sound : soundPool G fresh ≡ true
   unfolding soundPool
   fresh-sound =
       let F = take n (down (suc n)) in
       let d : distinct F ≡ true = distinct-left F (drop n (down (suc n))) (rw (take-append-drop n (down (suc n))) (distinct-down (suc n))) in
-      let f = free-some G (replicate k 0) (suc n) F (λ t m. down-front n t m .1) (λ t m. all-empty t) in
-      rw (only-root, distinct-cons 0 F (λ m. omega (arith, down-front n 0 m .0)) d, f) (eq-eqb (1 + n) (suc n) (omega arith))
+      let f = free-some G (replicate k 0) (total area) F (λ t m. omega (arith, is, down-front n t m .1)) (λ t m. all-empty t) in
+      rw (only-root, distinct-cons 0 F (λ m. omega (arith, down-front n 0 m .0)) d, f) (eq-eqb (1 + n) (total area) (omega (arith, is)))
 
   pub fresh-audit : goodPool G fresh ≡ true → auditW G fresh ≡ audited 1 0
   unfolding auditW
   fresh-audit g = rw (g, fresh-sound, only-root)
 
-fresh-good : {G : Granule} {levels base n words places : ℕ} → GoodNumbers G levels base (suc n) words places → goodPool G (fresh G levels base n words) ≡ true
-fresh-good {G} {levels} {base} {n} {words} {places} N =
-    let w : length (blanks words) ≡ words = length-replicate words 0 in
-    let l : length (down (suc n)) ≡ places = length-down (suc n) ∙ sym (N .places-are) in
-    setup-good (record { numbers = rw (w, l) N; room = omega arith })
-  where
-    blanks : ℕ → List ℕ
-    blanks k = replicate k 0
+  fresh-good : {places : ℕ} → GoodNumbers G levels area k places → goodPool G fresh ≡ true
+  fresh-good {places} N =
+      let w : length (blanks k) ≡ k = length-replicate k 0 in
+      let l : length (down (suc n)) ≡ places = length-down (suc n) ∙ sym is ∙ sym (N .places-are) in
+      setup-good (record { numbers = rw (w, l) N; room = omega (arith, is) })
+    where
+      blanks : ℕ → List ℕ
+      blanks k = replicate k 0
 
 -- the audit accepts what format leaves, and finds the root and no mapping
-pub format-audit : (G : Granule) (levels base tables : ℕ) (ws list : List ℕ)
-    → formatW G levels base tables ws list .answer ≡ formatted
-    → auditW G (formatW G levels base tables ws list .after) ≡ audited 1 0
+pub format-audit : (G : Granule) (levels : ℕ) (area : Area) (ws list : List ℕ)
+    → formatW G levels area ws list .answer ≡ formatted
+    → auditW G (formatW G levels area ws list .after) ≡ audited 1 0
 unfolding formatW
-format-audit G levels base tables ws list = go (goodNumbers G levels base tables (length ws) (length list)) refl
+format-audit G levels area ws list = go (goodNumbers G levels area (length ws) (length list)) refl
   where
-    left : (n : ℕ) → GoodNumbers G levels base n (length ws) (length list)
-        → auditW G (pool (setup levels base n (n - 1)) (replicate (length ws) 0) (down n)) ≡ audited 1 0
-    left zero N = absurd (omega (arith, N .some-table))
-    left (suc n) N = rw (sub-one (suc n)) (fresh-audit G levels base n (length ws) (fresh-good N))
+    left : (n : ℕ) → total area ≡ n → GoodNumbers G levels area (length ws) (length list)
+        → auditW G (pool (setupOf levels area (n - 1)) (replicate (length ws) 0) (down n)) ≡ audited 1 0
+    left zero e N = absurd (omega (arith, e, N .some-table))
+    left (suc n) e N = rw (sub-one (suc n)) (fresh-audit G levels area n (length ws) e (fresh-good G levels area n (length ws) e N))
 
     answered : Bool → Done
     answered b =
         cond b
-        (done formatted (pool (setup levels base tables (tables - 1)) (replicate (length ws) 0) (down tables)))
-        (refuse 1 (pool (setup 0 0 0 0) ws list))
+        (done formatted (pool (setupOf levels area (total area - 1)) (replicate (length ws) 0) (down (total area))))
+        (refuse 1 (pool noSetup ws list))
 
-    go : (b : Bool) → goodNumbers G levels base tables (length ws) (length list) ≡ b
+    go : (b : Bool) → goodNumbers G levels area (length ws) (length list) ≡ b
         → answered b .answer ≡ formatted → auditW G (answered b .after) ≡ audited 1 0
-    go true g e = left tables (good-numbers g)
+    go true g e = left (total area) refl (good-numbers g)
     go false g e = absurd (let z : _≡_ {A = ℕ} 0 1 = cc in omega arith)

@@ -6,14 +6,15 @@ use lib.Dec.{ltb, leb, eqb}
 use lib.ListN.{length, replicate}
 use Rattle.laws.specs.Lists.{down}
 use Rattle.path.specs.Geometry.{Granule, pageSize, sizeAt, physical, spaceOf, heightOf}
-use Rattle.path.specs.Numbers.{goodNumbers, goodSetup}
+use Rattle.path.specs.Areas.{Area, areaOf, total}
+use Rattle.path.specs.Numbers.{noSetup, setupOf, withFree, goodNumbers, goodSetup}
 use Rattle.path.specs.Paths.{baseAt, pathOf}
 use Rattle.path.specs.declared.Setup.{Setup}
 use Rattle.entry.specs.Words.{frameWord}
 use Rattle.entry.specs.declared.Entry.{Entry}
 use Rattle.entry.specs.declared.Entry.the-variants.{Empty, Table, Frame, Damaged}
 use Rattle.model.specs.declared.Walked.{Walked}
-use Rattle.model.specs.Answers.{Answer, formatted, took, gave, found, refused, mapping, setup, withFree, Pool, pool, Done, done, refuse}
+use Rattle.model.specs.Answers.{Answer, formatted, took, gave, found, refused, mapping, Pool, pool, Done, done, refuse}
 use Rattle.model.specs.Walk.{noWay, atHeight, walkFrom}
 use Rattle.model.specs.Writes.{Memory, memory, Write, performAll, mapWrites, mayTake, freed, unmapWrites}
 
@@ -29,14 +30,14 @@ written G p ws f =
 -- a walk to a height, for an address, from the root
 abbrev pub walkTo : Granule → Pool → ℕ → ℕ → Walked
 walkTo G p target a =
-    walkFrom G (p .words) (p .numbers .base) (p .numbers .tables) target (pathOf G a) (p .numbers .levels - 1) noWay 0
+    walkFrom G (p .words) (areaOf (p .numbers)) target (pathOf G a) (p .numbers .levels - 1) noWay 0
 
 -- Format: all words 0, place i of the free list n - 1 - i, n - 1 tables free
-unfoldable pub formatW : Granule → ℕ → ℕ → ℕ → List ℕ → List ℕ → Done
-formatW G levels base tables ws list =
-    cond (goodNumbers G levels base tables (length ws) (length list))
-    (done formatted (pool (setup levels base tables (tables - 1)) (replicate (length ws) 0) (down tables)))
-    (refuse 1 (pool (setup 0 0 0 0) ws list))
+unfoldable pub formatW : Granule → ℕ → Area → List ℕ → List ℕ → Done
+formatW G levels area ws list =
+    cond (goodNumbers G levels area (length ws) (length list))
+    (done formatted (pool (setupOf levels area (total area - 1)) (replicate (length ws) 0) (down (total area))))
+    (refuse 1 (pool noSetup ws list))
 
 -- Query: the entry where the walk to the last level ends
 unfoldable pub foundAt : Granule → ℕ → Entry → ℕ → Answer
@@ -66,10 +67,10 @@ mapTests G levels a b size k =
 unfoldable pub mapHere : Granule → Pool → ℕ → ℕ → ℕ → ℕ → Walked → ℕ → Done
 mapHere G p a b g k o need =
     cond (ltb (p .numbers .free) need) (refuse 7 p)
-    (cond (mayTake (p .list) (p .numbers .tables) (o .tables) (p .numbers .free) need)
+    (cond (mayTake (p .list) (total (areaOf (p .numbers))) (o .tables) (p .numbers .free) need)
     (done (took need)
     (written G p
-    (mapWrites G (p .numbers .base) (pathOf G a) (p .list) g (frameWord b g k) (atHeight (o .tables) (o .left)) (p .numbers .free) need)
+    (mapWrites G (areaOf (p .numbers)) (pathOf G a) (p .list) g (frameWord b g k) (atHeight (o .tables) (o .left)) (p .numbers .free) need)
     (p .numbers .free - need)))
     (refuse 8 p))
 
@@ -93,7 +94,7 @@ unmapTests G levels a = cond (leb (spaceOf G levels) a) 4 (cond (eqb (a % pageSi
 -- the walk ended at the frame's entry, and so many tables come free
 unfoldable pub unmapHere : Granule → Pool → ℕ → ℕ → ℕ → Walked → ℕ → Done
 unmapHere G p a b k o given =
-    cond (ltb (p .numbers .tables - 1) (p .numbers .free + given)) (refuse 8 p)
+    cond (ltb (total (areaOf (p .numbers)) - 1) (p .numbers .free + given)) (refuse 8 p)
     (done (gave b (sizeAt G (o .left)) k given)
     (written G p (unmapWrites G (o .tables) (pathOf G a) (o .left) (p .numbers .free) given) (p .numbers .free + given)))
 

@@ -6,6 +6,7 @@ use mathlib.Core.List.{[], _∷_}
 use lib.ListN.{getD, replicate}
 use Rattle.laws.specs.Lists.{down, part, zeroed, allZero, among}
 use Rattle.path.specs.Geometry.{four, sizeAt, goodLevels, spaceOf, seek, heightOf}
+use Rattle.path.specs.Areas.{areaAt}
 use Rattle.path.specs.Numbers.{goodNumbers, goodSetup}
 use Rattle.path.specs.Paths.{indexAt, baseAt, indices, pathOf}
 use Rattle.entry.specs.Words.{typeAt, frameWord, tableWord, childAt, frameAt, entryAt}
@@ -25,8 +26,8 @@ unfoldable pub format : Both
 unfolding goodLevels goodNumbers down formatW formatL
 format =
     record {
-      pool = formatW four 3 0x40000000 4 (replicate 2048 7) (replicate 4 9);
-      ledger = formatL four (ledger 9 9 4 (mapping 1 2 3 4 ∷ [])) 3 0x40000000 4;
+      pool = formatW four 3 (areaAt 0x40000000 4) (replicate 2048 7) (replicate 4 9);
+      ledger = formatL four (ledger 9 (areaAt 9 4) (mapping 1 2 3 4 ∷ [])) 3 (areaAt 0x40000000 4);
     }
 
 -- a map, and an unmap, of what a call left

@@ -6,6 +6,7 @@ use mathlib.Core.Option.{Option, some, none}
 use lib.Dec.{ltb, leb, eqb}
 use lib.ListN.{length}
 use Rattle.path.specs.Geometry.{Granule, pageSize, entries, sizeAt, spaceOf}
+use Rattle.path.specs.Areas.{Area, total}
 use Rattle.path.specs.Numbers.{goodNumbers}
 use Rattle.path.specs.Paths.{baseAt}
 use Rattle.model.specs.Answers.{Mapping, mapping, Answer, formatted, took, gave, found, audited, refused}
@@ -14,16 +15,15 @@ use Rattle.model.specs.Calls.{mapTests, unmapTests}
 -- the pool's numbers, and the live mappings
 pub record Ledger : Type 0 where
   pub levels : ℕ
-  pub base : ℕ
-  pub tables : ℕ
+  pub area : Area
   pub live : List Mapping
 
-abbrev pub ledger : ℕ → ℕ → ℕ → List Mapping → Ledger
-ledger l b n L = record { levels = l; base = b; tables = n; live = L }
+abbrev pub ledger : ℕ → Area → List Mapping → Ledger
+ledger l r L = record { levels = l; area = r; live = L }
 
 -- the same numbers, other mappings
 abbrev pub withLive : Ledger → List Mapping → Ledger
-withLive A L = ledger (A .levels) (A .base) (A .tables) L
+withLive A L = ledger (A .levels) (A .area) L
 
 -- two ranges share a byte
 abbrev pub overlaps : ℕ → ℕ → Mapping → Bool
@@ -84,7 +84,7 @@ tablesLacking G levels L m = length (newRegions (regionsOf G m (levels - 1)) (re
 
 -- the tables that are free
 unfoldable pub freeTables : Granule → Ledger → ℕ
-freeTables G A = A .tables - 1 - tablesNeeded G (A .levels) (A .live)
+freeTables G A = total (A .area) - 1 - tablesNeeded G (A .levels) (A .live)
 
 -- a call's answer, and the ledger after it
 pub record Entered : Type 0 where
@@ -95,10 +95,10 @@ abbrev pub entered : Answer → Ledger → Entered
 entered a L = record { answer = a; after = L }
 
 -- Format empties the ledger; the lent memory is that of the pool's tables. Refused, it leaves the ledger as it was.
-unfoldable pub formatL : Granule → Ledger → ℕ → ℕ → ℕ → Entered
-formatL G A levels base tables =
-    cond (goodNumbers G levels base tables (entries G * A .tables) (A .tables))
-    (entered formatted (ledger levels base tables []))
+unfoldable pub formatL : Granule → Ledger → ℕ → Area → Entered
+formatL G A levels area =
+    cond (goodNumbers G levels area (entries G * total (A .area)) (total (A .area)))
+    (entered formatted (ledger levels area []))
     (entered (refused 1) A)
 
 -- Map: 6 exactly where the range overlaps a live mapping, 7 exactly where more new tables are needed than are free

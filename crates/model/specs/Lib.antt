@@ -4,6 +4,7 @@ pub mod Writes
 pub mod Calls
 pub mod Audit
 pub mod Ledger
+pub mod Refusing
 pub mod Unique
 pub mod Cases
 pub mod Sound

@@ -11,6 +11,7 @@ use lib.ListN.{length}
 use borrow.Author.Tests.{le-ltb}
 use Rattle.laws.specs.ListLaws.{length-part-le}
 use Rattle.path.specs.Geometry.{Granule, Sane, entries, sizeAt, spaceOf}
+use Rattle.path.specs.Areas.{Area, areaOf}
 use Rattle.path.specs.Numbers.{GoodNumbers}
 use Rattle.path.specs.Laws.{size-suc, size-divides, space-some, good-setup}
 use Rattle.entry.specs.Words.{entryAt}
@@ -75,7 +76,7 @@ rising-apart lo hi a m b p =
     (λ k i. inl (rising-within lo (m .at) a q k i .1))
     (λ k i. inr (rising-within (m .at + m .size) hi b r k i .0)))
 
-module _ (G : Granule) (ws : List ℕ) (P n h : ℕ) (below : ℕ → ℕ → Found) (f : (c v : ℕ) → Rising v (v + sizeAt G h) (below c v .mappings)) where
+module _ (G : Granule) (ws : List ℕ) (area : Area) (h : ℕ) (below : ℕ → ℕ → Found) (f : (c v : ℕ) → Rising v (v + sizeAt G h) (below c v .mappings)) where
   rise-entry : (v : ℕ) (e : Entry) → Rising v (v + sizeAt G h) (ofEntry G h v below e .mappings)
   unfolding Rising
   rise-entry v Empty = omega arith
@@ -83,47 +84,47 @@ module _ (G : Granule) (ws : List ℕ) (P n h : ℕ) (below : ℕ → ℕ → Fo
   rise-entry v (Frame b k) = (omega arith, omega arith)
   rise-entry v Damaged = omega arith
 
-  rise-entries : (v : ℕ) (l : List ℕ) → Rising v (v + length l * sizeAt G h) (ofEntries G P n h v below l .mappings)
+  rise-entries : (v : ℕ) (l : List ℕ) → Rising v (v + length l * sizeAt G h) (ofEntries G area h v below l .mappings)
   unfolding Rising ofEntries
   rise-entries v [] = omega arith
   rise-entries v (w ∷ l) =
       let e : v + sizeAt G h + length l * sizeAt G h ≡ v + suc (length l) * sizeAt G h = omega (arith, suc-mul (length l) (sizeAt G h)) in
-      rising-append v (v + sizeAt G h) (v + suc (length l) * sizeAt G h) (ofEntry G h v below (entryAt G P n h w) .mappings) _
-      (rise-entry v (entryAt G P n h w))
-      (subst (λ (x : ℕ). Rising (v + sizeAt G h) x (ofEntries G P n h (v + sizeAt G h) below l .mappings)) e (rise-entries (v + sizeAt G h) l))
+      rising-append v (v + sizeAt G h) (v + suc (length l) * sizeAt G h) (ofEntry G h v below (entryAt G area h w) .mappings) _
+      (rise-entry v (entryAt G area h w))
+      (subst (λ (x : ℕ). Rising (v + sizeAt G h) x (ofEntries G area h (v + sizeAt G h) below l .mappings)) e (rise-entries (v + sizeAt G h) l))
 
   -- a table lies within one entry of the table above it
-  rise-node : (t v : ℕ) → Rising v (v + sizeAt G (suc h)) (node G ws P n h below t v .mappings)
+  rise-node : (t v : ℕ) → Rising v (v + sizeAt G (suc h)) (node G ws area h below t v .mappings)
   rise-node t v =
       let l = tableWords G ws t in
       let m : length l * sizeAt G h ≤ entries G * sizeAt G h = mul-le-mul-right (sizeAt G h) (length-part-le ws (slot G t 0) (entries G)) in
-      rising-up v (v + length l * sizeAt G h) (v + sizeAt G (suc h)) (ofEntries G P n h v below l .mappings)
+      rising-up v (v + length l * sizeAt G h) (v + sizeAt G (suc h)) (ofEntries G area h v below l .mappings)
       (omega (arith, m, size-suc G h)) (rise-entries v l)
 
-pub table-rises : (G : Granule) (ws : List ℕ) (P n h t v : ℕ) → Rising v (v + sizeAt G (suc h)) (ofTable G ws P n h t v .mappings)
+pub table-rises : (G : Granule) (ws : List ℕ) (area : Area) (h t v : ℕ) → Rising v (v + sizeAt G (suc h)) (ofTable G ws area h t v .mappings)
 unfolding ofTable Rising
-table-rises G ws P n zero = rise-node G ws P n zero (λ _ _. nothing false) (λ c v. omega arith)
-table-rises G ws P n (suc h) = rise-node G ws P n (suc h) (λ c u. ofTable G ws P n h c u) (table-rises G ws P n h)
+table-rises G ws area zero = rise-node G ws area zero (λ _ _. nothing false) (λ c v. omega arith)
+table-rises G ws area (suc h) = rise-node G ws area (suc h) (λ c u. ofTable G ws area h c u) (table-rises G ws area h)
 
 -- ---- one by one
 
-module _ {G : Granule} (S : Sane G) (ws : List ℕ) (P n h : ℕ) (below : ℕ → ℕ → Found)
+module _ {G : Granule} (S : Sane G) (ws : List ℕ) (area : Area) (h : ℕ) (below : ℕ → ℕ → Found)
     (f : (c v : ℕ) → v % sizeAt G h ≡ 0 → Each (WellFormed G) (below c v .mappings)) where
-  well-entry : (v w : ℕ) (e : Entry) → entryAt G P n h w ≡ e → v % sizeAt G h ≡ 0 → Each (WellFormed G) (ofEntry G h v below e .mappings)
+  well-entry : (v w : ℕ) (e : Entry) → entryAt G area h w ≡ e → v % sizeAt G h ≡ 0 → Each (WellFormed G) (ofEntry G h v below e .mappings)
   well-entry v w Empty q a = each-nil (WellFormed G)
   well-entry v w (Table c) q a = f c v a
   well-entry v w (Frame b k) q a =
       each-one (WellFormed G) (mapping v b (sizeAt G h) k)
-      (record { height = h; framed = frame-only S P n h w q .0; sized = refl; aligned = a })
+      (record { height = h; framed = frame-only S area h w q .0; sized = refl; aligned = a })
   well-entry v w Damaged q a = each-nil (WellFormed G)
 
-  well-entries : (v : ℕ) (l : List ℕ) → v % sizeAt G h ≡ 0 → Each (WellFormed G) (ofEntries G P n h v below l .mappings)
+  well-entries : (v : ℕ) (l : List ℕ) → v % sizeAt G h ≡ 0 → Each (WellFormed G) (ofEntries G area h v below l .mappings)
   unfolding ofEntries
   well-entries v [] a = each-nil (WellFormed G)
   well-entries v (w ∷ l) a =
       each-append (WellFormed G) _ _ (well-entry v w _ refl a) (well-entries _ l (add-mod-right v (sizeAt G h) ∙ a))
 
-  well-node : (t v : ℕ) → v % sizeAt G (suc h) ≡ 0 → Each (WellFormed G) (node G ws P n h below t v .mappings)
+  well-node : (t v : ℕ) → v % sizeAt G (suc h) ≡ 0 → Each (WellFormed G) (node G ws area h below t v .mappings)
   well-node t v a = well-entries v (tableWords G ws t) (divides a)
     where
       divides : v % sizeAt G (suc h) ≡ 0 → v % sizeAt G h ≡ 0
@@ -132,19 +133,19 @@ module _ {G : Granule} (S : Sane G) (ws : List ℕ) (P n h : ℕ) (below : ℕ �
           ∙ ap (λ (x : ℕ). x % sizeAt G h) a
           ∙ zero-mod (sizeAt G h)
 
-pub table-well : {G : Granule} → Sane G → (ws : List ℕ) (P n h t v : ℕ) → v % sizeAt G (suc h) ≡ 0 → Each (WellFormed G) (ofTable G ws P n h t v .mappings)
+pub table-well : {G : Granule} → Sane G → (ws : List ℕ) (area : Area) (h t v : ℕ) → v % sizeAt G (suc h) ≡ 0 → Each (WellFormed G) (ofTable G ws area h t v .mappings)
 unfolding ofTable
-table-well {G} S ws P n zero = well-node S ws P n zero (λ _ _. nothing false) (λ c v a. each-nil (WellFormed G))
-table-well {G} S ws P n (suc h) = well-node S ws P n (suc h) (λ c u. ofTable G ws P n h c u) (table-well S ws P n h)
+table-well {G} S ws area zero = well-node S ws area zero (λ _ _. nothing false) (λ c v a. each-nil (WellFormed G))
+table-well {G} S ws area (suc h) = well-node S ws area (suc h) (λ c u. ofTable G ws area h c u) (table-well S ws area h)
 
 -- ---- the mappings of a pool with good numbers
 
 module _ {G : Granule} (S : Sane G) (p : Pool) (g : goodPool G p ≡ true) where
   -- they rise, within the space
   pub pool-rises : Rising 0 (spaceOf G (p .numbers .levels)) (mappingsOf G p)
-  pool-rises = subst (λ (x : ℕ). Rising 0 x (mappingsOf G p)) space (table-rises G (p .words) (p .numbers .base) (p .numbers .tables) (p .numbers .levels - 1) 0 0)
+  pool-rises = subst (λ (x : ℕ). Rising 0 x (mappingsOf G p)) space (table-rises G (p .words) (areaOf (p .numbers)) (p .numbers .levels - 1) 0 0)
     where
-      N : GoodNumbers G (p .numbers .levels) (p .numbers .base) (p .numbers .tables) (length (p .words)) (length (p .list))
+      N : GoodNumbers G (p .numbers .levels) (areaOf (p .numbers)) (length (p .words)) (length (p .list))
       N = good-setup g .numbers
 
       top : suc (p .numbers .levels - 1) ≡ p .numbers .levels
@@ -163,5 +164,5 @@ module _ {G : Granule} (S : Sane G) (p : Pool) (g : goodPool G p ≡ true) where
   -- each is of a frame that may stand there, at a multiple of its size
   pub pool-well : Each (WellFormed G) (mappingsOf G p)
   pool-well =
-      table-well S (p .words) (p .numbers .base) (p .numbers .tables) (p .numbers .levels - 1) 0 0
+      table-well S (p .words) (areaOf (p .numbers)) (p .numbers .levels - 1) 0 0
       (zero-mod (sizeAt G (suc (p .numbers .levels - 1))))

@@ -4,7 +4,9 @@ use mathlib.Core.Path.{_≡_}
 use mathlib.Core.Logic.{_≢_}
 use mathlib.Core.List.{List, [], _∷_, List·Memᴰ}
 use lib.ListN.{length, getD}
+use Rattle.laws.specs.Lists.{Distinct}
 use Rattle.path.specs.Geometry.{Granule, entries, sizeAt}
+use Rattle.path.specs.Areas.{Area, areaOf, total}
 use Rattle.entry.specs.Words.{entryAt, Framed}
 use Rattle.entry.specs.declared.Entry.{Entry}
 use Rattle.entry.specs.declared.Entry.the-variants.{Empty, Table, Frame, Damaged}
@@ -15,11 +17,6 @@ use Rattle.model.specs.Audit.{ofPool, freeOf}
 -- each member of a list has P
 abbrev pub Each : {A : Type 0} → (A → Type 0) → List A → Type 0
 Each {A} P l = (a : A) → List·Memᴰ a l → P a
-
--- no member of a list stands twice
-abbrev pub Distinct : List ℕ → Type 0
-Distinct [] = Unit {0}
-Distinct (t ∷ ts) = (List·Memᴰ t ts → ⊥) × Distinct ts
 
 -- the word of entry i of table t
 abbrev pub wordAt : Granule → List ℕ → ℕ → ℕ → ℕ
@@ -33,10 +30,10 @@ SoundEntry below (Frame b k) = Unit {0}
 SoundEntry below Damaged = ⊥
 
 -- a table, whose entries have height h, is sound when each of its entries is; there is no table below the last level
-unfoldable pub SoundTable : Granule → List ℕ → ℕ → ℕ → ℕ → ℕ → Type 0
-SoundTable G ws P n zero t = (i : ℕ) → i < entries G → SoundEntry (λ _. ⊥) (entryAt G P n zero (wordAt G ws t i))
-SoundTable G ws P n (suc h) t =
-    (i : ℕ) → i < entries G → SoundEntry (λ c. SoundTable G ws P n h c) (entryAt G P n (suc h) (wordAt G ws t i))
+unfoldable pub SoundTable : Granule → List ℕ → Area → ℕ → ℕ → Type 0
+SoundTable G ws area zero t = (i : ℕ) → i < entries G → SoundEntry (λ _. ⊥) (entryAt G area zero (wordAt G ws t i))
+SoundTable G ws area (suc h) t =
+    (i : ℕ) → i < entries G → SoundEntry (λ c. SoundTable G ws area h c) (entryAt G area (suc h) (wordAt G ws t i))
 
 -- all words of table t are 0
 abbrev pub EmptyTable : Granule → List ℕ → ℕ → Type 0
@@ -52,7 +49,7 @@ mappingsOf G p = ofPool G p .mappings
 
 pub record SoundPool (G : Granule) (p : Pool) : Type 0 where
   -- every table and every entry that is reached is sound
-  pub tree : SoundTable G (p .words) (p .numbers .base) (p .numbers .tables) (p .numbers .levels - 1) 0
+  pub tree : SoundTable G (p .words) (areaOf (p .numbers)) (p .numbers .levels - 1) 0
   -- no table is reached twice
   pub once : Distinct (reachedOf G p)
   -- no table but the root is empty
@@ -60,13 +57,13 @@ pub record SoundPool (G : Granule) (p : Pool) : Type 0 where
   -- free numbers are distinct,
   pub free-once : Distinct (freeOf p)
   -- in range
-  pub free-range : Each (λ t. t < p .numbers .tables) (freeOf p)
+  pub free-range : Each (λ t. t < total (areaOf (p .numbers))) (freeOf p)
   -- and not reached
   pub free-apart : Each (λ t. List·Memᴰ t (reachedOf G p) → ⊥) (freeOf p)
   -- free tables are all zero
   pub free-zero : Each (EmptyTable G (p .words)) (freeOf p)
   -- free + reached = n
-  pub total : p .numbers .free + length (reachedOf G p) ≡ p .numbers .tables
+  pub total : p .numbers .free + length (reachedOf G p) ≡ total (areaOf (p .numbers))
 
 -- mappings from the address lo on, each past the end of the one before it, the last of them ending at hi or below
 unfoldable pub Rising : ℕ → ℕ → List Mapping → Type 0

@@ -16,7 +16,7 @@ use Rattle.model.specs.declared.QueryAnswer.{QueryAnswer}
 use Rattle.model.specs.declared.QueryAnswer.the-variants as Q
 use Rattle.model.specs.declared.AuditAnswer.{AuditAnswer}
 use Rattle.model.specs.declared.AuditAnswer.the-variants as A
-use Rattle.model.specs.Answers.{Mapping, mapping, Answer, saysFormat, saysMap, saysUnmap, saysQuery, saysAudit, Pool, pool, Done, done}
+use Rattle.model.specs.Answers.{Mapping, mapping, Answer, found, saysFormat, saysMap, saysUnmap, saysQuery, saysAudit, Pool, pool, Done, done}
 
 pub format-unique : (a b : FormatAnswer) → saysFormat a ≡ saysFormat b → a ≡ b
 format-unique F.Done F.Done e = refl
@@ -36,14 +36,17 @@ unmap-unique (U.Given b s k t) (U.Refused j) e = cc
 unmap-unique (U.Refused j) (U.Given b s k t) e = cc
 unmap-unique (U.Refused j) (U.Refused k) e = cc
 
+-- the values of a mapping tell it
+pub found-same : (m k : Mapping) → found m ≡ found k → m ≡ k
+found-same m k e =
+    let a : m .at ≡ k .at = cc in
+    let b : m .frame ≡ k .frame = cc in
+    let s : m .size ≡ k .size = cc in
+    let t : m .attributes ≡ k .attributes = cc in
+    λ i. mapping (a i) (b i) (s i) (t i)
+
 pub query-unique : (a b : QueryAnswer) → saysQuery a ≡ saysQuery b → a ≡ b
-query-unique (Q.Found v b s k) (Q.Found v′ b′ s′ k′) e =
-    let same : mapping v b s k ≡ mapping v′ b′ s′ k′ = cc in
-    let at : v ≡ v′ = ap (λ (m : Mapping). m .at) same in
-    let frame : b ≡ b′ = ap (λ (m : Mapping). m .frame) same in
-    let size : s ≡ s′ = ap (λ (m : Mapping). m .size) same in
-    let attributes : k ≡ k′ = ap (λ (m : Mapping). m .attributes) same in
-    cc
+query-unique (Q.Found v b s k) (Q.Found v′ b′ s′ k′) e = cc
 query-unique (Q.Found v b s k) (Q.Refused j) e = cc
 query-unique (Q.Refused j) (Q.Found v b s k) e = cc
 query-unique (Q.Refused j) (Q.Refused k) e = cc

@@ -6,6 +6,7 @@ use lib.Dec.{leb}
 use lib.ListN.{getD, set}
 use Rattle.laws.specs.Lists.{among}
 use Rattle.path.specs.Geometry.{Granule, entries}
+use Rattle.path.specs.Areas.{Area}
 use Rattle.entry.specs.Words.{entryAt}
 use Rattle.entry.specs.declared.Entry.{Entry}
 use Rattle.entry.specs.declared.Entry.the-variants.{Empty, Table, Frame, Damaged}
@@ -35,9 +36,9 @@ onward (Frame b a) target h way on = stop (Frame b a) (suc h) way
 onward Damaged target h way on = stop Damaged (suc h) way
 
 -- from table t, whose entries have height h; `way` holds the tables above it
-unfoldable pub walkFrom : Granule → List ℕ → ℕ → ℕ → ℕ → List ℕ → ℕ → List ℕ → ℕ → Walked
-walkFrom G ws P n target path zero way t =
-    stop (entryAt G P n zero (getD ws (slot G t (atHeight path zero)) 0)) zero (set way (3 - zero) t)
-walkFrom G ws P n target path (suc h) way t =
-    onward (entryAt G P n (suc h) (getD ws (slot G t (atHeight path (suc h))) 0)) target h (set way (3 - suc h) t)
-    (λ c. walkFrom G ws P n target path h (set way (3 - suc h) t) c)
+unfoldable pub walkFrom : Granule → List ℕ → Area → ℕ → List ℕ → ℕ → List ℕ → ℕ → Walked
+walkFrom G ws area target path zero way t =
+    stop (entryAt G area zero (getD ws (slot G t (atHeight path zero)) 0)) zero (set way (3 - zero) t)
+walkFrom G ws area target path (suc h) way t =
+    onward (entryAt G area (suc h) (getD ws (slot G t (atHeight path (suc h))) 0)) target h (set way (3 - suc h) t)
+    (λ c. walkFrom G ws area target path h (set way (3 - suc h) t) c)

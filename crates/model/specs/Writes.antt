@@ -6,6 +6,7 @@ use lib.Dec.{ltb, leb}
 use lib.ListN.{getD, set, length}
 use Rattle.laws.specs.Lists.{part, zeroed, allZero, among}
 use Rattle.path.specs.Geometry.{Granule, entries}
+use Rattle.path.specs.Areas.{Area}
 use Rattle.entry.specs.Words.{tableWord}
 use Rattle.model.specs.Walk.{slot, atHeight}
 
@@ -36,11 +37,11 @@ performAll G (w ∷ ws) m = performAll G ws (perform G w m)
 
 -- Map: `need` tables are missing below the entry of height g + need of table t. They are taken from the end of the free list, top first, each
 -- filled with zeros and then linked; the frame's word is written last.
-unfoldable pub mapWrites : Granule → ℕ → List ℕ → List ℕ → ℕ → ℕ → ℕ → ℕ → ℕ → List Write
-mapWrites G P path list g word t f zero = store (slot G t (atHeight path g)) word ∷ []
-mapWrites G P path list g word t f (suc need) =
+unfoldable pub mapWrites : Granule → Area → List ℕ → List ℕ → ℕ → ℕ → ℕ → ℕ → ℕ → List Write
+mapWrites G area path list g word t f zero = store (slot G t (atHeight path g)) word ∷ []
+mapWrites G area path list g word t f (suc need) =
     let c = getD list (f - 1) 0 in
-    wipe c ∷ store (slot G t (atHeight path (suc need + g))) (tableWord G P c) ∷ mapWrites G P path list g word c (f - 1) need
+    wipe c ∷ store (slot G t (atHeight path (suc need + g))) (tableWord G area c) ∷ mapWrites G area path list g word c (f - 1) need
 
 -- whether so many tables may be taken from the end of the free list: each from 1 to n - 1, none twice, none of those seen on the path
 unfoldable pub mayTake : List ℕ → ℕ → List ℕ → ℕ → ℕ → Bool

@@ -7,11 +7,12 @@ use model::UnmapAnswer;
 use path::Setup;
 ghost use mathlib.Core.Path.{_≡_};
 ghost use Rattle.path.specs.Geometry.{four};
+ghost use Rattle.path.specs.Areas.{areaAt};
 ghost use Rattle.entry.specs.Host.{hostWord, hostMeaning};
-ghost use Rattle.model.specs.Answers.{pool, done, saysFormat, saysMap, saysUnmap, saysQuery, saysAudit};
+ghost use Rattle.model.specs.Answers.{saysFormat, saysMap, saysUnmap, saysQuery, saysAudit};
 ghost use Rattle.model.specs.Calls.{formatW, mapW, unmapW, queryW};
 ghost use Rattle.model.specs.Audit.{auditW};
-ghost use Rattle.oakabut.specs.Surface.{numberOf, setupAt, setupPlaces, takenOf, mappedPlaces, unmappedPlaces, foundPlaces, auditedPlaces, Told};
+ghost use Rattle.oakabut.specs.Surface.{setupAt, poolAt, formatPlaces, mapPlaces, unmapPlaces, queryPlaces, auditPlaces, Told, Left};
 
 // The entry word of a frame, or a refusal: 2, 3, 4 or 5.
 #[no_mangle]
@@ -41,86 +42,53 @@ fn setup_at(s: &[u64; 4]) -> Setup
     }
 }
 
-fn format_number(a: FormatAnswer) -> u64
-    ensures { λ r. ⌜ r ≡ numberOf (saysFormat a) ⌝ }
+// Each answer of the page table becomes the returned number, which is 0 or the refusal, and the places of `answer`.
+fn formatted(a: FormatAnswer, s: Setup, answer: &mut [u64; 4]) -> u64
+    ensures { λ r. ⌜ Told (saysFormat a) (formatPlaces s) r (now (answer .exit)) ⌝ }
 {
+    *answer = [s.levels, s.base, s.tables, s.free];
     match a {
         FormatAnswer::Done => 0,
         FormatAnswer::Refused(k) => k,
     }
 }
 
-fn map_number(a: MapAnswer) -> u64
-    ensures { λ r. ⌜ r ≡ numberOf (saysMap a) ⌝ }
+fn mapped(a: MapAnswer, s: Setup, answer: &mut [u64; 5]) -> u64
+    ensures { λ r. ⌜ Told (saysMap a) (mapPlaces s) r (now (answer .exit)) ⌝ }
 {
+    *answer = [s.levels, s.base, s.tables, s.free, 0];
     match a {
-        MapAnswer::Taken(_) => 0,
+        MapAnswer::Taken(tables) => {
+            answer[4] = tables;
+            0
+        }
         MapAnswer::Refused(k) => k,
     }
 }
 
-fn taken(a: MapAnswer) -> u64
-    ensures { λ r. ⌜ r ≡ takenOf (saysMap a) ⌝ }
+fn unmapped(a: UnmapAnswer, s: Setup, answer: &mut [u64; 8]) -> u64
+    ensures { λ r. ⌜ Told (saysUnmap a) (unmapPlaces s) r (now (answer .exit)) ⌝ }
 {
-    match a {
-        MapAnswer::Taken(t) => t,
-        MapAnswer::Refused(_) => 0,
-    }
-}
-
-fn unmap_number(a: UnmapAnswer) -> u64
-    ensures { λ r. ⌜ r ≡ numberOf (saysUnmap a) ⌝ }
-{
+    *answer = [s.levels, s.base, s.tables, s.free, 0, 0, 0, 0];
     match a {
         UnmapAnswer::Given {
-            frame: _,
-            size: _,
-            attributes: _,
-            tables: _,
-        } => 0,
+            frame,
+            size,
+            attributes,
+            tables,
+        } => {
+            answer[4] = frame;
+            answer[5] = size;
+            answer[6] = attributes;
+            answer[7] = tables;
+            0
+        }
         UnmapAnswer::Refused(k) => k,
     }
 }
 
-fn unmapped(a: UnmapAnswer, s: Setup) -> [u64; 8]
-    ensures { λ r. ⌜ r ≡ unmappedPlaces (saysUnmap a) s ⌝ }
-{
-    match a {
-        UnmapAnswer::Given {
-            frame,
-            size,
-            attributes,
-            tables,
-        } => [
-            s.levels,
-            s.base,
-            s.tables,
-            s.free,
-            frame,
-            size,
-            attributes,
-            tables,
-        ],
-        UnmapAnswer::Refused(_) => [s.levels, s.base, s.tables, s.free, 0, 0, 0, 0],
-    }
-}
-
-fn query_number(a: QueryAnswer) -> u64
-    ensures { λ r. ⌜ r ≡ numberOf (saysQuery a) ⌝ }
-{
-    match a {
-        QueryAnswer::Found {
-            base: _,
-            frame: _,
-            size: _,
-            attributes: _,
-        } => 0,
-        QueryAnswer::Refused(k) => k,
-    }
-}
-
-fn found(a: QueryAnswer) -> [u64; 4]
-    ensures { λ r. ⌜ r ≡ foundPlaces (saysQuery a) ⌝ }
+fn found(a: QueryAnswer, answer: &mut [u64; 4]) -> u64
+    ensures { λ r. ⌜ Told (saysQuery a) queryPlaces r (now (answer .exit)) ⌝ }
 {
     match a {
         QueryAnswer::Found {
@@ -128,29 +96,29 @@ fn found(a: QueryAnswer) -> [u64; 4]
             frame,
             size,
             attributes,
-        } => [base, frame, size, attributes],
-        QueryAnswer::Refused(_) => [0, 0, 0, 0],
+        } => {
+            *answer = [base, frame, size, attributes];
+            0
+        }
+        QueryAnswer::Refused(k) => {
+            *answer = [0, 0, 0, 0];
+            k
+        }
     }
 }
 
-fn audit_number(a: AuditAnswer) -> u64
-    ensures { λ r. ⌜ r ≡ numberOf (saysAudit a) ⌝ }
+fn audited(a: AuditAnswer, answer: &mut [u64; 2]) -> u64
+    ensures { λ r. ⌜ Told (saysAudit a) auditPlaces r (now (answer .exit)) ⌝ }
 {
     match a {
-        AuditAnswer::Sound {
-            tables: _,
-            mappings: _,
-        } => 0,
-        AuditAnswer::Refused(k) => k,
-    }
-}
-
-fn audited(a: AuditAnswer) -> [u64; 2]
-    ensures { λ r. ⌜ r ≡ auditedPlaces (saysAudit a) ⌝ }
-{
-    match a {
-        AuditAnswer::Sound { tables, mappings } => [tables, mappings],
-        AuditAnswer::Refused(_) => [0, 0],
+        AuditAnswer::Sound { tables, mappings } => {
+            *answer = [tables, mappings];
+            0
+        }
+        AuditAnswer::Refused(k) => {
+            *answer = [0, 0];
+            k
+        }
     }
 }
 
@@ -164,13 +132,12 @@ pub extern "C" fn oak_format(
     list: &mut [u32],
     answer: &mut [u64; 4],
 ) -> u64
-    ensures { λ r. ⌜ Told (formatW four levels base tables (now (words .entry)) (now (list .entry))) r (now (answer .exit)) (setupPlaces (formatW four levels base tables (now (words .entry)) (now (list .entry)) .after .numbers)) (now (words .exit)) (now (list .exit)) ⌝ }
+    ensures { λ r. ⌜ Left (formatW four levels (areaAt base tables) (now (words .entry)) (now (list .entry)))
+        formatPlaces r (now (answer .exit)) (now (words .exit)) (now (list .exit)) ⌝ }
 {
     let d = pagetable::format(levels, base, tables, words, list);
-    let s = d.setup;
     let a = d.answer;
-    *answer = [s.levels, s.base, s.tables, s.free];
-    format_number(a)
+    formatted(a, d.setup, answer)
 }
 
 // Maps a frame at an address, and answers the setup and how many tables it took.
@@ -185,13 +152,12 @@ pub extern "C" fn oak_map(
     attributes: u64,
     answer: &mut [u64; 5],
 ) -> u64
-    ensures { λ r. ⌜ Told (mapW four (pool (setupAt (now (s .entry))) (now (words .entry)) (now (list .entry))) address frame size attributes) r (now (answer .exit)) (mappedPlaces (mapW four (pool (setupAt (now (s .entry))) (now (words .entry)) (now (list .entry))) address frame size attributes .answer) (mapW four (pool (setupAt (now (s .entry))) (now (words .entry)) (now (list .entry))) address frame size attributes .after .numbers)) (now (words .exit)) (now (list .entry)) ⌝ }
+    ensures { λ r. ⌜ Left (mapW four (poolAt (now (s .entry)) (now (words .entry)) (now (list .entry))) address frame size attributes)
+        mapPlaces r (now (answer .exit)) (now (words .exit)) (now (list .entry)) ⌝ }
 {
     let d = pagetable::map(setup_at(s), words, list, address, frame, size, attributes);
-    let t = d.setup;
     let a = d.answer;
-    *answer = [t.levels, t.base, t.tables, t.free, taken(a)];
-    map_number(a)
+    mapped(a, d.setup, answer)
 }
 
 // Removes the mapping that starts at an address, and answers the setup, its frame and how many tables came back.
@@ -203,13 +169,12 @@ pub extern "C" fn oak_unmap(
     address: u64,
     answer: &mut [u64; 8],
 ) -> u64
-    ensures { λ r. ⌜ Told (unmapW four (pool (setupAt (now (s .entry))) (now (words .entry)) (now (list .entry))) address) r (now (answer .exit)) (unmappedPlaces (unmapW four (pool (setupAt (now (s .entry))) (now (words .entry)) (now (list .entry))) address .answer) (unmapW four (pool (setupAt (now (s .entry))) (now (words .entry)) (now (list .entry))) address .after .numbers)) (now (words .exit)) (now (list .exit)) ⌝ }
+    ensures { λ r. ⌜ Left (unmapW four (poolAt (now (s .entry)) (now (words .entry)) (now (list .entry))) address)
+        unmapPlaces r (now (answer .exit)) (now (words .exit)) (now (list .exit)) ⌝ }
 {
     let d = pagetable::unmap(setup_at(s), words, list, address);
-    let t = d.setup;
     let a = d.answer;
-    *answer = unmapped(a, t);
-    unmap_number(a)
+    unmapped(a, d.setup, answer)
 }
 
 // Answers the mapping that holds an address.
@@ -221,21 +186,19 @@ pub extern "C" fn oak_query(
     address: u64,
     answer: &mut [u64; 4],
 ) -> u64
-    ensures number { λ r. ⌜ r ≡ numberOf (queryW four (pool (setupAt (now (s .entry))) (now (words .entry)) (now (list .entry))) address) ⌝ }
-    ensures places { λ _. ⌜ now (answer .exit) ≡ foundPlaces (queryW four (pool (setupAt (now (s .entry))) (now (words .entry)) (now (list .entry))) address) ⌝ }
+    ensures { λ r. ⌜ Told (queryW four (poolAt (now (s .entry)) (now (words .entry)) (now (list .entry))) address)
+        queryPlaces r (now (answer .exit)) ⌝ }
 {
     let a = pagetable::query(setup_at(s), words, list, address);
-    *answer = found(a);
-    query_number(a)
+    found(a, answer)
 }
 
 // Answers whether the pool keeps every rule, with the counts of its tables and mappings.
 #[no_mangle]
 pub extern "C" fn oak_audit(s: &[u64; 4], words: &[u64], list: &[u32], answer: &mut [u64; 2]) -> u64
-    ensures number { λ r. ⌜ r ≡ numberOf (auditW four (pool (setupAt (now (s .entry))) (now (words .entry)) (now (list .entry)))) ⌝ }
-    ensures places { λ _. ⌜ now (answer .exit) ≡ auditedPlaces (auditW four (pool (setupAt (now (s .entry))) (now (words .entry)) (now (list .entry)))) ⌝ }
+    ensures { λ r. ⌜ Told (auditW four (poolAt (now (s .entry)) (now (words .entry)) (now (list .entry))))
+        auditPlaces r (now (answer .exit)) ⌝ }
 {
     let a = pagetable::audit(setup_at(s), words, list);
-    *answer = audited(a);
-    audit_number(a)
+    audited(a, answer)
 }

@@ -8,18 +8,22 @@ use model::Unmapped;
 use path::Setup;
 ghost use mathlib.Core.Path.{_≡_};
 ghost use Rattle.path.specs.Geometry.{four};
-ghost use Rattle.model.specs.Answers.{pool, done, saysFormat, saysMap, saysUnmap, saysQuery, saysAudit};
+ghost use Rattle.path.specs.Areas.{areaAt};
+ghost use Rattle.model.specs.Answers.{pool, formatDid, mapDid, unmapDid, saysQuery, saysAudit};
 ghost use Rattle.model.specs.Calls.{formatW, mapW, unmapW, queryW};
 ghost use Rattle.model.specs.Audit.{auditW};
-ghost use Rattle.demand.specs.Demand3.{mapC, unmapC, queryC, auditC};
-ghost use Rattle.demand.specs.Clauses.{ByLedger, FormatByLedger};
+ghost use Rattle.demand.specs.Demand3.{mapC, unmapC};
+ghost use Rattle.demand.specs.Demand3 as question;
+ghost use Rattle.demand.specs.Clauses.{ByLedger, FormatByLedger, AskedByLedger};
 
 // Empties the pool: all words 0, every table but the root free. Refused, it answers 1 and four zero setup numbers, and changes nothing.
 pub fn format(levels: u64, base: u64, tables: u64, words: &mut [u64], list: &mut [u32]) -> Formatted
-    ensures whole { λ r. ⌜ done (saysFormat (r .answer)) (pool (r .setup) (now (words .exit)) (now (list .exit))) ≡ formatW four levels base tables (now (words .entry)) (now (list .entry)) ⌝ }
-    ensures ledger { λ r. ⌜ FormatByLedger four (now (words .entry)) (now (list .entry)) levels base tables (done (saysFormat (r .answer)) (pool (r .setup) (now (words .exit)) (now (list .exit)))) ⌝ }
+    ensures whole { λ r. ⌜ formatDid r (now (words .exit)) (now (list .exit))
+        ≡ formatW four levels (areaAt base tables) (now (words .entry)) (now (list .entry)) ⌝ }
+    ensures ledger { λ r. ⌜ FormatByLedger four (now (words .entry)) (now (list .entry)) levels (areaAt base tables)
+        (formatDid r (now (words .exit)) (now (list .exit))) ⌝ }
 {
-    change::format(levels, base, tables, words, list)
+    formats::format(levels, base, tables, words, list)
 }
 
 // Maps a frame at an address, and answers how many tables it took. Refused, it changes nothing and hands the setup back.
@@ -32,33 +36,37 @@ pub fn map(
     size: u64,
     attributes: u64,
 ) -> Mapped
-    ensures whole { λ r. ⌜ done (saysMap (r .answer)) (pool (r .setup) (now (words .exit)) (now (list .entry))) ≡ mapW four (pool s (now (words .entry)) (now (list .entry))) address frame size attributes ⌝ }
-    ensures ledger { λ r. ⌜ ByLedger four (pool s (now (words .entry)) (now (list .entry))) (mapC address frame size attributes) (done (saysMap (r .answer)) (pool (r .setup) (now (words .exit)) (now (list .entry)))) ⌝ }
+    ensures whole { λ r. ⌜ mapDid r (now (words .exit)) (now (list .entry))
+        ≡ mapW four (pool s (now (words .entry)) (now (list .entry))) address frame size attributes ⌝ }
+    ensures ledger { λ r. ⌜ ByLedger four (pool s (now (words .entry)) (now (list .entry))) (mapC address frame size attributes)
+        (mapDid r (now (words .exit)) (now (list .entry))) ⌝ }
 {
-    change::map(s, words, list, address, frame, size, attributes)
+    maps::map(s, words, list, address, frame, size, attributes)
 }
 
 // Removes the mapping that starts at an address, and answers its frame and how many tables came back. Refused, it changes nothing and hands the
 // setup back.
 pub fn unmap(s: Setup, words: &mut [u64], list: &mut [u32], address: u64) -> Unmapped
-    ensures whole { λ r. ⌜ done (saysUnmap (r .answer)) (pool (r .setup) (now (words .exit)) (now (list .exit))) ≡ unmapW four (pool s (now (words .entry)) (now (list .entry))) address ⌝ }
-    ensures ledger { λ r. ⌜ ByLedger four (pool s (now (words .entry)) (now (list .entry))) (unmapC address) (done (saysUnmap (r .answer)) (pool (r .setup) (now (words .exit)) (now (list .exit)))) ⌝ }
+    ensures whole { λ r. ⌜ unmapDid r (now (words .exit)) (now (list .exit))
+        ≡ unmapW four (pool s (now (words .entry)) (now (list .entry))) address ⌝ }
+    ensures ledger { λ r. ⌜ ByLedger four (pool s (now (words .entry)) (now (list .entry))) (unmapC address)
+        (unmapDid r (now (words .exit)) (now (list .exit))) ⌝ }
 {
-    change::unmap(s, words, list, address)
+    unmaps::unmap(s, words, list, address)
 }
 
 // Answers the mapping that holds an address.
 pub fn query(s: Setup, words: &[u64], list: &[u32], address: u64) -> QueryAnswer
     ensures whole { λ r. ⌜ saysQuery r ≡ queryW four (pool s (now (words .entry)) (now (list .entry))) address ⌝ }
-    ensures ledger { λ r. ⌜ ByLedger four (pool s (now (words .entry)) (now (list .entry))) (queryC address) (done (saysQuery r) (pool s (now (words .entry)) (now (list .entry)))) ⌝ }
+    ensures ledger { λ r. ⌜ AskedByLedger four (pool s (now (words .entry)) (now (list .entry))) (question.query address) (saysQuery r) ⌝ }
 {
-    lookup::query(s, words, list, address)
+    query::query(s, words, list, address)
 }
 
 // Answers whether the pool keeps every rule, with the counts of its tables and mappings.
 pub fn audit(s: Setup, words: &[u64], list: &[u32]) -> AuditAnswer
     ensures whole { λ r. ⌜ saysAudit r ≡ auditW four (pool s (now (words .entry)) (now (list .entry))) ⌝ }
-    ensures ledger { λ r. ⌜ ByLedger four (pool s (now (words .entry)) (now (list .entry))) auditC (done (saysAudit r) (pool s (now (words .entry)) (now (list .entry)))) ⌝ }
+    ensures ledger { λ r. ⌜ AskedByLedger four (pool s (now (words .entry)) (now (list .entry))) question.audit (saysAudit r) ⌝ }
 {
     audit::audit(s, words, list)
 }

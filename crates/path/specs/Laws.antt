@@ -10,6 +10,7 @@ use lib.Dec.{leb, eqb}
 use lib.Pow.{pow-pos, pow-mono, pow-lt, pow-add}
 use borrow.Author.Tests.{ltb-true, leb-true, eqb-true, eqb-false, lt-ltb, le-ltb, le-leb, eq-eqb}
 use Rattle.path.specs.Geometry.{Granule, Sane, four, pageSize, entries, sizeAt, physical, atLevel, goodLevels, spaceOf, seek, heightOf}
+use Rattle.path.specs.Areas.{Area, areaOf, total}
 use Rattle.path.specs.Numbers.{mostTables, goodNumbers, goodSetup, GoodNumbers, GoodSetup}
 use Rattle.path.specs.declared.Setup.{Setup}
 
@@ -206,28 +207,30 @@ space-physical {G} S levels = go (goodLevels G levels) refl
     go true e = size-fits G S (good-levels G levels e .1)
     go false e = zero-le
 
-module _ {G : Granule} {levels base tables words places : ℕ} where
-  pub good-numbers : goodNumbers G levels base tables words places ≡ true → GoodNumbers G levels base tables words places
+module _ {G : Granule} {levels : ℕ} {area : Area} {words places : ℕ} where
+  pub good-numbers : goodNumbers G levels area words places ≡ true → GoodNumbers G levels area words places
   unfolding goodNumbers
   good-numbers e =
       let (a, e₁) = both (goodLevels G levels) _ e in
-      let (b, e₂) = both (leb 1 tables) _ e₁ in
-      let (c, e₃) = both (leb tables mostTables) _ e₂ in
-      let (d, e₄) = both (eqb (base % pageSize G) 0) _ e₃ in
-      let (f, e₅) = both (leb (base + pageSize G * tables) physical) _ e₄ in
-      let (g, k) = both (eqb words (entries G * tables)) _ e₅ in
+      let (b, e₂) = both (leb 1 (area .tables)) _ e₁ in
+      let (c, e₃) = both (leb (area .tables) mostTables) _ e₂ in
+      let (d, e₄) = both (eqb (area .base % pageSize G) 0) _ e₃ in
+      let (f, e₅) = both (leb (area .base + pageSize G * area .tables) physical) _ e₄ in
+      let (g, k) = both (eqb words (entries G * total area)) _ e₅ in
       record {
         enough = good-levels G levels a .0;
         not-more = good-levels G levels a .1;
-        some-table = leb-true 1 tables b;
-        few = leb-true tables mostTables c;
-        aligned = eqb-true (base % pageSize G) 0 d;
-        fits = leb-true (base + pageSize G * tables) physical f;
-        words-are = eqb-true words (entries G * tables) g;
-        places-are = eqb-true places tables k;
+        some-table = leb-true 1 (area .tables) b;
+        few = leb-true (area .tables) mostTables c;
+        placed = record {
+          aligned = eqb-true (area .base % pageSize G) 0 d;
+          fits = leb-true (area .base + pageSize G * area .tables) physical f;
+        };
+        words-are = eqb-true words (entries G * total area) g;
+        places-are = eqb-true places (total area) k;
       }
 
-  pub numbers-good : GoodNumbers G levels base tables words places → goodNumbers G levels base tables words places ≡ true
+  pub numbers-good : GoodNumbers G levels area words places → goodNumbers G levels area words places ≡ true
   unfolding goodNumbers goodLevels
   numbers-good N =
       simp (
@@ -235,22 +238,22 @@ module _ {G : Granule} {levels base tables words places : ℕ} where
         le-leb _ _ (N .not-more),
         le-leb _ _ (N .some-table),
         le-leb _ _ (N .few),
-        eq-eqb _ _ (N .aligned),
-        le-leb _ _ (N .fits),
+        eq-eqb _ _ (N .placed .aligned),
+        le-leb _ _ (N .placed .fits),
         eq-eqb _ _ (N .words-are),
         eq-eqb _ _ (N .places-are),
       )
 
   -- what breaks one of the rules is not good
-  pub numbers-bad : (GoodNumbers G levels base tables words places → ⊥) → goodNumbers G levels base tables words places ≡ false
+  pub numbers-bad : (GoodNumbers G levels area words places → ⊥) → goodNumbers G levels area words places ≡ false
   numbers-bad f = untrue _ (λ e. f (good-numbers e))
 
 module _ {G : Granule} {s : Setup} {words places : ℕ} where
   pub good-setup : goodSetup G s words places ≡ true → GoodSetup G s words places
   unfolding goodSetup
   good-setup e =
-      let (a, b) = both (goodNumbers G (s .levels) (s .base) (s .tables) words places) _ e in
-      record { numbers = good-numbers a; room = ltb-true (s .free) (s .tables) b }
+      let (a, b) = both (goodNumbers G (s .levels) (areaOf s) words places) _ e in
+      record { numbers = good-numbers a; room = ltb-true (s .free) (total (areaOf s)) b }
 
   pub setup-good : GoodSetup G s words places → goodSetup G s words places ≡ true
   unfolding goodSetup

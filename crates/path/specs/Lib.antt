@@ -1,4 +1,5 @@
 pub mod Geometry
+pub mod Areas
 pub mod Numbers
 pub mod Paths
 pub mod Laws

@@ -1,7 +1,8 @@
 // Setup numbers, sizes, and paths: the indices of an address, and back.
 ghost use mathlib.Core.Path.{_≡_};
 ghost use Rattle.path.specs.Geometry.{four, sizeAt, atLevel, spaceOf, heightOf};
-ghost use Rattle.path.specs.Numbers.{goodNumbers, goodSetup};
+ghost use Rattle.path.specs.Areas.{areaAt};
+ghost use Rattle.path.specs.Numbers.{noSetup, withFree, goodNumbers, goodSetup};
 ghost use Rattle.path.specs.Paths.{indexAt, baseAt, pathOf, addressOf};
 
 // The bytes of a page, and of a table.
@@ -26,9 +27,33 @@ pub struct Setup {
     pub free: u64,
 }
 
+// No pool's setup numbers.
+pub fn no_setup() -> Setup
+    ensures { λ r. ⌜ r ≡ noSetup ⌝ }
+{
+    Setup {
+        levels: 0,
+        base: 0,
+        tables: 0,
+        free: 0,
+    }
+}
+
+// The setup numbers with another free count.
+pub fn with_free(s: Setup, free: u64) -> Setup
+    ensures { λ r. ⌜ r ≡ withFree s free ⌝ }
+{
+    Setup {
+        levels: s.levels,
+        base: s.base,
+        tables: s.tables,
+        free,
+    }
+}
+
 // Whether levels, base, table count and the two lengths are good.
 pub fn good_numbers(levels: u64, base: u64, tables: u64, words: usize, places: usize) -> bool
-    ensures { λ r. ⌜ r ≡ goodNumbers four levels base tables words places ⌝ }
+    ensures { λ r. ⌜ r ≡ goodNumbers four levels (areaAt base tables) words places ⌝ }
 {
     if levels < 3 {
         return false;

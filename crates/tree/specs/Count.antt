@@ -11,13 +11,9 @@ use native.Mathlib.Decide.{ℕ-discrete}
 use lib.ListN.{length, length-map}
 use Rattle.tree.specs.Tree.{Ent, Geo}
 use Rattle.tree.specs.Inv.{Mapping, Inv}
+pub use Rattle.laws.specs.Lists.{Distinct}
 
 module _ {A : Type 0} where
-  -- no member stands twice
-  abbrev pub Distinct : List A → Type 0
-  Distinct [] = Unit {0}
-  Distinct (a ∷ l) = (List·Memᴰ a l → ⊥) × Distinct l
-
   -- l has one member more than some list, which has all of l but a
   abbrev Rest : A → List A → Type 0
   Rest a l = (k : List A) × (length l ≡ suc (length k)) × ((b : A) → List·Memᴰ b l → (b ≡ a) ⊎ List·Memᴰ b k)

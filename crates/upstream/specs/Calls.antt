@@ -10,12 +10,13 @@ use lib.ListN.{length, replicate}
 use borrow.Author.Tests.{ltb-false, lt-leb, eqb-true}
 use Rattle.laws.specs.Lists.{down}
 use Rattle.path.specs.Geometry.{Granule, sizeAt, spaceOf, heightOf}
-use Rattle.path.specs.Numbers.{goodNumbers}
+use Rattle.path.specs.Areas.{Area, areaOf, total, tableAt, GoodArea}
+use Rattle.path.specs.Numbers.{noSetup, setupOf, goodNumbers}
 use Rattle.path.specs.Paths.{pathOf}
 use Rattle.entry.specs.Words.{frameWord}
 use Rattle.entry.specs.declared.Entry.{Entry}
 use Rattle.entry.specs.declared.Entry.the-variants.{Empty, Table, Frame, Damaged}
-use Rattle.model.specs.Answers.{formatted, took, gave, refused, Pool, pool, setup, Done, done, refuse}
+use Rattle.model.specs.Answers.{formatted, took, gave, refused, Pool, pool, Done, done, refuse}
 use Rattle.model.specs.declared.Walked.{Walked}
 use Rattle.model.specs.Walk.{atHeight}
 use Rattle.model.specs.Writes.{Write, mapWrites, mayTake, freed, unmapWrites}
@@ -29,7 +30,7 @@ lacking G p a size = walkTo G p (heightOf G size) a .left - heightOf G size
 abbrev pub writesOfMap : Granule → Pool → ℕ → ℕ → ℕ → ℕ → List Write
 writesOfMap G p a b size k =
     let o = walkTo G p (heightOf G size) a in
-    mapWrites G (p .numbers .base) (pathOf G a) (p .list) (heightOf G size) (frameWord b (heightOf G size) k) (atHeight (o .tables) (o .left)) (p .numbers .free) (lacking G p a size)
+    mapWrites G (areaOf (p .numbers)) (pathOf G a) (p .list) (heightOf G size) (frameWord b (heightOf G size) k) (atHeight (o .tables) (o .left)) (p .numbers .free) (lacking G p a size)
 
 -- the tables that an unmap gives back
 abbrev pub giving : Granule → Pool → ℕ → ℕ
@@ -78,7 +79,7 @@ module _ (G : Granule) (p : Pool) where
       go : (x y : Bool) (e : Entry) → o .entry ≡ e → Does (cond x (cond y (mapAt G p a b (heightOf G size) k o e) (refuse no p)) (refuse 1 p))
       go false y e q = inl (1, refl)
       go true false e q = inl (no, refl)
-      go true true Empty q = at q (ltb (p .numbers .free) need) refl (mayTake (p .list) (p .numbers .tables) (o .tables) (p .numbers .free) need)
+      go true true Empty q = at q (ltb (p .numbers .free) need) refl (mayTake (p .list) (total (areaOf (p .numbers))) (o .tables) (p .numbers .free) need)
       go true true (Frame _ _) q = inl (6, refl)
       go true true (Table _) q = inl (6, refl)
       go true true Damaged q = inl (8, refl)
@@ -113,7 +114,7 @@ module _ (G : Granule) (p : Pool) where
       go true true Empty q = inl (9, refl)
       go true true (Table _) q = inl (8, refl)
       go true true Damaged q = inl (8, refl)
-      go true true (Frame b x) q = at b x q (eqb (a % sizeAt G (o .left)) 0) refl (ltb (p .numbers .tables - 1) (p .numbers .free + giving G p a))
+      go true true (Frame b x) q = at b x q (eqb (a % sizeAt G (o .left)) 0) refl (ltb (total (areaOf (p .numbers)) - 1) (p .numbers .free + giving G p a))
 
   -- insert: `res is Err ⇒ old(self)@ == self@`, and all of map's refusals
   pub map-refused : (a b size k n : ℕ) → mapW G p a b size k .answer ≡ refused n → mapW G p a b size k .after ≡ p
@@ -167,13 +168,13 @@ module _ (G : Granule) (p : Pool) where
   query-walk a g l = rw (g, lt-leb (spaceOf G (p .numbers .levels)) a l)
 
 -- new: a format that is accepted sets every word to 0; one that is refused leaves all lent memory
-pub format-refused : (G : Granule) (levels base tables : ℕ) (ws list : List ℕ) (n : ℕ) → formatW G levels base tables ws list .answer ≡ refused n
-    → (formatW G levels base tables ws list .after .words ≡ ws) × (formatW G levels base tables ws list .after .list ≡ list)
+pub format-refused : (G : Granule) (levels : ℕ) (area : Area) (ws list : List ℕ) (n : ℕ) → formatW G levels area ws list .answer ≡ refused n
+    → (formatW G levels area ws list .after .words ≡ ws) × (formatW G levels area ws list .after .list ≡ list)
 unfolding formatW
-format-refused G levels base tables ws list n = go (goodNumbers G levels base tables (length ws) (length list))
+format-refused G levels area ws list n = go (goodNumbers G levels area (length ws) (length list))
   where
     left : Bool → Done
-    left y = cond y (done formatted (pool (setup levels base tables (tables - 1)) (replicate (length ws) 0) (down tables))) (refuse 1 (pool (setup 0 0 0 0) ws list))
+    left y = cond y (done formatted (pool (setupOf levels area (total area - 1)) (replicate (length ws) 0) (down (total area)))) (refuse 1 (pool noSetup ws list))
 
     go : (y : Bool) → left y .answer ≡ refused n → (left y .after .words ≡ ws) × (left y .after .list ≡ list)
     go true e = let z : _≡_ {A = ℕ} 0 1 = cc in absurd (omega arith)

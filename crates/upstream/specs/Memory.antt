@@ -12,6 +12,7 @@ use lib.Seq.{getD-set-other, getD-take, length-take-le}
 use Rattle.laws.specs.Lists.{part, zeroed, allZero}
 use Rattle.laws.specs.ListLaws.{part-set, part-set-before, part-set-after, part-zeroed, part-zeroed-before, part-zeroed-after, getD-zeroed-before, getD-zeroed-after, allZero-part-at, allZero-part-of, mem-at, at-mem}
 use Rattle.path.specs.Geometry.{Granule, pageSize, entries, physical, heightOf, Sane}
+use Rattle.path.specs.Areas.{Area, areaOf, total, tableAt, GoodArea}
 use Rattle.path.specs.Numbers.{GoodNumbers}
 use Rattle.path.specs.Paths.{pathOf}
 use Rattle.entry.specs.Words.{entryAt, frameWord, tableWord}
@@ -34,17 +35,13 @@ use Rattle.upstream.specs.State.{Overlap}
 use Rattle.upstream.specs.Calls.{lacking, writesOfMap, giving, writesOfUnmap, map-took, unmap-gave}
 use Rattle.upstream.specs.Remove.{removed}
 
--- the address of table t
-abbrev pub tableAt : Granule → ℕ → ℕ → ℕ
-tableAt G P t = P + pageSize G * t
-
-module _ (G : Granule) (P : ℕ) where
+module _ (G : Granule) (area : Area) where
   -- `wf`: each table is aligned to its size
-  pub table-aligned : P % pageSize G ≡ 0 → (t : ℕ) → tableAt G P t % pageSize G ≡ 0
-  table-aligned e t = add-mul-mod-self-left P (pageSize G) t ∙ e
+  pub table-aligned : GoodArea G area → (t : ℕ) → tableAt G area t % pageSize G ≡ 0
+  table-aligned e t = add-mul-mod-self-left (area .base) (pageSize G) t ∙ e .aligned
 
   -- `wf`: two tables do not overlap
-  pub tables-apart : (t u : ℕ) → t ≢ u → Overlap (tableAt G P t) (pageSize G) (tableAt G P u) (pageSize G) → ⊥
+  pub tables-apart : (t u : ℕ) → t ≢ u → Overlap (tableAt G area t) (pageSize G) (tableAt G area u) (pageSize G) → ⊥
   tables-apart t u d (a, b) = go (decLt t u)
     where
       go : Dec (t < u) → ⊥
@@ -52,8 +49,8 @@ module _ (G : Granule) (P : ℕ) where
       go (no l) = let k : u < t = omega arith in omega (arith, table-ends (pageSize G) k)
 
   -- `alloc_table_spec`: each table ends at 2^48 or below
-  pub table-fits : {levels n w l : ℕ} → GoodNumbers G levels P n w l → (t : ℕ) → t < n → tableAt G P t + pageSize G ≤ physical
-  table-fits g t k = omega (arith, table-ends (pageSize G) k, g .fits)
+  pub table-fits : GoodArea G area → (t : ℕ) → t < total area → tableAt G area t + pageSize G ≤ physical
+  table-fits e t k = omega (arith, table-ends (pageSize G) k, e .fits)
 
 -- ---- one table's words
 
@@ -94,10 +91,10 @@ module _ (G : Granule) (ws : List ℕ) where
   )
 
   -- pt.rs `is_table_empty`: and so, that each entry is empty, whatever the table's height
-  pub is-table-empty : Sane G → (P n h t : ℕ) → (allZero (tableWords G ws t) ≡ true) ↔ ((i : ℕ) → i < entries G → entryAt G P n h (wordAt G ws t i) ≡ Empty)
-  is-table-empty Z P n h t = (
-    λ e i l. ap (entryAt G P n h) (table-empty t .0 e i l) ∙ entry-zero G P n h,
-    λ f. table-empty t .1 (λ i l. empty-only Z P n h (wordAt G ws t i) (f i l)),
+  pub is-table-empty : Sane G → (area : Area) (h t : ℕ) → (allZero (tableWords G ws t) ≡ true) ↔ ((i : ℕ) → i < entries G → entryAt G area h (wordAt G ws t i) ≡ Empty)
+  is-table-empty Z area h t = (
+    λ e i l. ap (entryAt G area h) (table-empty t .0 e i l) ∙ entry-zero G area h,
+    λ f. table-empty t .1 (λ i l. empty-only Z area h (wordAt G ws t i) (f i l)),
   )
 
 -- ---- writes
@@ -128,12 +125,12 @@ others-stay G (w ∷ ws) m j f = others-stay G ws (perform G w m) j (λ v i. f v
             past (no k) = omega arith
 
 -- map's writes leave the free list as it is
-map-list-stays : (G : Granule) (P : ℕ) (path list : List ℕ) (g word t f need : ℕ) (m : Memory) → performAll G (mapWrites G P path list g word t f need) m .list ≡ m .list
+map-list-stays : (G : Granule) (area : Area) (path list : List ℕ) (g word t f need : ℕ) (m : Memory) → performAll G (mapWrites G area path list g word t f need) m .list ≡ m .list
 unfolding performAll mapWrites
-map-list-stays G P path list g word t f zero m = refl
-map-list-stays G P path list g word t f (suc need) m =
+map-list-stays G area path list g word t f zero m = refl
+map-list-stays G area path list g word t f (suc need) m =
     let c = getD list (f - 1) 0 in
-    map-list-stays G P path list g word c (f - 1) need (memory (set (zeroed (m .words) (slot G c 0) (entries G)) (slot G t (atHeight path (suc need + g))) (tableWord G P c)) (m .list))
+    map-list-stays G area path list g word c (f - 1) need (memory (set (zeroed (m .words) (slot G c 0) (entries G)) (slot G t (atHeight path (suc need + g))) (tableWord G area c)) (m .list))
 
 -- pruning's writes leave the places below the free count
 prune-list-stays : (G : Granule) (way path : List ℕ) (h f k : ℕ) (m : Memory) (i : ℕ) → i < f → getD (performAll G (pruneWrites G way path h f k) m .list) i 0 ≡ getD (m .list) i 0
@@ -168,7 +165,7 @@ module _ (G : Granule) (Z : Sane G) where
     root-reached = subst (λ (l : List ℕ). List·Memᴰ 0 l) (sym (reached-is G Z p (H .good))) (here refl)
 
     -- `alloc_table_spec`, `dealloc_table_spec`: a free table is one of the pool's, not the root, not reached, and has only zeros
-    pub free-table : (i : ℕ) → i < p .numbers .free → let c = getD (p .list) i 0 in (c ≢ 0) × (c < p .numbers .tables) × (List·Memᴰ c (reachedOf G p) → ⊥) × EmptyTable G (p .words) c
+    pub free-table : (i : ℕ) → i < p .numbers .free → let c = getD (p .list) i 0 in (c ≢ 0) × (c < total (areaOf (p .numbers))) × (List·Memᴰ c (reachedOf G p) → ⊥) × EmptyTable G (p .words) c
     free-table i l =
         let m = place-free i l in
         let s = H .sound in
@@ -176,11 +173,11 @@ module _ (G : Granule) (Z : Sane G) where
         (λ e. apart (Memᴰ·cast e root-reached), s .free-range (placeAt (p .list) i) m, apart, s .free-zero (placeAt (p .list) i) m)
 
     -- a table of the pool is reached or free, and not both
-    either : (c : ℕ) → c < p .numbers .tables → List·Memᴰ c (reachedOf G p) ⊎ ((i : ℕ) × (i < p .numbers .free) × (placeAt (p .list) i ≡ c))
-    either c l = ⊎-elim (λ m. inl m) (λ m. inr (free-place c m)) (List·Memᴰ·append-cases (reachedOf G p) (rest .all c .1 (rw (← H .tables-are) l)))
+    either : (c : ℕ) → c < total (areaOf (p .numbers)) → List·Memᴰ c (reachedOf G p) ⊎ ((i : ℕ) × (i < p .numbers .free) × (placeAt (p .list) i ≡ c))
+    either c l = ⊎-elim (λ m. inl m) (λ m. inr (free-place c m)) (List·Memᴰ·append-cases (reachedOf G p) (rest .all c .1 (rw (← ap total (H .area-is)) l)))
 
-    reached-low : (c : ℕ) → List·Memᴰ c (reachedOf G p) → c < p .numbers .tables
-    reached-low c m = rw (H .tables-are) (rest .all c .0 (Memᴰ·append-left (freeOf p) m))
+    reached-low : (c : ℕ) → List·Memᴰ c (reachedOf G p) → c < total (areaOf (p .numbers))
+    reached-low c m = rw (ap total (H .area-is)) (rest .all c .0 (Memᴰ·append-left (freeOf p) m))
 
     both : (c i : ℕ) → List·Memᴰ c (reachedOf G p) → i < p .numbers .free → placeAt (p .list) i ≡ c → ⊥
     both c i m l e = H .sound .free-apart c (Memᴰ·cast (sym e) (place-free i l)) m
@@ -210,7 +207,7 @@ module _ (G : Granule) (Z : Sane G) where
         → (c : ℕ) → List·Memᴰ c (reachedOf G (mapW G p (m .at) (m .frame) (m .size) (m .attributes) .after))
         ↔ (List·Memᴰ c (reachedOf G p) ⊎ ((i : ℕ) × (p .numbers .free - t ≤ i) × (i < p .numbers .free) × (getD (p .list) i 0 ≡ c)))
     map-takes m t e = subst (λ (q : Pool). Taken q) (sym after) (reached-more H (subst (λ (q : Pool). Holds G q next) after K) refl (omega arith)
-        (λ i l. ap (λ (z : List ℕ). placeAt z i) (map-list-stays G (p .numbers .base) (pathOf G (m .at)) (p .list) g (frameWord (m .frame) g (m .attributes))
+        (λ i l. ap (λ (z : List ℕ). placeAt z i) (map-list-stays G (areaOf (p .numbers)) (pathOf G (m .at)) (p .list) g (frameWord (m .frame) g (m .attributes))
         (atHeight (o .tables) (o .left)) (p .numbers .free) (lacking G p (m .at) (m .size)) (memory (p .words) (p .list)))))
       where
         g : ℕ

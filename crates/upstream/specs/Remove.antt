@@ -11,6 +11,7 @@ use lib.ListN.{length, getD, set, take, length-set}
 use lib.Seq.{getD-set-same, getD-set-other, set-out}
 use Rattle.laws.specs.ListLaws.{getD-past}
 use Rattle.path.specs.Geometry.{Granule, entries, sizeAt, spaceOf, Sane}
+use Rattle.path.specs.Areas.{Area, areaOf, total, tableAt, GoodArea}
 use Rattle.path.specs.Laws.{entries-pos, setup-good}
 use Rattle.path.specs.Paths.{pathOf}
 use Rattle.entry.specs.Words.{entryAt}
@@ -65,7 +66,7 @@ cleared ws i = go (decLt i (length ws))
 
 -- ---- remove and prune preserve wf, whatever the pool
 
-module _ (G : Granule) (P n : ℕ) where
+module _ (G : Granule) (area : Area) where
   entry-clears : (e : Entry) (A B : ℕ → Type 0) → ((c : ℕ) → A c → B c) → SoundEntry A e → SoundEntry B e
   entry-clears Empty A B f s = tt
   entry-clears (Table c) A B f s = f c s
@@ -74,22 +75,22 @@ module _ (G : Granule) (P n : ℕ) where
 
   -- the word of a sound entry, where one word is cleared
   word-clears : (ws : List ℕ) (i h t j : ℕ) (A B : ℕ → Type 0) → ((c : ℕ) → A c → B c)
-      → SoundEntry A (entryAt G P n h (wordAt G ws t j)) → SoundEntry B (entryAt G P n h (wordAt G (set ws i 0) t j))
+      → SoundEntry A (entryAt G area h (wordAt G ws t j)) → SoundEntry B (entryAt G area h (wordAt G (set ws i 0) t j))
   word-clears ws i h t j A B f s = go (ℕ-discrete (slot G t j) i)
     where
-      go : Dec (slot G t j ≡ i) → SoundEntry B (entryAt G P n h (wordAt G (set ws i 0) t j))
-      go (yes e) = subst (λ (o : Entry). SoundEntry B o) (sym (ap (entryAt G P n h) (ap (λ (z : ℕ). getD (set ws i 0) z 0) e ∙ cleared ws i) ∙ entry-zero G P n h)) tt
-      go (no d) = subst (λ (x : ℕ). SoundEntry B (entryAt G P n h x)) (sym (getD-set-other ws i (slot G t j) 0 0 d)) (entry-clears (entryAt G P n h (wordAt G ws t j)) A B f s)
+      go : Dec (slot G t j ≡ i) → SoundEntry B (entryAt G area h (wordAt G (set ws i 0) t j))
+      go (yes e) = subst (λ (o : Entry). SoundEntry B o) (sym (ap (entryAt G area h) (ap (λ (z : ℕ). getD (set ws i 0) z 0) e ∙ cleared ws i) ∙ entry-zero G area h)) tt
+      go (no d) = subst (λ (x : ℕ). SoundEntry B (entryAt G area h x)) (sym (getD-set-other ws i (slot G t j) 0 0 d)) (entry-clears (entryAt G area h (wordAt G ws t j)) A B f s)
 
   -- lemma_remove_preserves_wf: a sound table is sound where a word is cleared
-  pub remove-preserves-wf : (ws : List ℕ) (i h t : ℕ) → SoundTable G ws P n h t → SoundTable G (set ws i 0) P n h t
+  pub remove-preserves-wf : (ws : List ℕ) (i h t : ℕ) → SoundTable G ws area h t → SoundTable G (set ws i 0) area h t
   unfolding SoundTable
   remove-preserves-wf ws i zero t s = λ j l. word-clears ws i zero t j (λ _. ⊥) (λ _. ⊥) (λ c z. z) (s j l)
-  remove-preserves-wf ws i (suc h) t s = λ j l. word-clears ws i (suc h) t j (λ c. SoundTable G ws P n h c) (λ c. SoundTable G (set ws i 0) P n h c) (λ c z. remove-preserves-wf ws i h c z) (s j l)
+  remove-preserves-wf ws i (suc h) t s = λ j l. word-clears ws i (suc h) t j (λ c. SoundTable G ws area h c) (λ c. SoundTable G (set ws i 0) area h c) (λ c z. remove-preserves-wf ws i h c z) (s j l)
 
   -- lemma_prune_preserves_wf: after each of the writes of prune
-  pub prune-preserves-wf : (way path : List ℕ) (j h f k : ℕ) (m : Memory) (top t : ℕ) → SoundTable G (m .words) P n top t
-      → SoundTable G (performAll G (take j (pruneWrites G way path h f k)) m .words) P n top t
+  pub prune-preserves-wf : (way path : List ℕ) (j h f k : ℕ) (m : Memory) (top t : ℕ) → SoundTable G (m .words) area top t
+      → SoundTable G (performAll G (take j (pruneWrites G way path h f k)) m .words) area top t
   unfolding performAll pruneWrites
   prune-preserves-wf way path zero h f k m top t s = s
   prune-preserves-wf way path (suc j) h f zero m top t s = s
@@ -138,7 +139,7 @@ module _ (G : Granule) (Z : Sane G) {p : Pool} {A : Ledger} (H : Holds G p A) (a
   in-space : a < spaceOf G top
   in-space = rw (H .levels-are) (unmap-ok-implies-unmap-pre G Z H a b s x t e .in-space)
 
-  E : Ended G Z (p .numbers .base) (p .numbers .tables) top (I .good .numbers .aligned) (few G Z I) (p .words) (R G Z I) a 0 (k₀ G Z I) o
+  E : Ended G Z (areaOf (p .numbers)) top (I .good .numbers .placed) (few G Z I) (p .words) (R G Z I) a 0 (k₀ G Z I) o
   E = walk-ended G Z I 0 a (omega arith) in-space
 
   low : h < top
@@ -155,14 +156,14 @@ module _ (G : Granule) (Z : Sane G) {p : Pool} {A : Ledger} (H : Holds G p A) (a
   -- the tree without it
   after : Inv (X G Z I) (readAt G (removed G p a .words)) (placeAt (p .list)) (p .numbers .free) (upd (I .T) h r 0) (upd (I .S) h r empty) (without h r (I .L)) (suc h) (r / entries G)
   after = reword (rw (at-table, at-index) at (clear h r (b + x) (I .inv) stands))
-      (rd-wr G Z (p .numbers .base) (p .numbers .tables) top (I .good .numbers .aligned) (p .words) (atHeight (o .tables) h) (atHeight (pathOf G a) h) 0 (I .good .numbers .words-are)
+      (rd-wr G Z (areaOf (p .numbers)) top (I .good .numbers .placed) (p .words) (atHeight (o .tables) h) (atHeight (pathOf G a) h) 0 (I .good .numbers .words-are)
       (subst (λ (c : ℕ). c < p .numbers .tables) at-table (R G Z I .range (suc h) (r / entries G) (E .ends .parent))) (subst (λ (i : ℕ). i < entries G) at-index (mod-lt r (entries-pos G)))) (λ i l. refl)
     where
       at-table : I .T (suc h) (r / entries G) ≡ atHeight (o .tables) h
       at-table = sym (E .ends .path-is (suc h) (omega arith) low) ∙ ap (λ (j : ℕ). getD (o .tables) j 0) (omega (arith, few G Z I, low))
 
       at-index : r % entries G ≡ atHeight (pathOf G a) h
-      at-index = sym (spot G Z (p .numbers .base) (p .numbers .tables) top (I .good .numbers .aligned) (few G Z I) (p .words) (R G Z I) a h (omega (arith, few G Z I, low)))
+      at-index = sym (spot G Z (areaOf (p .numbers)) top (I .good .numbers .placed) (few G Z I) (p .words) (R G Z I) a h (omega (arith, few G Z I, low)))
 
   found : mappingsOf G (removed G p a) ≡ map (shown G Z) (maps (seen (X G Z I) (readAt G (removed G p a .words)) (k₀ G Z I)))
   found = mappings-are G Z (removed G p a) (regood (I .good) (length (removed G p a .words)) (length (p .list)) (p .numbers .free)

@@ -63,7 +63,7 @@ Init A = A .live ≡ []
 
 -- the constants stay
 abbrev pub SameConstants : Ledger → Ledger → Type 0
-SameConstants A B = (B .levels ≡ A .levels) × (B .base ≡ A .base) × (B .tables ≡ A .tables)
+SameConstants A B = (B .levels ≡ A .levels) × (B .area ≡ A .area)
 
 -- `map`: from A, the mapping m, to B, with answer r
 pub record Maps (G : Granule) (A B : Ledger) (m : Mapping) (r : Answer) : Type 0 where

@@ -9,6 +9,7 @@ use native.Mathlib.Omega.{arith}
 use lib.Dec.{ltb, leb, eqb}
 use borrow.Author.Tests.{ltb-true, ltb-false, leb-false, eqb-true, eqb-false, le-ltb, le-leb, lt-leb, eq-eqb}
 use Rattle.path.specs.Geometry.{Granule, pageSize, sizeAt, spaceOf, physical, heightOf, Sane}
+use Rattle.path.specs.Areas.{Area, areaOf, total, tableAt, GoodArea}
 use Rattle.path.specs.Laws.{size-pos, size-divides, height-size, size-height, space-some, setup-good}
 use Rattle.path.specs.RegionLaws.{multiple-gap}
 use Rattle.model.specs.Answers.{Mapping, Answer, formatted, took, gave, found, refused, Pool, Done, refuse}
@@ -45,7 +46,7 @@ rising-one lo hi (x ∷ l) r m k i j o = go (List·Memᴰ·cases-cons i) (List·
 
 -- the trait's `view`: the pool's numbers, and the mappings in its words
 abbrev pub view : Granule → Pool → Ledger
-view G p = ledger (p .numbers .levels) (p .numbers .base) (p .numbers .tables) (mappingsOf G p)
+view G p = ledger (p .numbers .levels) (areaOf (p .numbers)) (mappingsOf G p)
 
 -- a state with no other mappings is well-formed too
 wf-less : {G : Granule} {A B : Ledger} → Wf G A → SameConstants A B → ((k : Mapping) → Has B k → Has A k) → Wf G B
@@ -187,19 +188,19 @@ module _ (G : Granule) (Z : Sane G) where
 
       go : (x : Bool) → anyOverlap (m .at) (m .size) (A .live) ≡ x → (y : Bool) → ltb (freeTables G A) need ≡ y → Maps G A (says x y .after) m (says x y .answer)
       go true e y f = record {
-        constants = (refl, refl, refl);
+        constants = (refl, refl);
         overlap = λ _. (refl, λ k. (λ i. i, λ i. i));
         lacks = λ n _. absurd (n (any-overlap (m .at) (m .size) (A .live) .0 e));
         inserts = λ n _. absurd (n (any-overlap (m .at) (m .size) (A .live) .0 e));
       }
       go false e true f = record {
-        constants = (refl, refl, refl);
+        constants = (refl, refl);
         overlap = λ o. absurd (false≢true (sym e ∙ any-overlap (m .at) (m .size) (A .live) .1 o));
         lacks = λ _ _. (refl, λ k. (λ i. i, λ i. i));
         inserts = λ _ l. absurd (omega (arith, ltb-true (freeTables G A) need f));
       }
       go false e false f = record {
-        constants = (refl, refl, refl);
+        constants = (refl, refl);
         overlap = λ o. absurd (false≢true (sym e ∙ any-overlap (m .at) (m .size) (A .live) .1 o));
         lacks = λ _ l. absurd (omega (arith, ltb-false (freeTables G A) need f));
         inserts = λ _ _. (refl, λ k. (λ i. List·Memᴰ·cases-cons i, λ i. ⊎-elim (λ q. here q) (λ j. there j) i));
@@ -226,7 +227,7 @@ module _ (G : Granule) (Z : Sane G) where
 
           by : (y : Bool) → eqb (m .at) a ≡ y → Unmaps G A (says m y .after) a (says m y .answer)
           by true q = record {
-            constants = (refl, refl, refl);
+            constants = (refl, refl);
             removes = λ k j z. (
               ap (λ (x : Mapping). gave (x .frame) (x .size) (x .attributes) (freeTables G B - freeTables G A)) (one-for w a m k i j h (first-within w a k j z)),
               λ x. drop-has a (A .live) x,
@@ -235,7 +236,7 @@ module _ (G : Granule) (Z : Sane G) where
             nothing = λ n. absurd (n (m, i, h));
           }
           by false q = record {
-            constants = (refl, refl, refl);
+            constants = (refl, refl);
             removes = λ k j z. absurd (eqb-false _ _ q (ap (λ (x : Mapping). x .at) (one-for w a m k i j h (first-within w a k j z)) ∙ z));
             inside = λ _ _. (refl, λ k. (λ j. j, λ j. j));
             nothing = λ n. absurd (n (m, i, h));
@@ -243,7 +244,7 @@ module _ (G : Granule) (Z : Sane G) where
 
       go : (c : Option Mapping) → coverOf a (A .live) ≡ c → Unmaps G A (unmapOf G A a c .after) a (unmapOf G A a c .answer)
       go none e = record {
-        constants = (refl, refl, refl);
+        constants = (refl, refl);
         removes = λ k j z. absurd (cover-none a (A .live) e k j (first-within w a k j z));
         inside = λ _ (m, i, h). absurd (cover-none a (A .live) e m i h);
         nothing = λ _. (refl, λ k. (λ j. j, λ j. j));
@@ -285,7 +286,7 @@ module _ (G : Granule) (Z : Sane G) where
   module _ {p : Pool} {A : Ledger} (H : Holds G p A) where
     -- lemma_invariants_implies_wf
     pub invariants-implies-wf : Wf G A
-    invariants-implies-wf = wf-less (words-wf p (setup-good (H .good))) (sym (H .levels-are), sym (H .base-is), sym (H .tables-are)) (λ k i. H .live k i)
+    invariants-implies-wf = wf-less (words-wf p (setup-good (H .good))) (sym (H .levels-are), sym (H .area-is)) (λ k i. H .live k i)
 
     -- a pool that holds a ledger holds its view
     pub view-held : Holds G p (view G p)
@@ -308,10 +309,10 @@ module _ (G : Granule) (Z : Sane G) where
     same-held H′ k = (λ i. H .listed k (H′ .live k i), λ i. H′ .listed k (H .live k i))
 
     same-constants : {B : Ledger} → Holds G p B → SameConstants A B
-    same-constants H′ = (sym (H′ .levels-are) ∙ H .levels-are, sym (H′ .base-is) ∙ H .base-is, sym (H′ .tables-are) ∙ H .tables-are)
+    same-constants H′ = (sym (H′ .levels-are) ∙ H .levels-are, sym (H′ .area-is) ∙ H .area-is)
 
   also-constants : (A B C : Ledger) → SameConstants A B → SameConstants B C → SameConstants A C
-  also-constants A B C (a, b, c) (a′, b′, c′) = (a′ ∙ a, b′ ∙ b, c′ ∙ c)
+  also-constants A B C (a, b) (a′, b′) = (a′ ∙ a, b′ ∙ b)
 
   module _ {p : Pool} {A : Ledger} (H : Holds G p A) where
     -- map_refinement, and the ensures of the trait's map
@@ -403,6 +404,6 @@ module _ (G : Granule) (Z : Sane G) where
     query-refuses a l = rw (setup-good (H .good), H .levels-are, le-leb (spaceOf G (A .levels)) a l)
 
   -- the trait's new: a pool that format accepts holds the ledger with no mapping, and its numbers are the ones given
-  pub new-init : (levels base tables : ℕ) (ws list : List ℕ) → formatW G levels base tables ws list .answer ≡ formatted
-      → Holds G (formatW G levels base tables ws list .after) (ledger levels base tables [])
-  new-init levels base tables ws list e = from-format G Z levels base tables ws list e [] .after 0 .holds
+  pub new-init : (levels : ℕ) (area : Area) (ws list : List ℕ) → formatW G levels area ws list .answer ≡ formatted
+      → Holds G (formatW G levels area ws list .after) (ledger levels area [])
+  new-init levels area ws list e = from-format G Z levels area ws list e [] .after 0 .holds

@@ -22,6 +22,7 @@ use Rattle.model.specs.declared.Walked.{Walked}
 use Rattle.model.specs.Writes.{mayTake}
 use Rattle.model.specs.Calls.{goodPool, walkTo, mapTests, mapHere, mapAt, mapW, unmapTests, unmapAt, unmapW, queryW}
 use Rattle.model.specs.Sound.{Each, EmptyTable, reachedOf, mappingsOf}
+use Rattle.model.specs.Unique.{found-same}
 use Rattle.model.specs.Ledger.{Ledger, withLive, anyOverlap, coverOf, tablesLacking, freeTables, entered, mapL, unmapL, queryOf, queryL}
 use Rattle.demand.specs.Holds.{Holds}
 use Rattle.demand.specs.Sims.{holds-sim}
@@ -386,4 +387,4 @@ module _ (G : Granule) (Z : Sane G) where
         go : (y : Bool) (c : Option Mapping) → coverOf a (A .live) ≡ c → cond y (refused 4) (queryOf c) ≡ found k → Has A k × Within a k
         go true c q e = let z : _≡_ {A = ℕ} 0 1 = cc in absurd (omega arith)
         go false none q e = let z : _≡_ {A = ℕ} 0 1 = cc in absurd (omega arith)
-        go false (some m) q e = let z : m ≡ k = cc in cover-some a (A .live) k (q ∙ ap some z)
+        go false (some m) q e = let z = found-same m k e in cover-some a (A .live) k (q ∙ ap some z)

@@ -13,6 +13,7 @@ use lib.Seq.{getD-set-other}
 use borrow.Author.Tests.{leb-true, leb-false, le-leb, lt-leb}
 use Rattle.laws.specs.Lists.{among}
 use Rattle.path.specs.Geometry.{Granule, entries, spaceOf, Sane}
+use Rattle.path.specs.Areas.{Area, areaOf, total, tableAt, GoodArea}
 use Rattle.path.specs.Paths.{pathOf}
 use Rattle.entry.specs.Words.{entryAt, Framed}
 use Rattle.entry.specs.Laws.{table-only, frame-only}
@@ -38,14 +39,14 @@ EntryValid G n h (Table c) = (1 ≤ h) × (1 ≤ c) × (c < n)
 EntryValid G n h (Frame b k) = Framed G h b k
 EntryValid G n h Damaged = ⊥
 
-module _ (G : Granule) (ws : List ℕ) (P n : ℕ) (path : List ℕ) where
+module _ (G : Granule) (ws : List ℕ) (area : Area) (path : List ℕ) where
   -- the walk to height g from table t, whose entries have height h
   abbrev walk : ℕ → ℕ → List ℕ → ℕ → Walked
-  walk g h way t = walkFrom G ws P n g path h way t
+  walk g h way t = walkFrom G ws area g path h way t
 
   -- the entry of table t that the walk reads
   abbrev read : ℕ → ℕ → Entry
-  read h t = entryAt G P n h (getD ws (slot G t (atHeight path h)) 0)
+  read h t = entryAt G area h (getD ws (slot G t (atHeight path h)) 0)
 
   -- it ends at the height where it began or below
   walk-low : (g h : ℕ) (way : List ℕ) (t : ℕ) → walk g h way t .left ≤ h
@@ -88,17 +89,17 @@ module _ (G : Granule) (ws : List ℕ) (P n : ℕ) (path : List ℕ) where
           at false e false = ih c (omega (arith, leb-false (suc h) g e))
 
   -- lemma_visit_length_bounds
-  pub visit-length-bounds : (g h : ℕ) (way : List ℕ) (t : ℕ) → g ≤ h → (g ≤ walkFrom G ws P n g path h way t .left) × (walkFrom G ws P n g path h way t .left ≤ h)
+  pub visit-length-bounds : (g h : ℕ) (way : List ℕ) (t : ℕ) → g ≤ h → (g ≤ walkFrom G ws area g path h way t .left) × (walkFrom G ws area g path h way t .left ≤ h)
   visit-length-bounds g h way t l = (walk-target g h way t l, walk-low g h way t)
 
   -- lemma_real_path_step: at a table above the target that was not come to before, the walk goes on from that table
-  pub real-path-step : (g h : ℕ) (way : List ℕ) (t c : ℕ) → g ≤ h → entryAt G P n (suc h) (getD ws (slot G t (atHeight path (suc h))) 0) ≡ Table c → among c (set way (3 - suc h) t) ≡ false
-      → walkFrom G ws P n g path (suc h) way t ≡ walkFrom G ws P n g path h (set way (3 - suc h) t) c
+  pub real-path-step : (g h : ℕ) (way : List ℕ) (t c : ℕ) → g ≤ h → entryAt G area (suc h) (getD ws (slot G t (atHeight path (suc h))) 0) ≡ Table c → among c (set way (3 - suc h) t) ≡ false
+      → walkFrom G ws area g path (suc h) way t ≡ walkFrom G ws area g path h (set way (3 - suc h) t) c
   unfolding walkFrom onward
   real-path-step g h way t c l e q = rw (e, onward, lt-leb (suc h) g (omega arith), q)
 
   -- lemma_real_path_visits_same_entry: the walk to the height where a walk ended is that walk
-  pub real-path-visits-same-entry : (g h : ℕ) (way : List ℕ) (t : ℕ) → walkFrom G ws P n (walkFrom G ws P n g path h way t .left) path h way t ≡ walkFrom G ws P n g path h way t
+  pub real-path-visits-same-entry : (g h : ℕ) (way : List ℕ) (t : ℕ) → walkFrom G ws area (walkFrom G ws area g path h way t .left) path h way t ≡ walkFrom G ws area g path h way t
   unfolding walkFrom onward
   real-path-visits-same-entry g zero way t = refl
   real-path-visits-same-entry g (suc h) way t = go (read (suc h) t) (λ c. real-path-visits-same-entry g h (set way (3 - suc h) t) c)
@@ -124,8 +125,8 @@ module _ (G : Granule) (ws : List ℕ) (P n : ℕ) (path : List ℕ) where
           at false e false q = rw (lt-leb (suc h) (walk g h way′ c .left) (omega (arith, walk-low g h way′ c))) (ih c)
 
   -- lemma_visited_entry_is_node_except_final: at each height above the one where the walk ended, it came to a table
-  pub visited-entry-is-node-except-final : (g h : ℕ) (way : List ℕ) (t j : ℕ) → walkFrom G ws P n g path h way t .left < j → j ≤ h
-      → (c : ℕ) × (walkFrom G ws P n j path h way t .entry ≡ Table c) × (walkFrom G ws P n j path h way t .left ≡ j)
+  pub visited-entry-is-node-except-final : (g h : ℕ) (way : List ℕ) (t j : ℕ) → walkFrom G ws area g path h way t .left < j → j ≤ h
+      → (c : ℕ) × (walkFrom G ws area j path h way t .entry ≡ Table c) × (walkFrom G ws area j path h way t .left ≡ j)
   unfolding walkFrom onward
   visited-entry-is-node-except-final g zero way t j a b = absurd (omega arith)
   visited-entry-is-node-except-final g (suc h) way t j a b = go (read (suc h) t) a (λ c. visited-entry-is-node-except-final g h (set way (3 - suc h) t) c j)
@@ -183,7 +184,7 @@ module _ (G : Granule) (ws : List ℕ) (P n : ℕ) (path : List ℕ) where
     pub tables : (j : ℕ) → o′ .left ≤ j → j < 4 → atHeight (o .tables) j ≡ atHeight (o′ .tables) j
 
   -- lemma_visit_preserves_prefix: g′ is the height of the prefix, g that of the path
-  pub visit-preserves-prefix : (g g′ h : ℕ) (way : List ℕ) (t : ℕ) → g ≤ g′ → h < 4 → Extends (walkFrom G ws P n g path h way t) (walkFrom G ws P n g′ path h way t)
+  pub visit-preserves-prefix : (g g′ h : ℕ) (way : List ℕ) (t : ℕ) → g ≤ g′ → h < 4 → Extends (walkFrom G ws area g path h way t) (walkFrom G ws area g′ path h way t)
   unfolding walkFrom onward
   visit-preserves-prefix g g′ zero way t l b = record { further = omega arith; tables = λ j c d. refl }
   visit-preserves-prefix g g′ (suc h) way t l b = go (read (suc h) t) (λ c. visit-preserves-prefix g g′ h (set way (3 - suc h) t) c l (omega arith))
@@ -212,7 +213,7 @@ module _ (G : Granule) (ws : List ℕ) (P n : ℕ) (path : List ℕ) where
           at false false e e′ false = ih c
 
   -- the entry where a walk ended is read from a word, but for a table come to again
-  was-read : (g h : ℕ) (way : List ℕ) (t : ℕ) → (walk g h way t .entry ≡ Damaged) ⊎ ((w : ℕ) × (entryAt G P n (walk g h way t .left) w ≡ walk g h way t .entry))
+  was-read : (g h : ℕ) (way : List ℕ) (t : ℕ) → (walk g h way t .entry ≡ Damaged) ⊎ ((w : ℕ) × (entryAt G area (walk g h way t .left) w ≡ walk g h way t .entry))
   unfolding walkFrom onward
   was-read g zero way t = inr (_, refl)
   was-read g (suc h) way t = go (read (suc h) t) refl (λ c. was-read g h (set way (3 - suc h) t) c)
@@ -221,7 +222,7 @@ module _ (G : Granule) (ws : List ℕ) (P n : ℕ) (path : List ℕ) where
       way′ = set way (3 - suc h) t
 
       Read : Walked → Type 0
-      Read o = (o .entry ≡ Damaged) ⊎ ((w : ℕ) × (entryAt G P n (o .left) w ≡ o .entry))
+      Read o = (o .entry ≡ Damaged) ⊎ ((w : ℕ) × (entryAt G area (o .left) w ≡ o .entry))
 
       go : (e : Entry) → read (suc h) t ≡ e → ((c : ℕ) → Read (walk g h way′ c)) → Read (onward e g h way′ (λ c. walk g h way′ c))
       go Empty q ih = inr (_, q)
@@ -235,11 +236,11 @@ module _ (G : Granule) (ws : List ℕ) (P n : ℕ) (path : List ℕ) where
           at false false = ih c
 
 -- what is read from a word, and not damaged, may stand there
-pub read-valid : {G : Granule} → Sane G → (P n h w : ℕ) (e : Entry) → entryAt G P n h w ≡ e → e ≢ Damaged → EntryValid G n h e
-read-valid Z P n h w Empty q d = tt
-read-valid Z P n h w (Table c) q d = let (x, y, z, _) = table-only Z P n h w q in (x, y, z)
-read-valid Z P n h w (Frame b k) q d = frame-only Z P n h w q .0
-read-valid Z P n h w Damaged q d = d refl
+pub read-valid : {G : Granule} → Sane G → (area : Area) (h w : ℕ) (e : Entry) → entryAt G area h w ≡ e → e ≢ Damaged → EntryValid G (total area) h e
+read-valid Z area h w Empty q d = tt
+read-valid Z area h w (Table c) q d = let (x, y, z, _) = table-only Z area h w q in (x, y, z)
+read-valid Z area h w (Frame b k) q d = frame-only Z area h w q .0
+read-valid Z area h w Damaged q d = d refl
 
 module _ (G : Granule) (Z : Sane G) {p : Pool} {A : Ledger} (H : Holds G p A) (g a : ℕ) (low : g ≤ p .numbers .levels - 1) (in-space : a < spaceOf G (p .numbers .levels)) where
   -- in a pool that holds a ledger no walk meets damage
@@ -257,5 +258,5 @@ module _ (G : Granule) (Z : Sane G) {p : Pool} {A : Ledger} (H : Holds G p A) (g
 
   -- lemma_visited_entries_satisfy_wf: the entry where a walk ended may stand there; those above it are ends of walks to their own heights
   pub visited-entries-satisfy-wf : EntryValid G (p .numbers .tables) (walkTo G p g a .left) (walkTo G p g a .entry)
-  visited-entries-satisfy-wf = ⊎-elim (λ d. absurd (never-damaged d)) (λ (w, q). read-valid Z (p .numbers .base) (p .numbers .tables) _ w _ q never-damaged)
-      (was-read G (p .words) (p .numbers .base) (p .numbers .tables) (pathOf G a) g (p .numbers .levels - 1) noWay 0)
+  visited-entries-satisfy-wf = ⊎-elim (λ d. absurd (never-damaged d)) (λ (w, q). read-valid Z (areaOf (p .numbers)) _ w _ q never-damaged)
+      (was-read G (p .words) (areaOf (p .numbers)) (pathOf G a) g (p .numbers .levels - 1) noWay 0)

@@ -1,6 +1,5 @@
 // The hardware's walk, run: pools are made by the page table's calls, and a line for each address says what the walk translates it to.
 mod show;
-mod walk;
 
 use path::Setup;
 
@@ -51,7 +50,7 @@ fn lines(title: &[u8], addresses: &[u64], words: &[u64], levels: u64) {
     let mut i = 0;
     while i < addresses.len() {
         let a = addresses[i];
-        show::line(a, walk::stage2(words, BASE, levels, a));
+        show::line(a, armwalk::stage2(words, BASE, levels, a));
         i += 1;
     }
 }

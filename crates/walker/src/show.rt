@@ -1,5 +1,5 @@
 // What an address is translated to, as a line of text.
-use crate::walk::Seen;
+use armwalk::Seen;
 use libc::STDOUT_FILENO;
 
 fn text(s: &[u8]) {
@@ -68,7 +68,7 @@ fn memory(w: u64) {
 }
 
 // The line of an address.
-pub fn line(address: u64, seen: Seen) {
+pub(crate) fn line(address: u64, seen: Seen) {
     text(b"  ");
     io::print_hex(STDOUT_FILENO, address, 1);
     match seen {
@@ -85,7 +85,7 @@ pub fn line(address: u64, seen: Seen) {
 }
 
 // The line before those of a pool.
-pub fn title(s: &[u8]) {
+pub(crate) fn title(s: &[u8]) {
     text(s);
     text(b"\n");
 }

@@ -1,59 +1,95 @@
 //! What is measured.
 
-use std::hint::black_box;
-use std::time::{Duration, Instant};
-
 use judge::Random;
 use oakabut::{BLOCK_1G, BLOCK_2M, PAGE};
 
-use crate::measure::{Batch, Case};
-use crate::pool::Pool;
+use crate::pool::{Kept, Note, Pool};
 use crate::sides::Side;
 
 const FRAME: u64 = 0x80_0000_0000;
 const ATTRIBUTES: u64 = 3;
 
+/// A case: a pool, and work on it that leaves it as it was.
+pub struct Case {
+    pub name: String,
+    levels: u64,
+    tables: u64,
+    /// The address and the size of each mapping of the pool.
+    mappings: Vec<(u64, u64)>,
+    work: Work,
+    /// How often the work is done in a repetition.
+    rounds: usize,
+}
+
+enum Work {
+    /// Each address is asked.
+    Query(Vec<u64>),
+    /// A page is mapped at each address and unmapped.
+    MapUnmap(Vec<u64>),
+    Audit,
+    Format,
+}
+
+impl Case {
+    pub fn pool(&self, side: Side) -> Pool {
+        let mut pool = Pool::new(side, self.levels, self.tables);
+        for &(address, size) in &self.mappings {
+            let mut answer = Kept::default();
+            pool.map(address, FRAME + address, size, ATTRIBUTES, &mut answer);
+            assert_eq!(answer.0[0], 0, "a mapping of the case is refused");
+        }
+        pool
+    }
+
+    /// How many calls, or pairs of map and unmap, a repetition makes.
+    pub fn calls(&self) -> usize {
+        self.rounds
+            * match &self.work {
+                Work::Query(addresses) | Work::MapUnmap(addresses) => addresses.len(),
+                Work::Audit | Work::Format => 1,
+            }
+    }
+
+    /// Makes the calls of a repetition.
+    #[inline(never)]
+    pub fn run(&self, pool: &mut Pool, note: &mut impl Note) {
+        for _ in 0..self.rounds {
+            match &self.work {
+                Work::Query(addresses) => addresses.iter().for_each(|&address| pool.query(address, note)),
+                Work::MapUnmap(addresses) => {
+                    for &address in addresses {
+                        pool.map(address, FRAME + address, PAGE, ATTRIBUTES, note);
+                        pool.unmap(address, note);
+                    }
+                }
+                Work::Audit => pool.audit(note),
+                Work::Format => pool.format(self.levels, self.tables, note),
+            }
+        }
+    }
+}
+
 /// All cases. The smoke run makes a hundredth of the calls.
 pub fn all(smoke: bool) -> Vec<Case> {
-    let many = if smoke { 100 } else { 1 };
-    let mut cases = Vec::new();
+    let share = |calls: usize| if smoke { calls.div_ceil(100) } else { calls };
+    let mut cases = vec![
+        query("the customer's case: a million addresses in the tables", 3, Where::Tables, share(1_000_000)),
+        query("the customer's case: a million addresses anywhere", 3, Where::Anywhere, share(1_000_000)),
+    ];
     for levels in [3, 4] {
-        for hits in [true, false] {
-            cases.push(query(levels, hits, 1_000_000 / many));
+        for (place, at) in [("mapped", Where::Mapped), ("in the tables", Where::Tables), ("anywhere", Where::Anywhere)] {
+            cases.push(query(&format!("query, {levels} levels, {place}"), levels, at, share(200_000)));
         }
     }
     for levels in [3, 4] {
-        for removal in [false, true] {
-            cases.push(existing(levels, removal, 400 / many));
-            cases.push(fresh(levels, removal, 1600 / many));
-        }
+        cases.push(map_unmap(levels, 0, share(64)));
     }
-    cases.push(format(200 / many));
-    cases.push(audit(100 / many));
+    cases.extend([map_unmap(3, 1, share(800)), map_unmap(3, 2, share(400)), map_unmap(4, 3, share(400))]);
+    cases.extend([audit(16, share(400)), audit(64, share(100)), format(16, share(2000)), format(64, share(500))]);
     cases
 }
 
-/// Times a batch of calls, one for each of the numbers.
-fn timed(numbers: &[u64], mut call: impl FnMut(u64) -> u64) -> Batch {
-    let start = Instant::now();
-    let mut sum = 0u64;
-    for &number in numbers {
-        sum = sum.rotate_left(7) ^ call(black_box(number));
-    }
-    Batch { calls: numbers.len(), time: start.elapsed(), sum }
-}
-
-/// Adds batches up.
-fn together(rounds: usize, mut round: impl FnMut() -> Batch) -> Batch {
-    let mut all = Batch { calls: 0, time: Duration::ZERO, sum: 0 };
-    for _ in 0..rounds.max(1) {
-        let batch = round();
-        all = Batch { calls: all.calls + batch.calls, time: all.time + batch.time, sum: all.sum.rotate_left(7) ^ batch.sum };
-    }
-    all
-}
-
-/// The tables of pages of the half-full pool, which lie in one region of 1 GiB.
+/// The tables of pages of a half-full pool, in which every second page is mapped. They lie in one region of 1 GiB.
 fn page_tables(levels: u64) -> u64 {
     8 - (levels - 1)
 }
@@ -66,89 +102,53 @@ fn half_full(levels: u64) -> Vec<(u64, u64)> {
     pages.chain(blocks).chain([(BLOCK_1G, BLOCK_1G)]).collect()
 }
 
-fn pool_with(side: Side, levels: u64, tables: u64, mappings: &[(u64, u64)]) -> Pool {
-    let mut pool = Pool::new(side, levels, tables);
-    for &(address, size) in mappings {
-        // the refusal is the highest part of the answer
-        assert_eq!(pool.map(address, FRAME + address, size, ATTRIBUTES) >> 18, 0, "a mapping of the case is refused");
-    }
-    pool
+#[derive(Clone, Copy)]
+enum Where {
+    /// In a mapping picked at random.
+    Mapped,
+    /// In the regions of the tables of pages, where half is mapped.
+    Tables,
+    Anywhere,
 }
 
-fn query(levels: u64, hits: bool, calls: usize) -> Case {
+fn query(name: &str, levels: u64, at: Where, calls: usize) -> Case {
     let random = Random::new(levels);
     let mappings = half_full(levels);
-    let addresses: Vec<u64> = (0..calls)
-        .map(|_| match hits {
-            true => {
-                let (address, size) = mappings[random.below(mappings.len() as u64) as usize];
-                address + random.below(size)
-            }
-            false => random.below(4096 << (9 * levels)),
-        })
-        .collect();
-    Case {
-        name: format!("query, {levels} levels, {}", if hits { "mapped addresses" } else { "any addresses" }),
-        make: Box::new(move |side| pool_with(side, levels, 16, &mappings)),
-        batch: Box::new(move |pool| timed(&addresses, |address| pool.query(address))),
-    }
-}
-
-/// Map or unmap, timed; the other of the two, not timed, puts the pool back.
-fn changes(pool: &mut Pool, pages: &[u64], removal: bool) -> Batch {
-    let mapped = timed(pages, |address| pool.map(address, FRAME + address, PAGE, ATTRIBUTES));
-    let removed = timed(pages, |address| pool.unmap(address));
-    let sum = mapped.sum.rotate_left(7) ^ removed.sum;
-    Batch { sum, ..if removal { removed } else { mapped } }
-}
-
-fn change_case(
-    name: String, levels: u64, tables: u64, before: Vec<(u64, u64)>, pages: Vec<u64>, removal: bool, rounds: usize,
-) -> Case {
-    Case {
-        name,
-        make: Box::new(move |side| pool_with(side, levels, tables, &before)),
-        batch: Box::new(move |pool| together(rounds, || changes(pool, &pages, removal))),
-    }
-}
-
-/// Pages between those of the half-full pool, whose tables are there already.
-fn existing(levels: u64, removal: bool, rounds: usize) -> Case {
-    let name = match removal {
-        false => format!("map of a page, {levels} levels, no new table"),
-        true => format!("unmap of a page, {levels} levels, no table freed"),
+    let address = |_| match at {
+        Where::Mapped => {
+            let (address, size) = random.pick(&mappings);
+            address + random.below(size)
+        }
+        Where::Tables => random.below(page_tables(levels) * BLOCK_2M),
+        Where::Anywhere => random.below(PAGE << (9 * levels)),
     };
-    let pages = (0..page_tables(levels) * 256).map(|i| (2 * i + 1) * PAGE).collect();
-    change_case(name, levels, 16, half_full(levels), pages, removal, rounds)
+    let work = Work::Query((0..calls).map(address).collect());
+    Case { name: name.to_string(), levels, tables: 16, mappings, work, rounds: 1 }
 }
 
-/// Pages of an empty pool of 64 tables, each in a part of the space of its own.
-fn fresh(levels: u64, removal: bool, rounds: usize) -> Case {
-    let taken = levels - 1;
-    let name = match removal {
-        false => format!("map of a page, {levels} levels, {taken} new tables"),
-        true => format!("unmap of a page, {levels} levels, {taken} tables freed"),
+/// Map and unmap of a page, which take so many tables and give them back.
+fn map_unmap(levels: u64, taken: u64, rounds: usize) -> Case {
+    let moved = ["no table moves", "1 table", "2 tables", "3 tables"][taken as usize];
+    let name = format!("map + unmap of a page, {levels} levels, {moved}");
+    let (mappings, pages): (_, Vec<u64>) = match taken {
+        // between the pages of the half-full pool
+        0 => (half_full(levels), (0..page_tables(levels) * 256).map(|i| (2 * i + 1) * PAGE).collect()),
+        // each page in a region of its own that has no table
+        _ => (half_full(levels), (0..16).map(|i| (i + 2) * (PAGE << (9 * taken))).collect()),
     };
-    let region = PAGE << (9 * taken);
-    let pages = (0..63 / taken).map(|i| i * region).collect();
-    change_case(name, levels, 64, Vec::new(), pages, removal, rounds)
+    let pages = match taken {
+        1 => pages.iter().map(|page| page + 200 * BLOCK_2M).collect(),
+        _ => pages,
+    };
+    Case { name, levels, tables: 16, mappings, work: Work::MapUnmap(pages), rounds }
 }
 
-fn format(calls: usize) -> Case {
-    let calls: Vec<u64> = (0..calls as u64).collect();
-    Case {
-        name: "format, 64 tables".into(),
-        make: Box::new(|side| Pool::new(side, 3, 64)),
-        batch: Box::new(move |pool| timed(&calls, |_| pool.format(3, 64))),
-    }
+fn format(tables: u64, rounds: usize) -> Case {
+    Case { name: format!("format, {tables} tables"), levels: 3, tables, mappings: vec![], work: Work::Format, rounds }
 }
 
-fn audit(calls: usize) -> Case {
-    let calls: Vec<u64> = (0..calls as u64).collect();
-    let pages: Vec<(u64, u64)> = (0..62 * 512).map(|i| (i * PAGE, PAGE)).collect();
-    Case {
-        name: "audit, 64 tables, all in use".into(),
-        make: Box::new(move |side| pool_with(side, 3, 64, &pages)),
-        batch: Box::new(move |pool| timed(&calls, |_| pool.audit())),
-    }
+/// All tables are in use: the root, one below it, and tables of pages with every second page.
+fn audit(tables: u64, rounds: usize) -> Case {
+    let mappings = (0..(tables - 2) * 256).map(|i| (2 * i * PAGE, PAGE)).collect();
+    Case { name: format!("audit, {tables} tables in use"), levels: 3, tables, mappings, work: Work::Audit, rounds }
 }

@@ -1,64 +1,82 @@
-//! Times the two sides in turn, and compares what they answer.
+//! Compares the sides, and times them in turn.
 
-use std::time::Duration;
+use judge::{Judge, Source};
 
-use crate::pool::Pool;
-use crate::sides::{OURS, PLAIN};
+use crate::cases::Case;
+use crate::pool::{Kept, Pool, Timed};
+use crate::sides::{Side, SIDES};
 
-/// A case: a pool, and a batch of calls that leaves it as it was.
-pub struct Case {
-    pub name: String,
-    pub make: Box<dyn Fn(crate::sides::Side) -> Pool>,
-    pub batch: Box<dyn Fn(&mut Pool) -> Batch>,
-}
-
-/// What a batch took and answered.
-pub struct Batch {
-    pub calls: usize,
-    pub time: Duration,
-    /// Stands for all answers in order.
-    pub sum: u64,
-}
-
-/// A row of the table: nanoseconds for each call.
+/// A row of the table, with a place for each side.
 pub struct Row {
-    pub ours: f64,
-    pub plain: f64,
-    /// The ratio of the two medians.
-    pub ratio: f64,
-    /// Between these lies the middle half of the ratios, one for each repetition.
-    pub middle: (f64, f64),
-    pub agree: bool,
+    /// Nanoseconds for each call: the median of the repetitions.
+    pub times: [f64; SIDES.len()],
+    /// Ours to each side: the quarters of the ratios, one ratio for each repetition. The second is the median.
+    pub ratios: [[f64; 3]; SIDES.len()],
 }
 
-/// Runs a case so many times on each side. The side that goes first changes each time, and a first turn is not timed.
-pub fn measure(case: &Case, repetitions: usize) -> Row {
-    let mut pools = [(case.make)(OURS), (case.make)(PLAIN)];
-    let mut agree = same(&pools);
-    let mut times = [Vec::new(), Vec::new()];
+/// Runs a side beside `plain` on random calls, damaged pools among them.
+pub fn judge(side: Side, calls: u64) -> Result<(), String> {
+    Judge::new(side).run(&mut Source::new(calls), calls)
+}
+
+/// Runs a case so many times on each side. The sides take turns, another goes first each time, and the first time is not
+/// counted. There is no row where an answer or a place of the memory differs.
+pub fn measure(case: &Case, repetitions: usize) -> Result<Row, String> {
+    let mut pools = SIDES.map(|side| case.pool(side));
+    let mut answers = [const { Vec::new() }; SIDES.len()];
+    for (pool, answers) in pools.iter_mut().zip(&mut answers) {
+        let mut kept = Kept::default();
+        case.run(pool, &mut kept);
+        *answers = kept.0;
+    }
+    let mut times = [const { Vec::new() }; SIDES.len()];
+    for side in 1..SIDES.len() {
+        if answers[side] != answers[0] {
+            return Err(format!("the answers of {} differ", SIDES[side].name));
+        }
+    }
     for repetition in 0..=repetitions {
-        let mut sums = [0; 2];
-        for turn in 0..2 {
-            let side = (repetition + turn) % 2;
-            let batch = (case.batch)(&mut pools[side]);
-            sums[side] = batch.sum;
+        for turn in 0..SIDES.len() {
+            let side = (repetition + turn) % SIDES.len();
+            let start = processor_time();
+            case.run(&mut pools[side], &mut Timed);
+            let time = processor_time() - start;
             if repetition > 0 {
-                times[side].push(batch.time.as_nanos() as f64 / batch.calls as f64);
+                times[side].push(time / case.calls() as f64);
             }
         }
-        agree &= sums[0] == sums[1] && same(&pools);
+        same(&pools)?;
     }
-    let ratios: Vec<f64> = times[0].iter().zip(&times[1]).map(|(ours, plain)| ours / plain).collect();
-    let (ours, plain) = (part(&times[0], 0.5), part(&times[1], 0.5));
-    Row { ours, plain, ratio: ours / plain, middle: (part(&ratios, 0.25), part(&ratios, 0.75)), agree }
+    let ratios = |side: &Vec<f64>| {
+        let ratios: Vec<f64> = times[0].iter().zip(side).map(|(ours, theirs)| ours / theirs).collect();
+        [0.25, 0.5, 0.75].map(|part| below(&ratios, part))
+    };
+    Ok(Row { times: times.each_ref().map(|times| below(times, 0.5)), ratios: times.each_ref().map(ratios) })
 }
 
-fn same([ours, plain]: &[Pool; 2]) -> bool {
-    ours.setup == plain.setup && ours.words == plain.words && ours.list == plain.list
+/// The time that this thread has run, in nanoseconds: the waiting for a processor that others use is no part of it.
+fn processor_time() -> f64 {
+    const CLOCK_THREAD_CPUTIME_ID: i32 = 3; // of Linux
+    extern "C" {
+        fn clock_gettime(clock: i32, seconds_and_nanoseconds: *mut [i64; 2]) -> i32;
+    }
+    let mut time = [0; 2];
+    // SAFETY: on 64-bit Linux the answer is two numbers of 64 bits.
+    assert_eq!(unsafe { clock_gettime(CLOCK_THREAD_CPUTIME_ID, &mut time) }, 0, "there is no such clock");
+    time[0] as f64 * 1e9 + time[1] as f64
+}
+
+fn same(pools: &[Pool]) -> Result<(), String> {
+    for (pool, side) in pools.iter().zip(SIDES) {
+        if (pool.setup, &pool.list) != (pools[0].setup, &pools[0].list) || pool.tables != pools[0].tables {
+            return Err(format!("the memory of {} differs", side.name));
+        }
+    }
+    Ok(())
 }
 
 /// The number below which this part of the numbers lies.
-fn part(numbers: &[f64], part: f64) -> f64 {
+fn below(numbers: &[f64], part: f64) -> f64 {
     let mut sorted = numbers.to_vec();
     sorted.sort_by(f64::total_cmp);
     sorted[((sorted.len() - 1) as f64 * part).round() as usize]

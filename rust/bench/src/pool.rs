@@ -1,89 +1,111 @@
-//! A pool of one side, with the calls of that side on it. Each answers a number that stands for its whole answer.
+//! A pool of one side, with the calls of that side on it.
 
-use oakabut::raw::{Mapped, Unmapped};
-use oakabut::{Audit, Mapping, Setup};
+use std::hint::black_box;
+use std::slice::from_raw_parts_mut;
 
-use crate::sides::Side;
+use oakabut::Setup;
+
+use crate::sides::{numbers, Side, NOT_AUDITED, NOT_FOUND, NOT_MAPPED, NOT_UNMAPPED, NO_SETUP};
 
 /// The address of table 0.
 const BASE: u64 = 0x4000_0000;
 
+/// What is done with each answer.
+pub trait Note {
+    fn note(&mut self, refusal: u64, numbers: &[u64]);
+}
+
+/// While it is timed: nothing, but the compiler may not leave the answer out.
+pub struct Timed;
+
+impl Note for Timed {
+    #[inline(always)]
+    fn note(&mut self, refusal: u64, numbers: &[u64]) {
+        black_box((refusal, numbers.as_ptr()));
+    }
+}
+
+/// Otherwise: all answers are kept.
+#[derive(Default)]
+pub struct Kept(pub Vec<u64>);
+
+impl Note for Kept {
+    fn note(&mut self, refusal: u64, numbers: &[u64]) {
+        self.0.push(refusal);
+        self.0.extend(numbers);
+    }
+}
+
+/// A table, which stands where a machine wants it.
+#[derive(Clone, PartialEq, Eq)]
+#[repr(align(4096))]
+pub struct Table([u64; 512]);
+
 pub struct Pool {
     side: Side,
     pub setup: Setup,
-    pub words: Vec<u64>,
+    pub tables: Vec<Table>,
     pub list: Vec<u32>,
 }
 
-const NO_SETUP: Setup = Setup { levels: 0, base: 0, tables: 0, free: 0 };
-
-/// Numbers as one.
-fn one(numbers: &[u64]) -> u64 {
-    numbers.iter().fold(0, |sum, &number| sum.rotate_left(9).wrapping_add(number))
+/// The words of tables.
+#[inline(always)]
+fn words(tables: &mut [Table]) -> &mut [u64] {
+    // SAFETY: a table is 512 words, and there is no gap between two.
+    unsafe { from_raw_parts_mut(tables.as_mut_ptr().cast(), 512 * tables.len()) }
 }
 
 impl Pool {
     pub fn new(side: Side, levels: u64, tables: u64) -> Pool {
-        let mut pool = Pool { side, setup: NO_SETUP, words: vec![0; 512 * tables as usize], list: vec![0; tables as usize] };
-        pool.format(levels, tables);
+        let (words, list) = (vec![Table([0; 512]); tables as usize], vec![0; tables as usize]);
+        let mut pool = Pool { side, setup: NO_SETUP, tables: words, list };
+        pool.format(levels, tables, &mut Timed);
         pool
     }
 
     #[inline(always)]
-    pub fn format(&mut self, levels: u64, tables: u64) -> u64 {
-        let (w, l) = (&mut self.words, &mut self.list);
+    pub fn format(&mut self, levels: u64, tables: u64, note: &mut impl Note) {
+        let (w, l) = (words(&mut self.tables), &mut self.list);
         // SAFETY: the slices and the answer are this pool's own, here and below.
         let refusal = unsafe {
             (self.side.format)(levels, BASE, tables, w.as_mut_ptr(), w.len(), l.as_mut_ptr(), l.len(), &mut self.setup)
         };
-        one(&[refusal, self.setup.free])
+        note.note(refusal, numbers(&self.setup));
     }
 
     #[inline(always)]
-    pub fn map(&mut self, address: u64, frame: u64, size: u64, attributes: u64) -> u64 {
-        let (w, l) = (&mut self.words, &self.list);
-        let mut answer = Mapped { setup: NO_SETUP, taken: 0 };
-        let refusal = unsafe {
-            (self.side.map)(
-                &self.setup,
-                w.as_mut_ptr(),
-                w.len(),
-                l.as_ptr(),
-                l.len(),
-                address,
-                frame,
-                size,
-                attributes,
-                &mut answer,
-            )
-        };
+    pub fn map(&mut self, address: u64, frame: u64, size: u64, attributes: u64, note: &mut impl Note) {
+        let (w, l) = (words(&mut self.tables), &self.list);
+        let (wp, wl, lp, ll) = (w.as_mut_ptr(), w.len(), l.as_ptr(), l.len());
+        let mut answer = NOT_MAPPED;
+        let refusal = unsafe { (self.side.map)(&self.setup, wp, wl, lp, ll, address, frame, size, attributes, &mut answer) };
         self.setup = answer.setup;
-        one(&[refusal, answer.setup.free, answer.taken])
+        note.note(refusal, numbers(&answer));
     }
 
     #[inline(always)]
-    pub fn unmap(&mut self, address: u64) -> u64 {
-        let (w, l) = (&mut self.words, &mut self.list);
-        let mut answer = Unmapped { setup: NO_SETUP, frame: 0, size: 0, attributes: 0, given: 0 };
+    pub fn unmap(&mut self, address: u64, note: &mut impl Note) {
+        let (w, l) = (words(&mut self.tables), &mut self.list);
+        let mut answer = NOT_UNMAPPED;
         let refusal =
             unsafe { (self.side.unmap)(&self.setup, w.as_mut_ptr(), w.len(), l.as_mut_ptr(), l.len(), address, &mut answer) };
         self.setup = answer.setup;
-        one(&[refusal, answer.setup.free, answer.frame, answer.size, answer.attributes, answer.given])
+        note.note(refusal, numbers(&answer));
     }
 
     #[inline(always)]
-    pub fn query(&self, address: u64) -> u64 {
-        let (w, l) = (&self.words, &self.list);
-        let mut answer = Mapping { base: 0, frame: 0, size: 0, attributes: 0 };
+    pub fn query(&mut self, address: u64, note: &mut impl Note) {
+        let (w, l) = (words(&mut self.tables), &self.list);
+        let mut answer = NOT_FOUND;
         let refusal = unsafe { (self.side.query)(&self.setup, w.as_ptr(), w.len(), l.as_ptr(), l.len(), address, &mut answer) };
-        one(&[refusal, answer.base, answer.frame, answer.size, answer.attributes])
+        note.note(refusal, numbers(&answer));
     }
 
     #[inline(always)]
-    pub fn audit(&self) -> u64 {
-        let (w, l) = (&self.words, &self.list);
-        let mut answer = Audit { tables: 0, mappings: 0 };
+    pub fn audit(&mut self, note: &mut impl Note) {
+        let (w, l) = (words(&mut self.tables), &self.list);
+        let mut answer = NOT_AUDITED;
         let refusal = unsafe { (self.side.audit)(&self.setup, w.as_ptr(), w.len(), l.as_ptr(), l.len(), &mut answer) };
-        one(&[refusal, answer.tables, answer.mappings])
+        note.note(refusal, numbers(&answer));
     }
 }

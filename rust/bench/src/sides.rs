@@ -1,19 +1,26 @@
-//! The two sides: the proved library, and `plain` behind functions of the same shape, which are never inlined.
+//! The three sides: the proved library, `plain` and the plain engine in C, each by its functions of the C surface.
 
-use std::slice::{from_raw_parts, from_raw_parts_mut};
+use std::mem::size_of;
+use std::slice::from_raw_parts;
 
+use judge::{Answer, Call, Engine};
 use oakabut::raw::{self, Mapped, Unmapped};
 use oakabut::{Audit, Mapping, Setup};
 
+type FrameWord = unsafe extern "C" fn(u64, u64, u64) -> u64;
+type WordMeaning = unsafe extern "C" fn(u64, u64) -> u64;
 type Format = unsafe extern "C" fn(u64, u64, u64, *mut u64, usize, *mut u32, usize, *mut Setup) -> u64;
 type Map = unsafe extern "C" fn(*const Setup, *mut u64, usize, *const u32, usize, u64, u64, u64, u64, *mut Mapped) -> u64;
 type Unmap = unsafe extern "C" fn(*const Setup, *mut u64, usize, *mut u32, usize, u64, *mut Unmapped) -> u64;
 type Query = unsafe extern "C" fn(*const Setup, *const u64, usize, *const u32, usize, u64, *mut Mapping) -> u64;
 type AuditCall = unsafe extern "C" fn(*const Setup, *const u64, usize, *const u32, usize, *mut Audit) -> u64;
 
-/// The calls of one side. They are called through these pointers, so that neither side is inlined into the measuring.
+/// The functions of one side. They are called through these pointers, so that no side is inlined into the measuring.
 #[derive(Clone, Copy)]
 pub struct Side {
+    pub name: &'static str,
+    pub frame_word: FrameWord,
+    pub word_meaning: WordMeaning,
     pub format: Format,
     pub map: Map,
     pub unmap: Unmap,
@@ -21,94 +28,115 @@ pub struct Side {
     pub audit: AuditCall,
 }
 
-/// The proved library.
-pub const OURS: Side =
-    Side { format: raw::oak_format, map: raw::oak_map, unmap: raw::oak_unmap, query: raw::oak_query, audit: raw::oak_audit };
+/// bench/plain.h
+mod c {
+    use super::*;
 
-/// The plain program.
-pub const PLAIN: Side = Side { format: plain_format, map: plain_map, unmap: plain_unmap, query: plain_query, audit: plain_audit };
-
-fn to_plain(s: &Setup) -> plain::Setup {
-    plain::Setup { levels: s.levels, base: s.base, tables: s.tables, free: s.free }
-}
-
-fn from_plain(s: plain::Setup) -> Setup {
-    Setup { levels: s.levels, base: s.base, tables: s.tables, free: s.free }
-}
-
-// SAFETY, of each: the callers of this crate keep what oakabut::raw asks of a caller.
-
-#[inline(never)]
-unsafe extern "C" fn plain_format(
-    levels: u64, base: u64, tables: u64, words: *mut u64, words_len: usize, list: *mut u32, list_len: usize, answer: *mut Setup,
-) -> u64 {
-    let (words, list) = (from_raw_parts_mut(words, words_len), from_raw_parts_mut(list, list_len));
-    let (setup, result) = plain::format(levels, base, tables, words, list);
-    *answer = from_plain(setup);
-    result.map_or_else(|refusal| refusal.number(), |()| 0)
-}
-
-#[inline(never)]
-unsafe extern "C" fn plain_map(
-    setup: *const Setup, words: *mut u64, words_len: usize, list: *const u32, list_len: usize, address: u64, frame: u64,
-    size: u64, attributes: u64, answer: *mut Mapped,
-) -> u64 {
-    let (words, list) = (from_raw_parts_mut(words, words_len), from_raw_parts(list, list_len));
-    let (setup, result) = plain::map(to_plain(&*setup), words, list, address, frame, size, attributes);
-    *answer = Mapped { setup: from_plain(setup), taken: result.unwrap_or(0) };
-    result.map_or_else(|refusal| refusal.number(), |_| 0)
-}
-
-#[inline(never)]
-unsafe extern "C" fn plain_unmap(
-    setup: *const Setup, words: *mut u64, words_len: usize, list: *mut u32, list_len: usize, address: u64, answer: *mut Unmapped,
-) -> u64 {
-    let (words, list) = (from_raw_parts_mut(words, words_len), from_raw_parts_mut(list, list_len));
-    let (setup, result) = plain::unmap(to_plain(&*setup), words, list, address);
-    let setup = from_plain(setup);
-    match result {
-        Ok(plain::Removed { frame, size, attributes, given }) => {
-            *answer = Unmapped { setup, frame, size, attributes, given };
-            0
-        }
-        Err(refusal) => {
-            *answer = Unmapped { setup, frame: 0, size: 0, attributes: 0, given: 0 };
-            refusal.number()
-        }
+    extern "C" {
+        pub fn plain_frame_word(base: u64, size: u64, attributes: u64) -> u64;
+        pub fn plain_word_meaning(word: u64, size: u64) -> u64;
+        pub fn plain_format(
+            levels: u64, base: u64, tables: u64, words: *mut u64, words_len: usize, list: *mut u32, list_len: usize,
+            answer: *mut Setup,
+        ) -> u64;
+        pub fn plain_map(
+            s: *const Setup, words: *mut u64, words_len: usize, list: *const u32, list_len: usize, address: u64, frame: u64,
+            size: u64, attributes: u64, answer: *mut Mapped,
+        ) -> u64;
+        pub fn plain_unmap(
+            s: *const Setup, words: *mut u64, words_len: usize, list: *mut u32, list_len: usize, address: u64,
+            answer: *mut Unmapped,
+        ) -> u64;
+        pub fn plain_query(
+            s: *const Setup, words: *const u64, words_len: usize, list: *const u32, list_len: usize, address: u64,
+            answer: *mut Mapping,
+        ) -> u64;
+        pub fn plain_audit(
+            s: *const Setup, words: *const u64, words_len: usize, list: *const u32, list_len: usize, answer: *mut Audit,
+        ) -> u64;
     }
 }
 
-#[inline(never)]
-unsafe extern "C" fn plain_query(
-    setup: *const Setup, words: *const u64, words_len: usize, list: *const u32, list_len: usize, address: u64,
-    answer: *mut Mapping,
-) -> u64 {
-    let (words, list) = (from_raw_parts(words, words_len), from_raw_parts(list, list_len));
-    match plain::query(to_plain(&*setup), words, list, address) {
-        Ok(plain::Found { base, frame, size, attributes }) => {
-            *answer = Mapping { base, frame, size, attributes };
-            0
-        }
-        Err(refusal) => {
-            *answer = Mapping { base: 0, frame: 0, size: 0, attributes: 0 };
-            refusal.number()
-        }
-    }
+/// The proved library first.
+pub const SIDES: [Side; 3] = [
+    Side {
+        name: "ours",
+        frame_word: raw::oak_frame_word,
+        word_meaning: raw::oak_word_meaning,
+        format: raw::oak_format,
+        map: raw::oak_map,
+        unmap: raw::oak_unmap,
+        query: raw::oak_query,
+        audit: raw::oak_audit,
+    },
+    Side {
+        name: "plain Rust",
+        frame_word: bench::frame_word,
+        word_meaning: bench::word_meaning,
+        format: bench::format,
+        map: bench::map,
+        unmap: bench::unmap,
+        query: bench::query,
+        audit: bench::audit,
+    },
+    Side {
+        name: "plain C",
+        frame_word: c::plain_frame_word,
+        word_meaning: c::plain_word_meaning,
+        format: c::plain_format,
+        map: c::plain_map,
+        unmap: c::plain_unmap,
+        query: c::plain_query,
+        audit: c::plain_audit,
+    },
+];
+
+pub const NO_SETUP: Setup = Setup { levels: 0, base: 0, tables: 0, free: 0 };
+pub const NOT_MAPPED: Mapped = Mapped { setup: NO_SETUP, taken: 0 };
+pub const NOT_UNMAPPED: Unmapped = Unmapped { setup: NO_SETUP, frame: 0, size: 0, attributes: 0, given: 0 };
+pub const NOT_FOUND: Mapping = Mapping { base: 0, frame: 0, size: 0, attributes: 0 };
+pub const NOT_AUDITED: Audit = Audit { tables: 0, mappings: 0 };
+
+/// The numbers of an answer of the C surface, which is a run of 64-bit numbers without a gap.
+pub fn numbers<T>(answer: &T) -> &[u64] {
+    // SAFETY: the answers of `raw` are such runs, and this is called with no other.
+    unsafe { from_raw_parts((answer as *const T).cast(), size_of::<T>() / 8) }
 }
 
-#[inline(never)]
-unsafe extern "C" fn plain_audit(
-    setup: *const Setup, words: *const u64, words_len: usize, list: *const u32, list_len: usize, answer: *mut Audit,
-) -> u64 {
-    let (words, list) = (from_raw_parts(words, words_len), from_raw_parts(list, list_len));
-    match plain::audit(to_plain(&*setup), words, list) {
-        Ok(plain::Counts { tables, mappings }) => {
-            *answer = Audit { tables, mappings };
-            0
-        }
-        Err(refusal) => {
-            *answer = Audit { tables: 0, mappings: 0 };
-            refusal.number()
+/// A side, as the judge calls it.
+impl Engine for Side {
+    fn call(&mut self, call: &Call, words: &mut [u64], list: &mut [u32]) -> Answer {
+        let (w, wl, l, ll) = (words.as_mut_ptr(), words.len(), list.as_mut_ptr(), list.len());
+        let s = call.setup().unwrap_or_default();
+        let s = Setup { levels: s.levels, base: s.base, tables: s.tables, free: s.free };
+        // the room of each answer has something in it that must go
+        let junk = Setup { levels: 1, base: 2, tables: 3, free: 4 };
+        // SAFETY: the pointers and lengths are those of the two slices, which nothing else uses.
+        unsafe {
+            match *call {
+                Call::FrameWord { base, size, attributes } => Answer::of_host((self.frame_word)(base, size, attributes)),
+                Call::WordMeaning { word, size } => Answer::of_host((self.word_meaning)(word, size)),
+                Call::Format { levels, base, tables } => {
+                    let mut a = junk;
+                    Answer::new((self.format)(levels, base, tables, w, wl, l, ll, &mut a), numbers(&a))
+                }
+                Call::Map { address, frame, size, attributes, .. } => {
+                    let mut a = Mapped { setup: junk, taken: 5 };
+                    Answer::new((self.map)(&s, w, wl, l, ll, address, frame, size, attributes, &mut a), numbers(&a))
+                }
+                Call::Unmap { address, .. } => {
+                    let mut a = Unmapped { setup: junk, frame: 5, size: 6, attributes: 7, given: 8 };
+                    Answer::new((self.unmap)(&s, w, wl, l, ll, address, &mut a), numbers(&a))
+                }
+                Call::Query { address, .. } => {
+                    let mut a = Mapping { base: 1, frame: 2, size: 3, attributes: 4 };
+                    Answer::new((self.query)(&s, w, wl, l, ll, address, &mut a), numbers(&a))
+                }
+                Call::Audit { .. } => {
+                    let mut a = Audit { tables: 1, mappings: 2 };
+                    Answer::new((self.audit)(&s, w, wl, l, ll, &mut a), numbers(&a))
+                }
+            }
         }
     }
 }

@@ -1,53 +1,58 @@
-//! A history as text, one step in each line, for a program in another language to replay.
+//! A history as text, one step in each line, for a program in another language to replay; `crates/cases` is one.
 //!
-//! Every line is a row of numbers in hexadecimal, without a prefix, separated by single spaces; lines that begin with `#` are
-//! comments. The first number says what the line is:
+//! An empty line and a heading come first. Every other line is `plain:`, what the step is, and its numbers, which are hexadecimal
+//! after `0x` and else decimal:
 //!
 //! ```text
-//! 0 W L                    there is new memory of W words and L places, all zero
-//! 1 I V                    word I becomes V
-//! 2 I V                    place I becomes V
-//! 3 base size attributes   the host's call for the entry word of a frame
-//! 4 word size              the host's call for the meaning of a word
-//! 5 w l levels base tables                                     format
-//! 6 w l levels base tables free address frame size attributes  map
-//! 7 w l levels base tables free address                        unmap
-//! 8 w l levels base tables free address                        query
-//! 9 w l levels base tables free                                audit
-//! a N                      the end: N lines that are no comments came before
+//! Lend W words of 0, L places of 0   there is new memory, all zero
+//! Word I becomes V
+//! Place I becomes V
+//! Entry base size attributes 0       the host's call for the entry word of a frame
+//! Decode word size 0 0               the host's call for the meaning of a word
+//! Format w l levels base tables 0  0 0 0 0
+//! Map    w l levels base tables free  address frame size attributes
+//! Unmap  w l levels base tables free  address 0 0 0
+//! Query  w l levels base tables free  address 0 0 0
+//! Audit  w l levels base tables free  0 0 0 0
+//! total N lines                      the end: so many steps came before
 //! ```
 //!
-//! In 5 to 9 the call is lent the first w words and the first l places. The answer follows in the same line:
+//! Each of the last five calls is lent the first w words and the first l places. After `=` the answer follows in the same line: the
+//! number that a call of the host's answers, or the refusal, the setup after the call, four numbers and a sum. The four are:
 //!
 //! ```text
-//! 3, 4   the number answered
-//! 5      refusal levels base tables free sum
-//! 6      refusal levels base tables free taken sum
-//! 7      refusal levels base tables free frame size attributes given sum
-//! 8      refusal base frame size attributes sum
-//! 9      refusal tables mappings sum
+//! Format 0 0 0 0
+//! Map    taken 0 0 0
+//! Unmap  frame size attributes given
+//! Query  base frame size attributes
+//! Audit  tables mappings 0 0
 //! ```
 //!
 //! The refusal is its number or 0, and what a refusal does not answer is 0. The sum is that of all memory after the call, lent
-//! or not: the sum of (2 i + 1) * number i, modulo 2^64, over the W words (i = 0 to W - 1) and then the L places (i = W to
-//! W + L - 1).
+//! or not: the sum of (2 i + 1) * number i, modulo 2^64, where word 0 is number 0 and place 0 is number 33280, since no memory has
+//! more words.
 
 use std::io::{self, Write};
 
+use plain::Setup;
+
 use crate::{cases, Answer, Call, Memory, Source, Step, World};
 
-/// Writes the document's cases and then so many calls from a seed, with the plain program's answers. The text above comes first.
+/// The line before those of the steps.
+pub const HEADING: &str = "Calls that the second program made, with its answers.";
+
+/// The first number of a place.
+const PLACES_FROM: u64 = 33280;
+
+/// Writes the document's cases and then so many calls from a seed, with the plain program's answers.
 pub fn write(out: &mut impl Write, seed: u64, calls: u64) -> io::Result<()> {
-    let text = include_str!("lines.rs").lines().take_while(|line| line.starts_with("//!")).map(|line| &line[3..]);
-    for comment in text.filter(|line| !line.contains("```")) {
-        writeln!(out, "#{comment}")?;
-    }
+    writeln!(out, "\n{HEADING}")?;
     let mut world = World::default();
     let mut written = 0;
     let mut carry_out = |world: &mut World, step: &Step| {
         let (answer, _) = world.apply(step).map_err(io::Error::other)?;
         written += 1;
-        writeln!(out, "{}", line(&numbers(step, answer.as_ref(), &world.memory)))?;
+        writeln!(out, "plain: {}", text(step, answer.as_ref(), &world.memory))?;
         Ok::<_, io::Error>(u64::from(answer.is_some()))
     };
     for step in cases() {
@@ -59,50 +64,53 @@ pub fn write(out: &mut impl Write, seed: u64, calls: u64) -> io::Result<()> {
         let step = source.next(&world);
         made += carry_out(&mut world, &step)?;
     }
-    writeln!(out, "{}", line(&[10, written]))
+    writeln!(out, "plain: total {written} lines")
 }
 
-/// A step as numbers, with the answer and the memory after it.
-fn numbers(step: &Step, answer: Option<&Answer>, memory: &Memory) -> Vec<u64> {
+/// A step, with the answer and the sum of the memory after it.
+fn text(step: &Step, answer: Option<&Answer>, memory: &Memory) -> String {
     let (call, words, places) = match *step {
-        Step::Memory { words, places } => return vec![0, words as u64, places as u64],
-        Step::Word { at, word, .. } => return vec![1, at as u64, word],
-        Step::Place { at, number, .. } => return vec![2, at as u64, u64::from(number)],
+        Step::Memory { words, places } => return format!("Lend {words} words of 0, {places} places of 0"),
+        Step::Word { at, word, .. } => return format!("Word {at} becomes {word:#x}"),
+        Step::Place { at, number, .. } => return format!("Place {at} becomes {number}"),
         Step::Call { call, words, places } => (call, words as u64, places as u64),
     };
     let answer = answer.expect("a call has an answer");
-    let mut line = vec![3 + call.kind() as u64];
-    match call {
-        Call::FrameWord { base, size, attributes } => {
-            line.extend([base, size, attributes, answer.numbers[0]]);
-            return line;
-        }
-        Call::WordMeaning { word, size } => {
-            line.extend([word, size, answer.numbers[0]]);
-            return line;
-        }
-        Call::Format { levels, base, tables } => line.extend([words, places, levels, base, tables]),
-        Call::Map { setup: s, address, frame, size, attributes } => {
-            line.extend([words, places, s.levels, s.base, s.tables, s.free, address, frame, size, attributes]);
-        }
-        Call::Unmap { setup: s, address } | Call::Query { setup: s, address } => {
-            line.extend([words, places, s.levels, s.base, s.tables, s.free, address]);
-        }
-        Call::Audit { setup: s } => line.extend([words, places, s.levels, s.base, s.tables, s.free]),
-    }
-    line.push(answer.refusal);
-    line.extend(&answer.numbers[..call.width()]);
-    line.push(sum(memory));
-    line
+    let (name, setup, rest) = match call {
+        Call::FrameWord { base, size, attributes } => return row("Entry", &[base, size, attributes, 0], &answer.numbers[..1]),
+        Call::WordMeaning { word, size } => return row("Decode", &[word, size, 0, 0], &answer.numbers[..1]),
+        Call::Format { levels, base, tables } => ("Format", Setup { levels, base, tables, free: 0 }, [0; 4]),
+        Call::Map { setup, address, frame, size, attributes } => ("Map", setup, [address, frame, size, attributes]),
+        Call::Unmap { setup, address } => ("Unmap", setup, [address, 0, 0, 0]),
+        Call::Query { setup, address } => ("Query", setup, [address, 0, 0, 0]),
+        Call::Audit { setup } => ("Audit", setup, [0; 4]),
+    };
+    let setup = [setup.levels, setup.base, setup.tables, setup.free];
+    let told = match call {
+        Call::Query { .. } | Call::Audit { .. } => [&setup[..], &answer.numbers[..4]].concat(),
+        _ => answer.numbers.to_vec(),
+    };
+    row(name, &[&[words, places], &setup[..], &rest].concat(), &[&[answer.refusal], &told[..], &[sum(memory)]].concat())
 }
 
-/// Numbers as a line of text.
-fn line(numbers: &[u64]) -> String {
-    numbers.iter().map(|number| format!("{number:x}")).collect::<Vec<_>>().join(" ")
+/// What a call takes and answers, as text.
+fn row(name: &str, takes: &[u64], told: &[u64]) -> String {
+    let numbers = |list: &[u64]| list.iter().map(|&n| number(n)).collect::<String>();
+    format!("{name}{} ={}", numbers(takes), numbers(told))
+}
+
+/// A number after a space.
+fn number(n: u64) -> String {
+    if n < 10 {
+        format!(" {n}")
+    } else {
+        format!(" {n:#x}")
+    }
 }
 
 /// The sum of a memory.
 pub fn sum(memory: &Memory) -> u64 {
-    let numbers = memory.words.iter().copied().chain(memory.list.iter().map(|&number| u64::from(number)));
-    numbers.zip((1..).step_by(2)).fold(0, |sum, (number, odd): (u64, u64)| sum.wrapping_add(odd.wrapping_mul(number)))
+    let words = memory.words.iter().copied().zip(0..);
+    let places = memory.list.iter().map(|&place| u64::from(place)).zip(PLACES_FROM..);
+    words.chain(places).fold(0, |sum, (number, i): (u64, u64)| sum.wrapping_add((2 * i + 1).wrapping_mul(number)))
 }

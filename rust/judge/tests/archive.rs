@@ -41,6 +41,15 @@ fn the_safe_crate() {
     judge(Safe, 1);
 }
 
+/// The numbers among the words of a text.
+fn numbers(text: &str) -> Vec<u64> {
+    let number = |word: &str| match word.strip_prefix("0x") {
+        Some(digits) => u64::from_str_radix(digits, 16).ok(),
+        None => word.parse().ok(),
+    };
+    text.split([' ', ',']).filter_map(number).collect()
+}
+
 /// The text form of a history says all that a replay needs.
 #[test]
 fn the_text_form() {
@@ -49,47 +58,52 @@ fn the_text_form() {
     let mut memory = Memory::default();
     let mut replayed = 0;
     let mut end = None;
-    for line in String::from_utf8(text).unwrap().lines().filter(|line| !line.starts_with('#')) {
-        let line: Vec<u64> = line.split(' ').map(|number| u64::from_str_radix(number, 16).unwrap()).collect();
-        let setup = |at: usize| plain::Setup { levels: line[at], base: line[at + 1], tables: line[at + 2], free: line[at + 3] };
-        let call = match *line {
-            [0, words, places] => {
+    for line in String::from_utf8(text).unwrap().lines().filter_map(|line| line.strip_prefix("plain: ")) {
+        let (takes, told) = line.split_once(" =").unwrap_or((line, ""));
+        let (name, takes) = takes.split_once(' ').unwrap();
+        let (takes, told) = (numbers(takes), numbers(told));
+        let setup = || plain::Setup { levels: takes[2], base: takes[3], tables: takes[4], free: takes[5] };
+        let call = match (name, &takes[..]) {
+            ("Lend", &[words, 0, places, 0]) => {
                 memory = Memory { words: vec![0; words as usize], list: vec![0; places as usize] };
                 None
             }
-            [1, at, word] => {
+            ("Word", &[at, word]) => {
                 memory.words[at as usize] = word;
                 None
             }
-            [2, at, number] => {
+            ("Place", &[at, number]) => {
                 memory.list[at as usize] = u32::try_from(number).unwrap();
                 None
             }
-            [3, base, size, attributes, _] => Some((Call::FrameWord { base, size, attributes }, 4)),
-            [4, word, size, _] => Some((Call::WordMeaning { word, size }, 3)),
-            [5, _, _, levels, base, tables, ..] => Some((Call::Format { levels, base, tables }, 6)),
-            [6, _, _, _, _, _, _, address, frame, size, attributes, ..] => {
-                Some((Call::Map { setup: setup(3), address, frame, size, attributes }, 11))
+            ("Entry", &[base, size, attributes, 0]) => Some(Call::FrameWord { base, size, attributes }),
+            ("Decode", &[word, size, 0, 0]) => Some(Call::WordMeaning { word, size }),
+            ("Format", &[_, _, levels, base, tables, 0, 0, 0, 0, 0]) => Some(Call::Format { levels, base, tables }),
+            ("Map", &[_, _, _, _, _, _, address, frame, size, attributes]) => {
+                Some(Call::Map { setup: setup(), address, frame, size, attributes })
             }
-            [7, _, _, _, _, _, _, address, ..] => Some((Call::Unmap { setup: setup(3), address }, 8)),
-            [8, _, _, _, _, _, _, address, ..] => Some((Call::Query { setup: setup(3), address }, 8)),
-            [9, _, _, _, _, _, _, ..] => Some((Call::Audit { setup: setup(3) }, 7)),
-            [10, count] => {
+            ("Unmap", &[_, _, _, _, _, _, address, 0, 0, 0]) => Some(Call::Unmap { setup: setup(), address }),
+            ("Query", &[_, _, _, _, _, _, address, 0, 0, 0]) => Some(Call::Query { setup: setup(), address }),
+            ("Audit", &[_, _, _, _, _, _, 0, 0, 0, 0]) => Some(Call::Audit { setup: setup() }),
+            ("total", &[count]) => {
                 end = Some(count);
                 continue;
             }
-            _ => panic!("{line:x?}"),
+            _ => panic!("{line}"),
         };
         replayed += 1;
-        let Some((call, answers_from)) = call else { continue };
-        let (words, places) = if line[0] < 5 { (0, 0) } else { (line[1] as usize, line[2] as usize) };
-        let answer = Raw.call(&call, &mut memory.words[..words], &mut memory.list[..places]);
-        let mut expected = answer.numbers[..call.width()].to_vec();
-        if line[0] >= 5 {
-            expected.insert(0, answer.refusal);
-            expected.push(lines::sum(&memory));
-        }
-        assert_eq!(line[answers_from..], expected, "{line:x?}");
+        let Some(call) = call else { continue };
+        let expected = match call {
+            Call::FrameWord { .. } | Call::WordMeaning { .. } => Raw.call(&call, &mut [], &mut []).numbers[..1].to_vec(),
+            _ => {
+                let (words, places) = (&mut memory.words[..takes[0] as usize], &mut memory.list[..takes[1] as usize]);
+                let answer = Raw.call(&call, words, places);
+                let handed_back = if let Call::Query { .. } | Call::Audit { .. } = call { &takes[2..6] } else { &[] };
+                let told = [handed_back, &answer.numbers[..8 - handed_back.len()]].concat();
+                [&[answer.refusal], &told[..], &[lines::sum(&memory)]].concat()
+            }
+        };
+        assert_eq!(told, expected, "{line}");
     }
     assert_eq!(end, Some(replayed));
 }

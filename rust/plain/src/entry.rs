@@ -1,15 +1,7 @@
 //! Entry words of VMSAv8-64 stage 2 with the 4 KiB granule, and the host's two calls about them.
 
+use crate::geometry::{is_multiple, LIMIT, PAGE, SIZES};
 use crate::Refusal;
-
-/// The three frame sizes: 4 KiB, 2 MiB and 1 GiB.
-pub const SIZES: [u64; 3] = [1 << 12, 1 << 21, 1 << 30];
-
-/// No frame and no table reaches past this address.
-pub const LIMIT: u64 = 1 << 48;
-
-/// Bits 47:12 of a word hold the base of a frame.
-const BASE_BITS: u64 = LIMIT - 4096;
 
 /// What a frame word says: the base of the frame and its attributes, 0 to 15.
 #[derive(Clone, Copy, Debug, PartialEq, Eq)]
@@ -18,60 +10,42 @@ pub struct Frame {
     pub attributes: u64,
 }
 
-/// The attribute word of each of the attributes 0 to 15.
-const ATTRIBUTE_WORDS: [u64; 16] = {
-    let mut table = [0; 16];
-    let mut attributes = 0;
-    while attributes < 16 {
-        table[attributes] = attribute_word(attributes as u64);
-        attributes += 1;
-    }
-    table
-};
+/// Bits that a frame has or has not: 6 for read, 7 for write, 54 for not execute.
+const READ_AND_WRITE: u64 = 0b11 << 6;
+const NOT_EXECUTE: u64 = 1 << 54;
 
-/// The rule of the attribute words. The attributes are 1 read, 2 write, 4 execute and 8 device.
-const fn attribute_word(attributes: u64) -> u64 {
-    let mut word = 1 << 10;
-    if attributes & 1 != 0 {
-        word |= 1 << 6;
-    }
-    if attributes & 2 != 0 {
-        word |= 1 << 7;
-    }
-    if attributes & 4 == 0 {
-        word |= 1 << 54;
-    }
-    if attributes & 8 == 0 {
-        word |= 0b1111 << 2 | 0b11 << 8;
+/// Bits 10:8 and 5:2 of normal memory and of device memory.
+const NORMAL: u64 = 1 << 10 | 0b11 << 8 | 0b1111 << 2;
+const DEVICE: u64 = 1 << 10 | 0b0001 << 2;
+
+/// The type of a frame: 3 at the last level and 1 above it.
+#[inline]
+fn kind(size: u64) -> u64 {
+    if size == PAGE {
+        3
     } else {
-        word |= 0b0001 << 2;
+        1
     }
-    word
 }
 
-/// Whether a number is a multiple of a size, which is a power of two.
-pub(crate) fn is_multiple(number: u64, size: u64) -> bool {
-    number & (size - 1) == 0
-}
-
-/// The word of a frame that passes the tests 2 to 5. The type is 3 at the last level and 1 above it.
+/// The word of a frame that passes the tests 2 to 5. The attributes are 1 read, 2 write, 4 execute and 8 device.
+#[inline]
 pub(crate) fn write_frame(base: u64, size: u64, attributes: u64) -> u64 {
-    let kind = if size == 4096 { 3 } else { 1 };
-    base + kind + ATTRIBUTE_WORDS[attributes as usize]
+    let memory = if attributes & 8 == 0 { NORMAL } else { DEVICE };
+    base | kind(size) | memory | (attributes & 3) << 6 | (!attributes & 4) << 52
 }
 
-/// The frame of this size that a word stands for, if it is the word of one.
+/// The frame of this size, which is one of the three, that a word stands for, if it is the word of one.
 ///
-/// The base and the attributes are read off their own bits; then the whole word has to be what they give.
+/// The bits of the base, read, write and execute may be anything; the others have to be one of two patterns. A base below 2^48
+/// that is a multiple of its size ends at 2^48 at most.
+#[inline(always)]
 pub(crate) fn read_frame(word: u64, size: u64) -> Option<Frame> {
-    if !SIZES.contains(&size) {
-        return None;
-    }
-    let bit = |number: u32| word >> number & 1;
-    let base = word & BASE_BITS;
-    let attributes = bit(6) + 2 * bit(7) + 4 * (1 - bit(54)) + 8 * (1 - bit(8));
-    let good = is_multiple(base, size) && base + size <= LIMIT && word == write_frame(base, size, attributes);
-    good.then_some(Frame { base, attributes })
+    let base_bits = LIMIT - size;
+    let pattern = word & !(base_bits | READ_AND_WRITE | NOT_EXECUTE);
+    let good = pattern == NORMAL | kind(size) || pattern == DEVICE | kind(size);
+    let attributes = word >> 6 & 3 | !word >> 52 & 4 | !word >> 5 & 8;
+    good.then_some(Frame { base: word & base_bits, attributes })
 }
 
 /// The host's first call: the entry word of a frame, or the number of a refusal.

@@ -10,16 +10,13 @@
 //! No call panics, whatever the numbers and the memory are, and a refusal leaves all lent memory as it was.
 
 mod entry;
+mod geometry;
 pub mod ledger;
 
-pub use entry::{frame_word, word_meaning, Frame, LIMIT, SIZES};
-use entry::{is_multiple, read_frame, write_frame};
-
-/// A pool has at most this many tables.
-pub const MAX_TABLES: u64 = 64;
-
-/// Entries of a table.
-const ENTRIES: usize = 512;
+pub use entry::{frame_word, word_meaning, Frame};
+use entry::{read_frame, write_frame};
+use geometry::{is_multiple, level_of, place_of, region, space, ENTRIES, MAX_LEVELS, MIN_LEVELS, PAGE};
+pub use geometry::{LIMIT, MAX_TABLES, SIZES};
 
 /// The setup numbers of a pool.
 #[derive(Clone, Copy, Debug, Default, PartialEq, Eq)]
@@ -51,6 +48,7 @@ pub enum Refusal {
 
 impl Refusal {
     /// The document's number.
+    #[inline]
     pub fn number(self) -> u64 {
         self as u64
     }
@@ -98,8 +96,10 @@ pub enum End {
 #[derive(Clone, Copy, Debug, PartialEq, Eq)]
 pub struct Walk {
     /// The first `depth` of these are the tables come to, root first.
-    path: [usize; 4],
+    path: [usize; MAX_LEVELS as usize],
     depth: usize,
+    /// The place among the words of the entry that was read last.
+    place: usize,
     /// The levels left where the walk stopped, 1 at the last level.
     pub left: u64,
     pub end: End,
@@ -107,10 +107,24 @@ pub struct Walk {
 
 impl Walk {
     /// The tables come to, root first.
+    #[inline]
     pub fn tables(&self) -> &[usize] {
         &self.path[..self.depth]
     }
 
+    /// The table so many above the last.
+    #[inline]
+    fn table_above(&self, tables: usize) -> usize {
+        self.path[self.depth - 1 - tables]
+    }
+
+    /// The place of the entry for an address in the table so many above the last.
+    #[inline]
+    fn place_above(&self, tables: usize, address: u64) -> usize {
+        place_of(self.table_above(tables), address, self.left + tables as u64)
+    }
+
+    #[inline]
     fn come_to(&mut self, table: usize) {
         self.path[self.depth] = table;
         self.depth += 1;
@@ -118,6 +132,7 @@ impl Walk {
 }
 
 /// Sets up an empty pool: all words zero, and every table but the root free.
+#[inline]
 pub fn format(levels: u64, base: u64, tables: u64, words: &mut [u64], list: &mut [u32]) -> (Setup, Result<(), Refusal>) {
     let setup = Setup { levels, base, tables, free: 0 };
     if !is_good(&setup, words, list) {
@@ -131,6 +146,7 @@ pub fn format(levels: u64, base: u64, tables: u64, words: &mut [u64], list: &mut
 }
 
 /// Maps a frame at an address. Answers the number of tables taken.
+#[inline]
 pub fn map(
     setup: Setup, words: &mut [u64], list: &[u32], address: u64, frame: u64, size: u64, attributes: u64,
 ) -> (Setup, Result<u64, Refusal>) {
@@ -140,6 +156,7 @@ pub fn map(
     }
 }
 
+#[inline(always)]
 fn map_or_refuse(
     setup: &Setup, words: &mut [u64], list: &[u32], address: u64, frame: u64, size: u64, attributes: u64,
 ) -> Result<u64, Refusal> {
@@ -159,29 +176,37 @@ fn map_or_refuse(
     }
     let needed = walk.left - target;
     refuse_if(needed > setup.free, Refusal::NoTables)?;
-
-    // the whole path that the mapping will have: the tables come to, then the tables to be taken
-    let mut full = walk;
-    for &number in list[..setup.free as usize].iter().rev().take(needed as usize) {
-        let table = number as usize;
-        let good = 1 <= table && (table as u64) < setup.tables && !full.tables().contains(&table);
-        refuse_if(!good, Refusal::Damaged)?;
-        full.come_to(table);
-    }
-
-    // nothing was written so far, and nothing is refused from here
-    let mut left = walk.left;
-    for pair in full.tables()[walk.depth - 1..].windows(2) {
-        let (parent, table) = (pair[0], pair[1]);
-        words[table * ENTRIES..][..ENTRIES].fill(0);
-        words[place(parent, address, left)] = setup.base + 4096 * table as u64 + 3;
-        left -= 1;
-    }
-    words[place(full.path[full.depth - 1], address, target)] = write_frame(frame, size, attributes);
+    let place = match needed {
+        0 => walk.place,
+        _ => take_tables(setup, words, list, address, walk, target)?,
+    };
+    words[place] = write_frame(frame, size, attributes);
     Ok(needed)
 }
 
+/// Takes the tables that are missing between the end of a walk and the target, and links them. Answers the target's place.
+fn take_tables(setup: &Setup, words: &mut [u64], list: &[u32], address: u64, walk: Walk, target: u64) -> Result<usize, Refusal> {
+    // the whole path that the mapping will have: the tables come to, then the tables to be taken
+    let mut full = walk;
+    let needed = (walk.left - target) as usize;
+    for &number in list[..setup.free as usize].iter().rev().take(needed) {
+        let good = is_child(setup, number.into()) && !full.tables().contains(&(number as usize));
+        refuse_if(!good, Refusal::Damaged)?;
+        full.come_to(number as usize);
+    }
+
+    // nothing was written so far, and nothing is refused from here
+    let mut place = walk.place;
+    for (&table, left) in full.tables()[walk.depth..].iter().zip((target..walk.left).rev()) {
+        words[table * ENTRIES..][..ENTRIES].fill(0);
+        words[place] = setup.base + PAGE * table as u64 + 3;
+        place = place_of(table, address, left);
+    }
+    Ok(place)
+}
+
 /// Removes the mapping that starts at an address, and gives back each table that this leaves empty.
+#[inline]
 pub fn unmap(setup: Setup, words: &mut [u64], list: &mut [u32], address: u64) -> (Setup, Result<Removed, Refusal>) {
     match unmap_or_refuse(&setup, words, list, address) {
         Ok(removed) => (Setup { free: setup.free + removed.given, ..setup }, Ok(removed)),
@@ -189,10 +214,11 @@ pub fn unmap(setup: Setup, words: &mut [u64], list: &mut [u32], address: u64) ->
     }
 }
 
+#[inline(always)]
 fn unmap_or_refuse(setup: &Setup, words: &mut [u64], list: &mut [u32], address: u64) -> Result<Removed, Refusal> {
     refuse_if(!is_good(setup, words, list), Refusal::Setup)?;
     refuse_if(address >= space(setup.levels), Refusal::Range)?;
-    refuse_if(!is_multiple(address, 4096), Refusal::Alignment)?;
+    refuse_if(!is_multiple(address, PAGE), Refusal::Alignment)?;
 
     let walk = descend(setup, words, address, 1);
     let Frame { base: frame, attributes } = frame_at(&walk)?;
@@ -201,28 +227,24 @@ fn unmap_or_refuse(setup: &Setup, words: &mut [u64], list: &mut [u32], address: 
 
     // from the deepest table of the path upward: those that hold nothing but their entry of the path
     let mut given = 0;
-    let below_the_root = &walk.tables()[1..];
-    for &table in below_the_root.iter().rev() {
-        let entry = index(address, walk.left + given);
-        let others_are_zero = table_words(words, table).iter().enumerate().all(|(i, &word)| i == entry || word == 0);
-        if !others_are_zero {
-            break;
-        }
+    let mut place = walk.place;
+    while given + 1 < walk.depth && is_alone(words, place) {
         given += 1;
+        place = walk.place_above(given, address);
     }
-    refuse_if(setup.free + given > setup.tables - 1, Refusal::Damaged)?;
+    refuse_if(setup.free + given as u64 > setup.tables - 1, Refusal::Damaged)?;
 
     // nothing was written so far, and nothing is refused from here
-    for (i, &table) in walk.tables().iter().rev().take(given as usize + 1).enumerate() {
-        words[place(table, address, walk.left + i as u64)] = 0;
+    words[walk.place] = 0;
+    for i in 0..given {
+        words[walk.place_above(i + 1, address)] = 0;
+        list[setup.free as usize + i] = walk.table_above(i) as u32;
     }
-    for (i, &table) in below_the_root.iter().rev().take(given as usize).enumerate() {
-        list[setup.free as usize + i] = table as u32;
-    }
-    Ok(Removed { frame, size, attributes, given })
+    Ok(Removed { frame, size, attributes, given: given as u64 })
 }
 
 /// Finds the mapping that holds an address.
+#[inline]
 pub fn query(setup: Setup, words: &[u64], list: &[u32], address: u64) -> Result<Found, Refusal> {
     refuse_if(!is_good(&setup, words, list), Refusal::Setup)?;
     refuse_if(address >= space(setup.levels), Refusal::Range)?;
@@ -240,7 +262,7 @@ pub fn audit(setup: Setup, words: &[u64], list: &[u32]) -> Result<Counts, Refusa
     let tables = seen.iter().filter(|&&reached| reached).count() as u64;
     for &number in &list[..setup.free as usize] {
         let table = number as usize;
-        let good = 1 <= table && (table as u64) < setup.tables && !seen[table] && is_zero(words, table);
+        let good = is_child(&setup, number.into()) && !seen[table] && are_zero(table_of(words, table));
         refuse_if(!good, Refusal::Damaged)?;
         seen[table] = true;
     }
@@ -252,9 +274,13 @@ pub fn audit(setup: Setup, words: &[u64], list: &[u32]) -> Result<Counts, Refusa
 fn audit_table(setup: &Setup, words: &[u64], table: usize, left: u64, seen: &mut [bool]) -> Result<u64, Refusal> {
     refuse_if(seen[table], Refusal::Damaged)?;
     seen[table] = true;
-    refuse_if(table != 0 && is_zero(words, table), Refusal::Damaged)?;
+    let entries = table_of(words, table);
+    if left == 1 {
+        return audit_pages(entries);
+    }
+    refuse_if(table != 0 && are_zero(entries), Refusal::Damaged)?;
     let mut mappings = 0;
-    for &word in table_words(words, table) {
+    for &word in entries {
         mappings += match read_entry(setup, word, left) {
             Entry::Empty => 0,
             Entry::Frame(_) => 1,
@@ -263,6 +289,17 @@ fn audit_table(setup: &Setup, words: &[u64], table: usize, left: u64, seen: &mut
         };
     }
     Ok(mappings)
+}
+
+/// Audits a table of pages. The loop has no branch, so it is done on several words at once.
+fn audit_pages(entries: &[u64]) -> Result<u64, Refusal> {
+    let (mut in_use, mut frames) = (0, 0);
+    for &word in entries {
+        in_use += u64::from(word != 0);
+        frames += u64::from(read_frame(word, PAGE).is_some());
+    }
+    refuse_if(in_use == 0 || frames != in_use, Refusal::Damaged)?;
+    Ok(frames)
 }
 
 /// The walk that a map of this size at this address makes; that of unmap and query is the one for size 4096.
@@ -274,30 +311,43 @@ pub fn walk(setup: Setup, words: &[u64], list: &[u32], address: u64, size: u64) 
 }
 
 /// Descends from the root until an entry is not a table or the target level is reached.
+#[inline(always)]
 fn descend(setup: &Setup, words: &[u64], address: u64, target: u64) -> Walk {
-    let mut walk = Walk { path: [0; 4], depth: 1, left: setup.levels, end: End::Empty };
+    // the loop is unrolled where the levels are a constant
+    match setup.levels {
+        MIN_LEVELS => descend_from(MIN_LEVELS as usize, setup, words, address, target),
+        _ => descend_from(MAX_LEVELS as usize, setup, words, address, target),
+    }
+}
+
+#[inline(always)]
+fn descend_from(levels: usize, setup: &Setup, words: &[u64], address: u64, target: u64) -> Walk {
+    let mut path = [0; MAX_LEVELS as usize];
     let mut table = 0;
-    loop {
-        walk.end = match read_entry(setup, words[place(table, address, walk.left)], walk.left) {
-            Entry::Table(child) if walk.left > target => {
-                walk.left -= 1;
-                if !walk.tables().contains(&child) {
-                    walk.come_to(child);
-                    table = child;
-                    continue;
+    for depth in 1..=levels {
+        let left = (levels - depth + 1) as u64;
+        let place = place_of(table, address, left);
+        path[depth - 1] = table;
+        let end = match read_entry(setup, words[place], left) {
+            Entry::Table(child) if left > target => {
+                if (1..depth).any(|above| path[above] == child) {
+                    return Walk { path, depth, left: left - 1, place, end: End::Again };
                 }
-                End::Again
+                table = child;
+                continue;
             }
             Entry::Table(_) => End::Table,
             Entry::Empty => End::Empty,
             Entry::Frame(frame) => End::Frame(frame),
             Entry::Damaged => End::Damaged,
         };
-        return walk;
+        return Walk { path, depth, left, place, end };
     }
+    unreachable!("no entry of the last level is a table")
 }
 
 /// The frame at which a walk to the last level ended.
+#[inline]
 fn frame_at(walk: &Walk) -> Result<Frame, Refusal> {
     match walk.end {
         End::Frame(frame) => Ok(frame),
@@ -314,39 +364,41 @@ enum Entry {
     Damaged,
 }
 
+#[inline(always)]
 fn read_entry(setup: &Setup, word: u64, left: u64) -> Entry {
     if word == 0 {
         return Entry::Empty;
     }
-    if left > 1 {
-        if let Some(child) = read_child(setup, word) {
-            return Entry::Table(child);
-        }
+    // The word of a table is its address + 3. What is no multiple of a page gives no number of a table, as the low bits come high.
+    let child = word.wrapping_sub(setup.base + 3).rotate_right(PAGE.trailing_zeros());
+    if left > 1 && is_child(setup, child) {
+        return Entry::Table(child as usize);
     }
     match read_frame(word, region(left)) {
-        Some(frame) => Entry::Frame(frame),
-        None => Entry::Damaged,
+        Some(frame) if left <= SIZES.len() as u64 => Entry::Frame(frame),
+        _ => Entry::Damaged,
     }
 }
 
-/// The table that a word names: the word is its address + 3, its number 1 to n - 1.
-fn read_child(setup: &Setup, word: u64) -> Option<usize> {
-    let offset = word.checked_sub(3)?.checked_sub(setup.base)?;
-    let child = offset / 4096;
-    (is_multiple(offset, 4096) && 1 <= child && child < setup.tables).then_some(child as usize)
+/// Whether a number is that of a table below the root: 1 to n - 1. The root's wraps and is too large.
+#[inline]
+fn is_child(setup: &Setup, number: u64) -> bool {
+    number.wrapping_sub(1) < setup.tables - 1
 }
 
 /// Whether the setup numbers and the lengths keep the rules; else refusal 1.
+#[inline(always)]
 fn is_good(setup: &Setup, words: &[u64], list: &[u32]) -> bool {
-    (3..=4).contains(&setup.levels)
+    (MIN_LEVELS..=MAX_LEVELS).contains(&setup.levels)
         && (1..=MAX_TABLES).contains(&setup.tables)
-        && is_multiple(setup.base, 4096)
-        && setup.base <= LIMIT - 4096 * setup.tables
+        && is_multiple(setup.base, PAGE)
+        && setup.base <= LIMIT - PAGE * setup.tables
         && setup.free < setup.tables
-        && words.len() as u64 == 512 * setup.tables
+        && words.len() as u64 == ENTRIES as u64 * setup.tables
         && list.len() as u64 == setup.tables
 }
 
+#[inline]
 fn refuse_if(refused: bool, refusal: Refusal) -> Result<(), Refusal> {
     if refused {
         Err(refusal)
@@ -355,39 +407,23 @@ fn refuse_if(refused: bool, refusal: Refusal) -> Result<(), Refusal> {
     }
 }
 
-/// The size of the whole space.
-fn space(levels: u64) -> u64 {
-    4096 << (9 * levels)
-}
-
-/// The size of the region that one entry stands for, in a table with so many levels left.
-fn region(left: u64) -> u64 {
-    4096 << (9 * (left - 1))
-}
-
-/// The levels left in the tables that hold frames of a size.
-fn level_of(size: u64) -> u64 {
-    match size {
-        0x1000 => 1,
-        0x20_0000 => 2,
-        _ => 3,
-    }
-}
-
-/// The nine bits of an address that choose the entry, in a table with so many levels left.
-fn index(address: u64, left: u64) -> usize {
-    (address >> (12 + 9 * (left - 1))) as usize % ENTRIES
-}
-
-/// The place among the words of the entry for an address, in a table with so many levels left.
-fn place(table: usize, address: u64, left: u64) -> usize {
-    table * ENTRIES + index(address, left)
-}
-
-fn table_words(words: &[u64], table: usize) -> &[u64] {
+#[inline]
+fn table_of(words: &[u64], table: usize) -> &[u64] {
     &words[table * ENTRIES..][..ENTRIES]
 }
 
-fn is_zero(words: &[u64], table: usize) -> bool {
-    table_words(words, table).iter().all(|&word| word == 0)
+/// Whether all words of a table are zero but for the one at a place.
+#[inline]
+fn is_alone(words: &[u64], place: usize) -> bool {
+    let (table, entry) = (table_of(words, place / ENTRIES), place % ENTRIES);
+    are_zero(&table[..entry]) && are_zero(&table[entry + 1..])
+}
+
+/// Whether all words are zero, eight a step.
+#[inline]
+fn are_zero(words: &[u64]) -> bool {
+    let steps = words.chunks_exact(8);
+    let rest = steps.remainder();
+    let is_zero = |words: &[u64]| words.iter().fold(0, |any, word| any | word) == 0;
+    steps.clone().all(is_zero) && is_zero(rest)
 }

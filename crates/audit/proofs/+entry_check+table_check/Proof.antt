@@ -6,6 +6,7 @@ use lib.ListN.{length-set}
 use borrow.Author.Needs.{needs}
 use borrow.Author.Tests.{not-true, not-false}
 use borrow.Fn.Kinds.{In}
+use Rattle.path.specs.Areas.{areaAt}
 use borrow.Fn.PlainCycle.{Measures, is, falls, and}
 use Rattle.audit.proofs.Tables.{Loop, loop-bad, loop-few, loop-more, loop-end, table-stale, table-fresh, table-starts, table-entry, entry-empty, entry-frame, entry-damaged, entry-child, entry-fit}
 use Rattle.audit.proofs.entry_check.Reads as entry-check
@@ -91,29 +92,29 @@ entry-check-enum-told-3 t c = c .match .keys4
 entry-check-returns : (t : ℕ) → entry-check-lts.Need-returns (entry-claims t) (entry-check-at t) entry-check.Post
 entry-check-returns t c =
     let a = c .before .before .before .before .before .before .args in
-    entry-empty (a .words .now) (a .marks .now) _ _ _ (a .t) (512 - a .left) _ (c .before .before .before .word .ensures) _ (a .marks .now) (sym (c .before .before .read-word .ensures) ∙ c .enum-told .given .1) refl refl
+    entry-empty (a .words .now) (a .marks .now) _ _ (a .t) (512 - a .left) _ (c .before .before .before .word .ensures) _ (a .marks .now) (sym (c .before .before .read-word .ensures) ∙ c .enum-told .given .1) refl refl
 
 entry-check-returns-2 : (t : ℕ) → entry-check-lts.Need-returns-2 (entry-claims t) (entry-check-at t) entry-check.Post
 entry-check-returns-2 t c =
     let a = c .before .before .before .before .before .before .args in
-    entry-frame (a .words .now) (a .marks .now) _ _ _ (a .t) (512 - a .left) _ (c .before .before .before .word .ensures) _ (a .marks .now) _ _ (sym (c .before .before .read-word .ensures) ∙ c .enum-told2 .given .1) refl refl
+    entry-frame (a .words .now) (a .marks .now) _ _ (a .t) (512 - a .left) _ (c .before .before .before .word .ensures) _ (a .marks .now) _ _ (sym (c .before .before .read-word .ensures) ∙ c .enum-told2 .given .1) refl refl
 
 entry-check-same-length : (t : ℕ) → entry-check-lts.Need-same-length (entry-claims t) (entry-check-at t) entry-check.Post
 entry-check-same-length t c = c .before .before .table-check .kept .1 .0
 
 entry-check-returns-3 : (t : ℕ) → entry-check-lts.Need-returns-3 (entry-claims t) (entry-check-at t) entry-check.Post
 entry-check-returns-3 t c =
-    entry-child _ _ _ _ _ _ _ _ (c .before .before .before .before .before .before .before .before .word .ensures) _ _ _ (sym (c .before .before .before .before .before .before .before .read-word .ensures) ∙ c .before .before .before .before .before .e .given .1)
+    entry-child _ _ _ _ _ _ _ (c .before .before .before .before .before .before .before .before .word .ensures) _ _ _ (sym (c .before .before .before .before .before .before .before .read-word .ensures) ∙ c .before .before .before .before .before .e .given .1)
     (c .before .before .table-check .ensures)
 
 entry-check-returns-4 : (t : ℕ) → entry-check-lts.Need-returns-4 (entry-claims t) (entry-check-at t) entry-check.Post
 entry-check-returns-4 t c =
     let a = c .before .before .before .before .before .before .args in
-    entry-damaged (a .words .now) (a .marks .now) _ _ _ (a .t) (512 - a .left) _ (c .before .before .before .word .ensures) _ (a .marks .now) (sym (c .before .before .read-word .ensures) ∙ c .enum-told3 .given .1) refl
+    entry-damaged (a .words .now) (a .marks .now) _ _ (a .t) (512 - a .left) _ (c .before .before .before .word .ensures) _ (a .marks .now) (sym (c .before .before .read-word .ensures) ∙ c .enum-told3 .given .1) refl
 
 abbrev table-check-Inv-loop : table-check-lts.InvT-loop
 table-check-Inv-loop words marks₀ base n t height tables₀ mappings₀ left₀ marks tables mappings left =
-    Loop words base n height t marks₀ tables₀ mappings₀ marks tables mappings left
+    Loop words (areaAt base n) height t marks₀ tables₀ mappings₀ marks tables mappings left
 
 abbrev table-check-μ-loop : table-check-lts.MeasureT-loop
 table-check-μ-loop words marks₀ base n t height tables₀ mappings₀ left₀ marks tables mappings left = left

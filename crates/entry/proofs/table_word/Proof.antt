@@ -8,7 +8,7 @@ use Rattle.entry.proofs.table_word.Statement.{statement}
 use Rattle.entry.proofs.table_word.Tie as tie
 
 returns : tie.Need-returns
-returns c = rw (lt-leb (c .before .args .base) physical (omega arith))
+returns c n = rw (lt-leb (c .before .args .base) physical (omega arith))
 
 mul-result : tie.Need-mul-result
 mul-result c = search needs
@@ -21,7 +21,7 @@ add-result-2 c = search needs
 
 returns-2 : tie.Need-returns-2
 unfolding tableWord
-returns-2 c = rw (le-leb (c .before .args .base) physical (omega arith)) (omega arith)
+returns-2 c n = rw (le-leb (c .before .args .base) physical (omega arith)) (omega arith)
 
 pub table-word-spec : {M : Type 1} → statement M
 table-word-spec = tie.close (tie.spec returns mul-result add-result add-result-2 returns-2)

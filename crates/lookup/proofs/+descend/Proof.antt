@@ -6,10 +6,11 @@ use mir.Syntax.{w16}
 use borrow.Author.Needs.{needs, elem-fits}
 use borrow.Fn.Kinds.{In}
 use borrow.Fn.PlainCycle.{Measures, is, falls, and}
+use Rattle.path.specs.Areas.{areaAt}
 use Rattle.path.specs.Geometry.{four}
 use Rattle.entry.specs.Words.{entryAt}
 use Rattle.entry.specs.declared.Entry.{Entry}
-use Rattle.lookup.specs.Walks.{isTable, wordOf, entryOf, known-entry, walk-ends, walk-reaches, walk-again, walk-down}
+use Rattle.lookup.specs.WalkLaws.{isTable, wordOf, entryOf, known-entry, walk-ends, walk-reaches, walk-again, walk-down}
 use Rattle.lookup.proofs.descend.Reads as descend
 use Rattle.lookup.proofs.ended.Reads as ended-reads
 use Rattle.lookup.proofs.descend.Kinds as kinds
@@ -47,11 +48,11 @@ claims t = (
 -- the entry that is read
 entry :
     (t : ℕ) (s : lts.Start (claims t) (at t) descend.Post) {w : ℕ} {e : Entry}
-    → e ≡ entryAt four (s .args .base) (s .args .tables) (s .args .height) w
-    → w ≡ wordOf four (s .args .words .now) (s .args .base) (s .args .tables) (s .args .target) (s .args .t5) (s .args .height) (s .args .t)
-    → e ≡ entryOf four (s .args .words .now) (s .args .base) (s .args .tables) (s .args .target) (s .args .t5) (s .args .height) (s .args .t)
+    → e ≡ entryAt four (areaAt (s .args .base) (s .args .tables)) (s .args .height) w
+    → w ≡ wordOf four (s .args .words .now) (areaAt (s .args .base) (s .args .tables)) (s .args .target) (s .args .t5) (s .args .height) (s .args .t)
+    → e ≡ entryOf four (s .args .words .now) (areaAt (s .args .base) (s .args .tables)) (s .args .target) (s .args .t5) (s .args .height) (s .args .t)
 entry t s =
-    known-entry four (s .args .words .now) (s .args .base) (s .args .tables) (s .args .target) (s .args .t5) (s .args .height) (s .args .t)
+    known-entry four (s .args .words .now) (areaAt (s .args .base) (s .args .tables)) (s .args .target) (s .args .t5) (s .args .height) (s .args .t)
 
 sub-at : (t : ℕ) → lts.Need-sub-at (claims t) (at t) descend.Post
 sub-at t c = search needs
@@ -93,7 +94,7 @@ returns : (t : ℕ) → lts.Need-returns (claims t) (at t) descend.Post
 returns t c =
     let s = c .before .before .before .before .before .before .before .before in
     c .ended .ensures
-    ∙ walk-reaches four (s .args .words .now) (s .args .base) (s .args .tables) (s .args .target) (s .args .t5)
+    ∙ walk-reaches four (s .args .words .now) (areaAt (s .args .base) (s .args .tables)) (s .args .target) (s .args .t5)
     (s .args .height) (s .args .above) (s .args .t)
     (sym (c .before .before .before .e .given .1) ∙ entry t s (c .before .before .before .before .before .read-word .ensures) (c .before .before .before .before .before .before .word .ensures))
     (c .before .if1 .taken)
@@ -111,7 +112,7 @@ returns-2 : (t : ℕ) → lts.Need-returns-2 (claims t) (at t) descend.Post
 returns-2 t c =
     let s = c .before .before .before .before .before .before .before .before .before .before in
     c .ended2 .ensures
-    ∙ walk-again four (s .args .words .now) (s .args .base) (s .args .tables) (s .args .target) (s .args .t5)
+    ∙ walk-again four (s .args .words .now) (areaAt (s .args .base) (s .args .tables)) (s .args .target) (s .args .t5)
     (s .args .height) (s .args .above) (s .args .t)
     (sym (c .before .before .before .before .before .e .given .1) ∙ entry t s (c .before .before .before .before .before .before .before .read-word .ensures) (c .before .before .before .before .before .before .before .before .word .ensures))
     (c .before .before .before .if1 .left)
@@ -142,7 +143,7 @@ returns-3 : (t : ℕ) → lts.Need-returns-3 (claims t) (at t) descend.Post
 returns-3 t c =
     let s = c .before .before .before .before .before .before .before .before .before .before in
     c .descend .ensures
-    ∙ walk-down four (s .args .words .now) (s .args .base) (s .args .tables) (s .args .target) (s .args .t5)
+    ∙ walk-down four (s .args .words .now) (areaAt (s .args .base) (s .args .tables)) (s .args .target) (s .args .t5)
     (s .args .height) (s .args .above) (s .args .t)
     (sym (c .before .before .before .before .before .e .given .1) ∙ entry t s (c .before .before .before .before .before .before .before .read-word .ensures) (c .before .before .before .before .before .before .before .before .word .ensures))
     (c .before .before .before .if1 .left)
@@ -152,7 +153,7 @@ returns-4 : (t : ℕ) → lts.Need-returns-4 (claims t) (at t) descend.Post
 returns-4 t c =
     let s = c .before .before .before .before .before .before in
     c .ended3 .ensures
-    ∙ walk-ends four (s .args .words .now) (s .args .base) (s .args .tables) (s .args .target) (s .args .t5)
+    ∙ walk-ends four (s .args .words .now) (areaAt (s .args .base) (s .args .tables)) (s .args .target) (s .args .t5)
     (s .args .height) (s .args .above) (s .args .t)
     (ap isTable (c .before .enum-told .given .1))
     (entry t s (c .before .before .before .read-word .ensures) (c .before .before .before .before .word .ensures))
@@ -161,7 +162,7 @@ returns-5 : (t : ℕ) → lts.Need-returns-5 (claims t) (at t) descend.Post
 returns-5 t c =
     let s = c .before .before .before .before .before .before in
     c .ended4 .ensures
-    ∙ walk-ends four (s .args .words .now) (s .args .base) (s .args .tables) (s .args .target) (s .args .t5)
+    ∙ walk-ends four (s .args .words .now) (areaAt (s .args .base) (s .args .tables)) (s .args .target) (s .args .t5)
     (s .args .height) (s .args .above) (s .args .t)
     (ap isTable (c .before .enum-told2 .given .1))
     (entry t s (c .before .before .before .read-word .ensures) (c .before .before .before .before .word .ensures))
@@ -170,7 +171,7 @@ returns-6 : (t : ℕ) → lts.Need-returns-6 (claims t) (at t) descend.Post
 returns-6 t c =
     let s = c .before .before .before .before .before .before in
     c .ended5 .ensures
-    ∙ walk-ends four (s .args .words .now) (s .args .base) (s .args .tables) (s .args .target) (s .args .t5)
+    ∙ walk-ends four (s .args .words .now) (areaAt (s .args .base) (s .args .tables)) (s .args .target) (s .args .t5)
     (s .args .height) (s .args .above) (s .args .t)
     (ap isTable (c .before .enum-told3 .given .1))
     (entry t s (c .before .before .before .read-word .ensures) (c .before .before .before .before .word .ensures))

@@ -4,7 +4,7 @@ use Rattle.path.specs.Geometry.{four}
 use Rattle.path.specs.declared.Setup.{Setup}
 use Rattle.model.specs.Answers.{pool}
 use Rattle.model.specs.Audit.{auditW}
-use Rattle.oakabut.specs.Surface.{numberOf, auditedPlaces}
+use Rattle.oakabut.proofs.Hands.{hears}
 use borrow.Author.Needs.{needs}
 use Rattle.oakabut.proofs.oak_audit.Statement.{statement}
 use Rattle.oakabut.proofs.oak_audit.Tie as tie
@@ -18,16 +18,11 @@ audit-requires c κs = search needs
 audited-requires : tie.Need-audited-requires
 audited-requires c κs = search needs
 
-audit-number-requires : tie.Need-audit-number-requires
-audit-number-requires c κs = search needs
-
 returns : tie.Need-returns
 returns c =
     let a = c .before .before .before .before .before .before .args in
-    let e = c .before .before .audit .ensures .0 ∙ ap (λ (z : Setup). auditW four (pool z (a .words .now) (a .list .now))) (c .before .before .before .setup-at .ensures) in
-    (c .audit-number .ensures ∙ ap numberOf e, c .before .audited .ensures ∙ ap auditedPlaces e)
+    let e = ap (λ (z : Setup). auditW four (pool z (a .words .now) (a .list .now))) (c .before .before .before .setup-at .ensures) in
+    hears (c .before .before .audit .ensures .0 ∙ e) (c .audited .ensures)
 
 pub oak-audit-spec : {M : Type 1} → statement M
-oak-audit-spec =
-    tie.close
-    (tie.spec setup-at-requires audit-requires audited-requires audit-number-requires returns)
+oak-audit-spec = tie.close (tie.spec setup-at-requires audit-requires audited-requires returns)

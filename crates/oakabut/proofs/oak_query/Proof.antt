@@ -4,7 +4,7 @@ use Rattle.path.specs.Geometry.{four}
 use Rattle.path.specs.declared.Setup.{Setup}
 use Rattle.model.specs.Answers.{pool}
 use Rattle.model.specs.Calls.{queryW}
-use Rattle.oakabut.specs.Surface.{numberOf, foundPlaces}
+use Rattle.oakabut.proofs.Hands.{hears}
 use borrow.Author.Needs.{needs}
 use Rattle.oakabut.proofs.oak_query.Statement.{statement}
 use Rattle.oakabut.proofs.oak_query.Tie as tie
@@ -18,16 +18,11 @@ query-requires c κs = search needs
 found-requires : tie.Need-found-requires
 found-requires c κs = search needs
 
-query-number-requires : tie.Need-query-number-requires
-query-number-requires c κs = search needs
-
 returns : tie.Need-returns
 returns c =
     let a = c .before .before .before .before .before .before .args in
-    let e = c .before .before .query .ensures .0 ∙ ap (λ (z : Setup). queryW four (pool z (a .words .now) (a .list .now)) (a .address)) (c .before .before .before .setup-at .ensures) in
-    (c .query-number .ensures ∙ ap numberOf e, c .before .found .ensures ∙ ap foundPlaces e)
+    let e = ap (λ (z : Setup). queryW four (pool z (a .words .now) (a .list .now)) (a .address)) (c .before .before .before .setup-at .ensures) in
+    hears (c .before .before .query .ensures .0 ∙ e) (c .found .ensures)
 
 pub oak-query-spec : {M : Type 1} → statement M
-oak-query-spec =
-    tie.close
-    (tie.spec setup-at-requires query-requires found-requires query-number-requires returns)
+oak-query-spec = tie.close (tie.spec setup-at-requires query-requires found-requires returns)

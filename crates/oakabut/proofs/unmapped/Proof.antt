@@ -1,8 +1,7 @@
--- The eight numbers of an unmap. Assumes nothing.
-use mathlib.Core.Path.{sym, ap}
-use Rattle.model.specs.declared.UnmapAnswer.{UnmapAnswer}
+-- The number and the places of an unmap. Assumes nothing.
 use Rattle.model.specs.Answers.{saysUnmap}
-use Rattle.oakabut.specs.Surface.{unmappedPlaces}
+use Rattle.oakabut.specs.Surface.{unmapPlaces}
+use Rattle.oakabut.proofs.Hands.{tells}
 use borrow.Author.Needs.{needs}
 use Rattle.oakabut.proofs.unmapped.Statement.{statement}
 use Rattle.oakabut.proofs.unmapped.Tie as tie
@@ -10,14 +9,36 @@ use Rattle.oakabut.proofs.unmapped.Tie as tie
 enum-known-a : tie.Need-enum-known-a
 enum-known-a c = search needs
 
-enum-told : tie.Need-enum-told
-enum-told c = search needs
+element-write-answer : tie.Need-element-write-answer
+element-write-answer c = search needs
+
+element-write-answer-2 : tie.Need-element-write-answer-2
+element-write-answer-2 c = search needs
+
+element-write-answer-3 : tie.Need-element-write-answer-3
+element-write-answer-3 c = search needs
+
+element-write-answer-4 : tie.Need-element-write-answer-4
+element-write-answer-4 c = search needs
+
+enum-known-a-2 : tie.Need-enum-known-a-2
+enum-known-a-2 c = search needs
 
 returns : tie.Need-returns
-returns c = sym (ap (λ (x : UnmapAnswer). unmappedPlaces (saysUnmap x) (c .before .before .before .args .s)) (c .before .a .given .1))
+returns c = tells saysUnmap (unmapPlaces (c .before .before .before .before .args .s)) (c .before .a .given .1)
 
 returns-2 : tie.Need-returns-2
-returns-2 c = sym (ap (λ (x : UnmapAnswer). unmappedPlaces (saysUnmap x) (c .before .before .args .s)) (c .enum-told .given .1))
+returns-2 c = tells saysUnmap (unmapPlaces (c .before .before .before .before .args .s)) (c .before .a2 .given .1)
 
 pub unmapped-spec : {M : Type 1} → statement M
-unmapped-spec = tie.close (tie.spec enum-known-a enum-told returns returns-2)
+unmapped-spec =
+    tie.close
+    (tie.spec
+    enum-known-a
+    element-write-answer
+    element-write-answer-2
+    element-write-answer-3
+    element-write-answer-4
+    enum-known-a-2
+    returns
+    returns-2)

@@ -1,11 +1,10 @@
 -- `pagetable::audit` is `audit::audit`, whose promise gives the ledger's. Assumes nothing.
-use mathlib.Core.Path.{ap}
 use borrow.Author.Needs.{needs}
 use Rattle.path.specs.Geometry.{four}
 use Rattle.path.specs.Laws.{four-sane}
-use Rattle.model.specs.Answers.{Answer, pool, done}
-use Rattle.demand.specs.Demand3.{auditC}
-use Rattle.demand.specs.Clauses.{by-ledger}
+use Rattle.model.specs.Answers.{pool}
+use Rattle.demand.specs.Demand3 as question
+use Rattle.demand.specs.ClauseLaws.{asked-by-ledger}
 use Rattle.pagetable.proofs.audit.Statement.{statement}
 use Rattle.pagetable.proofs.audit.Tie as tie
 
@@ -17,7 +16,7 @@ returns c =
     let e = c .audit .ensures in
     let a = c .before .before .before .args in
     let p = pool (a .s) (a .words .now) (a .list .now) in
-    (e, by-ledger four four-sane p auditC _ (ap (λ (x : Answer). done x p) e))
+    (e, asked-by-ledger four four-sane p question.audit _ e)
 
 pub audit-spec : {M : Type 1} → statement M
 audit-spec = tie.close (tie.spec audit-requires returns)

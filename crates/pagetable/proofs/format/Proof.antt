@@ -1,8 +1,9 @@
--- `pagetable::format` is `change::format`, whose promise gives the ledger's. Assumes nothing.
+-- `pagetable::format` is `formats::format`, whose promise gives the ledger's. Assumes nothing.
 use borrow.Author.Needs.{needs}
 use Rattle.path.specs.Geometry.{four}
+use Rattle.path.specs.Areas.{areaAt}
 use Rattle.path.specs.Laws.{four-sane}
-use Rattle.demand.specs.Clauses.{format-by-ledger}
+use Rattle.demand.specs.ClauseLaws.{format-by-ledger}
 use Rattle.pagetable.proofs.format.Statement.{statement}
 use Rattle.pagetable.proofs.format.Tie as tie
 
@@ -19,7 +20,7 @@ returns : tie.Need-returns
 returns c =
     let e = c .before .before .before .before .format .ensures in
     let a = c .before .before .before .before .before .before .before .before .before .args in
-    (e, format-by-ledger four four-sane (a .words .now) (a .list .now) (a .levels) (a .base) (a .tables) _ e)
+    (e, format-by-ledger four four-sane (a .words .now) (a .list .now) (a .levels) (areaAt (a .base) (a .tables)) _ e)
 
 pub format-spec : {M : Type 1} → statement M
 format-spec = tie.close (tie.spec format-requires same-length same-length-2 returns)

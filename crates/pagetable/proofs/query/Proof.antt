@@ -1,11 +1,10 @@
--- `pagetable::query` is `lookup::query`, whose promise gives the ledger's. Assumes nothing.
-use mathlib.Core.Path.{ap}
+-- `pagetable::query` is `query::query`, whose promise gives the ledger's. Assumes nothing.
 use borrow.Author.Needs.{needs}
 use Rattle.path.specs.Geometry.{four}
 use Rattle.path.specs.Laws.{four-sane}
-use Rattle.model.specs.Answers.{Answer, pool, done}
-use Rattle.demand.specs.Demand3.{queryC}
-use Rattle.demand.specs.Clauses.{by-ledger}
+use Rattle.model.specs.Answers.{pool}
+use Rattle.demand.specs.Demand3 as question
+use Rattle.demand.specs.ClauseLaws.{asked-by-ledger}
 use Rattle.pagetable.proofs.query.Statement.{statement}
 use Rattle.pagetable.proofs.query.Tie as tie
 
@@ -17,7 +16,7 @@ returns c =
     let e = c .query .ensures in
     let a = c .before .before .before .args in
     let p = pool (a .s) (a .words .now) (a .list .now) in
-    (e, by-ledger four four-sane p (queryC (a .address)) _ (ap (λ (x : Answer). done x p) e))
+    (e, asked-by-ledger four four-sane p (question.query (a .address)) _ e)
 
 pub query-spec : {M : Type 1} → statement M
 query-spec = tie.close (tie.spec query-requires returns)

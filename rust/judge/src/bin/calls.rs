@@ -3,7 +3,7 @@
 //!     calls [SEED [CALLS]]
 //!
 //! The document's cases come first, then CALLS calls (4096 if none are named) from the seed (1). The same numbers give the same
-//! text. It begins with a comment that says how to read it.
+//! text. src/lines.rs says how to read it.
 
 use std::env;
 use std::io::{self, BufWriter, Write};

@@ -1,0 +1,52 @@
+// Format.
+use model::FormatAnswer;
+use model::Formatted;
+use path::Setup;
+ghost use mathlib.Core.Path.{_≡_};
+ghost use Prim.Native.Nat.{_≤_};
+ghost use lib.ListN.{length};
+ghost use Rattle.laws.specs.Lists.{down};
+ghost use Rattle.path.specs.Geometry.{four};
+ghost use Rattle.path.specs.Areas.{areaAt};
+ghost use Rattle.path.specs.Numbers.{mostTables};
+ghost use Rattle.model.specs.Answers.{formatDid};
+ghost use Rattle.model.specs.Calls.{formatW};
+
+// Place i of the list becomes its length - 1 - i.
+fn count_down(list: &mut [u32])
+    requires { ⌜ length (now list) ≤ mostTables ⌝ }
+    ensures { λ _. ⌜ now (list .exit) ≡ down (length (now (list .entry))) ⌝ }
+{
+    let n = list.len();
+    let mut i = 0;
+    while i < n {
+        list[i] = (n - 1 - i) as u32;
+        i += 1;
+    }
+}
+
+// An empty tree: all words 0, and every table but the root free. Or refusal 1.
+pub fn format(levels: u64, base: u64, tables: u64, words: &mut [u64], list: &mut [u32]) -> Formatted
+    ensures { λ r. ⌜ formatDid r (now (words .exit)) (now (list .exit))
+        ≡ formatW four levels (areaAt base tables) (now (words .entry)) (now (list .entry)) ⌝ }
+{
+    if !path::good_numbers(levels, base, tables, words.len(), list.len()) {
+        let none = path::no_setup();
+        return Formatted {
+            answer: FormatAnswer::Refused(1),
+            setup: none,
+        };
+    }
+    pool::clear(words);
+    count_down(list);
+    let free = tables - 1;
+    Formatted {
+        answer: FormatAnswer::Done,
+        setup: Setup {
+            levels,
+            base,
+            tables,
+            free,
+        },
+    }
+}

@@ -1,0 +1,52 @@
+-- `lookup::walk_to` tests the setup numbers, then walks from the root.
+use mathlib.Core.Path.{sym, _∙_}
+use native.Mathlib.Omega.{arith}
+use borrow.Author.Needs.{needs}
+use Rattle.path.specs.Geometry.{four}
+use Rattle.lookup.specs.WalkLaws.{walk-no-level, walk-too-many, walk-by}
+use Rattle.lookup.proofs.walk_to.Statement.{statement}
+use Rattle.lookup.proofs.walk_to.Tie as tie
+
+ended-requires : tie.Need-ended-requires
+ended-requires c κs = search needs
+
+returns : tie.Need-returns
+returns c =
+    let a = c .before .before .before .args in
+    c .ended .ensures ∙ sym (walk-no-level four (a .s) (a .words .now) (a .target) (a .address) (c .before .if1 .taken))
+
+ended-requires-2 : tie.Need-ended-requires-2
+ended-requires-2 c κs = search needs
+
+returns-2 : tie.Need-returns-2
+returns-2 c =
+    let a = c .before .before .before .before .args in
+    c .ended2 .ensures ∙ sym (walk-too-many four (a .s) (a .words .now) (a .target) (a .address) (c .before .before .if1 .left) (c .before .if2 .taken))
+
+cast-walk : tie.Need-cast-walk
+cast-walk c = omega arith
+
+path-of-requires : tie.Need-path-of-requires
+path-of-requires c κs = search needs
+
+walk-requires : tie.Need-walk-requires
+walk-requires c κs = search needs
+
+returns-3 : tie.Need-returns-3
+returns-3 c =
+    let a = c .before .before .before .before .before .args in
+    c .walk .ensures
+    ∙ walk-by four (a .s) (a .words .now) (a .target) (a .address) (c .before .before .before .if1 .left) (c .before .before .if2 .left) (c .before .path-of .ensures)
+
+pub walk-to-spec : {M : Type 1} → statement M
+walk-to-spec =
+    tie.close
+    (tie.spec
+    ended-requires
+    returns
+    ended-requires-2
+    returns-2
+    cast-walk
+    path-of-requires
+    walk-requires
+    returns-3)

@@ -1,0 +1,4 @@
+pub mod Takes
+pub mod Links
+pub mod Tests
+pub mod Maps

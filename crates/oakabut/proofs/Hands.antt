@@ -1,0 +1,29 @@
+-- What is told of an answer is told of an equal one.
+use Prim.Native.Nat.{ℕ}
+use mathlib.Core.List.{List}
+use mathlib.Core.Path.{_≡_, sym, ap, _∙_}
+use Rattle.path.specs.declared.Setup.{Setup}
+use Rattle.model.specs.Answers.{Answer, Done}
+use Rattle.oakabut.specs.Surface.{numberOf, Told, Left}
+
+-- an answer of the code's that is known by its case
+pub tells : {X : Type 0} (says : X → Answer) (placesOf : Answer → List ℕ) {a b : X} → a ≡ b → Told (says a) placesOf (numberOf (says b)) (placesOf (says b))
+tells {X} says placesOf e = record {
+  number-is = sym (ap (λ (x : X). numberOf (says x)) e);
+  places-are = sym (ap (λ (x : X). placesOf (says x)) e);
+}
+
+-- the paper's answer, which the code's is
+pub hears : {placesOf : Answer → List ℕ} {a b : Answer} {n : ℕ} {p : List ℕ} → a ≡ b → Told a placesOf n p → Told b placesOf n p
+hears {placesOf} e t = record { number-is = t .number-is ∙ ap numberOf e; places-are = t .places-are ∙ ap placesOf e }
+
+-- and what the call leaves
+pub leaves : {placesOf : Setup → Answer → List ℕ} {d e : Done} {n : ℕ} {p : List ℕ} → d ≡ e → Told (d .answer) (placesOf (d .after .numbers)) n p → Left e placesOf n p (d .after .words) (d .after .list)
+leaves {placesOf} q t = record {
+  told = record {
+    number-is = t .number-is ∙ ap (λ (d : Done). numberOf (d .answer)) q;
+    places-are = t .places-are ∙ ap (λ (d : Done). placesOf (d .after .numbers) (d .answer)) q;
+  };
+  words-are = ap (λ (d : Done). d .after .words) q;
+  list-is = ap (λ (d : Done). d .after .list) q;
+}

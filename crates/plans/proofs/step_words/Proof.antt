@@ -1,0 +1,74 @@
+-- `plans::step_words`: by cases of the step.
+use mathlib.Core.Path.{sym, ap, _∙_}
+use borrow.Author.Needs.{needs}
+use Rattle.path.specs.Geometry.{four}
+use Rattle.model.specs.Writes.{memory, performAll}
+use Rattle.plans.specs.declared.Step.{Step}
+use Rattle.plans.specs.Plan.{writes}
+use Rattle.plans.proofs.step_words.Statement.{statement}
+use Rattle.plans.proofs.step_words.Tie as tie
+
+enum-known-s : tie.Need-enum-known-s
+enum-known-s c = search needs
+
+put-requires : tie.Need-put-requires
+put-requires c κs = search needs
+
+enum-known-s-2 : tie.Need-enum-known-s-2
+enum-known-s-2 c = search needs
+
+wipe-requires : tie.Need-wipe-requires
+wipe-requires c κs = search needs
+
+enum-told : tie.Need-enum-told
+enum-told c = search needs
+
+enum-told-2 : tie.Need-enum-told-2
+enum-told-2 c = search needs
+
+same-length : tie.Need-same-length
+same-length c = search needs
+
+returns : tie.Need-returns
+unfolding performAll
+returns c =
+    let a = c .before .before .before .before .before .before .before .before .args in
+    λ l. c .before .before .put .ensures ∙ ap (λ (s : Step). performAll four (writes s) (memory (a .words .now) l) .words) (sym (c .before .before .before .before .before .s .given .1))
+
+same-length-2 : tie.Need-same-length-2
+same-length-2 c = search needs
+
+returns-2 : tie.Need-returns-2
+unfolding performAll
+returns-2 c =
+    let a = c .before .before .before .before .before .before .before .before .args in
+    λ l. c .before .before .wipe .ensures ∙ ap (λ (s : Step). performAll four (writes s) (memory (a .words .now) l) .words) (sym (c .before .before .before .before .before .s2 .given .1))
+
+returns-3 : tie.Need-returns-3
+unfolding performAll
+returns-3 c =
+    let a = c .before .before .before .args in
+    λ l. ap (λ (s : Step). performAll four (writes s) (memory (a .words .now) l) .words) (sym (c .enum-told .given .1))
+
+returns-4 : tie.Need-returns-4
+unfolding performAll
+returns-4 c =
+    let a = c .before .before .before .args in
+    λ l. ap (λ (s : Step). performAll four (writes s) (memory (a .words .now) l) .words) (sym (c .enum-told2 .given .1))
+
+pub step-words-spec : {M : Type 1} → statement M
+step-words-spec =
+    tie.close
+    (tie.spec
+    enum-known-s
+    put-requires
+    enum-known-s-2
+    wipe-requires
+    enum-told
+    enum-told-2
+    same-length
+    returns
+    same-length-2
+    returns-2
+    returns-3
+    returns-4)

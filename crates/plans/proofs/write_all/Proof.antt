@@ -1,0 +1,85 @@
+-- `plans::write_all`: after i turns the memory is that of the first i steps.
+use Prim.Native.Nat.{_-_, _≤_}
+use mathlib.Core.List.{List}
+use mathlib.Core.Path.{_≡_, refl, ap, _∙_}
+use native.Mathlib.Omega.{arith}
+use borrow.Author.Needs.{needs}
+use lib.ListN.{length, take}
+use Rattle.path.specs.Geometry.{four}
+use Rattle.model.specs.Writes.{Write, memory, performAll}
+use Rattle.plans.specs.Plan.{planned}
+use Rattle.plans.proofs.Plans.{both-next, planned-all}
+use Rattle.plans.proofs.write_all.Statement.{statement}
+use Rattle.plans.proofs.write_all.Tie as tie
+
+abbrev Inv-loop : tie.InvT-loop
+Inv-loop words₀ list₀ plan i₀ words list i =
+    (i ≤ 7) × ((length words ≡ length words₀) × ((length list ≡ length list₀) × (memory words list ≡ performAll four (planned (take i plan)) (memory words₀ list₀))))
+
+abbrev μ-loop : tie.MeasureT-loop
+μ-loop words₀ list₀ plan i₀ words list i = 7 - i
+
+loop-holds : tie.Need-loop-holds Inv-loop μ-loop
+unfolding planned performAll
+loop-holds c = (search needs, (refl, (refl, refl)))
+
+mul-s : tie.Need-mul-s Inv-loop μ-loop
+mul-s c = omega arith
+
+array-copy-out-s : tie.Need-array-copy-out-s Inv-loop μ-loop
+array-copy-out-s c = omega arith
+
+step-words-requires : tie.Need-step-words-requires Inv-loop μ-loop
+step-words-requires c κs = search needs
+
+step-list-requires : tie.Need-step-list-requires Inv-loop μ-loop
+step-list-requires c κs = search needs
+
+add-i : tie.Need-add-i Inv-loop μ-loop
+add-i c = omega arith
+
+loop-less : tie.Need-loop-less Inv-loop μ-loop
+loop-less c = omega arith
+
+loop-again : tie.Need-loop-again Inv-loop μ-loop
+loop-again c =
+    let a = c .before .before .before .before .before .before .before .before .before .before .before .before .before .args in
+    let l = c .before .before .before .before .before .before .before .before .before .before .loop in
+    let words = c .before .before .before .before .before .before .step-words in
+    let list = c .before .before .step-list in (
+      search needs,
+      (
+        words .kept .0 ∙ l .inv .1 .0,
+        (list .kept .0 ∙ l .inv .1 .1 .0, both-next four (a .t3) (l .i) (omega arith) (memory (a .words .now) (a .list .now)) (l .inv .1 .1 .1) (words .ensures) (list .ensures)),
+      ),
+    )
+
+same-length : tie.Need-same-length Inv-loop μ-loop
+same-length c = search needs
+
+same-length-2 : tie.Need-same-length-2 Inv-loop μ-loop
+same-length-2 c = search needs
+
+returns : tie.Need-returns Inv-loop μ-loop
+returns c =
+    let a = c .before .before .before .before .args in
+    let l = c .before .loop in
+    l .inv .1 .1 .1 ∙ ap (λ (x : List Write). performAll four x (memory (a .words .now) (a .list .now))) (planned-all (a .t3) (l .i) (omega arith))
+
+pub write-all-spec : {M : Type 1} → statement M
+write-all-spec =
+    tie.close
+    (tie.spec
+    Inv-loop
+    μ-loop
+    loop-holds
+    mul-s
+    array-copy-out-s
+    step-words-requires
+    step-list-requires
+    add-i
+    loop-less
+    loop-again
+    same-length
+    same-length-2
+    returns)

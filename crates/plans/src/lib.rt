@@ -1,0 +1,76 @@
+// A plan: the single writes of a call, in their order, and carrying them out, one after the other.
+ghost use mathlib.Core.Path.{_≡_};
+ghost use mathlib.Core.List.{List};
+ghost use Prim.Native.Nat.{ℕ};
+ghost use Rattle.path.specs.Geometry.{four};
+ghost use Rattle.model.specs.Walk.{slot};
+ghost use Rattle.model.specs.Writes.{memory, performAll};
+ghost use Rattle.plans.specs.Plan.{writes, planned};
+
+// The most writes of a call: two for each of three tables, and one for the frame.
+pub const STEPS: usize = 7;
+
+// A single write: a word, all words of a table to 0, or a place of the free list.
+pub enum Step {
+    Nothing,
+    Store { place: usize, value: u64 },
+    Wipe { table: u32 },
+    Give { place: usize, table: u32 },
+}
+
+// The place of entry i of table t among the words.
+pub fn entry_place(t: u32, i: u16) -> usize
+    ensures { λ r. ⌜ r ≡ slot four t i ⌝ }
+{
+    (path::ENTRIES as usize) * (t as usize) + (i as usize)
+}
+
+// A step's write to the words.
+fn step_words(words: &mut [u64], s: Step)
+    ensures { λ _. ⌜ ((l : List ℕ) → now (words .exit) ≡ performAll four (writes s) (memory (now (words .entry)) l) .words) ⌝ }
+{
+    match s {
+        Step::Store { place, value } => pool::put(words, place, value),
+        Step::Wipe { table } => pool::wipe(words, table),
+        Step::Give { .. } => {}
+        Step::Nothing => {}
+    }
+}
+
+// A step's write to the free list.
+fn step_list(list: &mut [u32], s: Step)
+    ensures { λ _. ⌜ ((w : List ℕ) → now (list .exit) ≡ performAll four (writes s) (memory w (now (list .entry))) .list) ⌝ }
+{
+    match s {
+        Step::Give { place, table } => pool::give(list, place, table),
+        Step::Store { .. } => {}
+        Step::Wipe { .. } => {}
+        Step::Nothing => {}
+    }
+}
+
+// The writes of a plan to the words.
+pub fn write_words(words: &mut [u64], plan: [Step; STEPS])
+    ensures { λ _. ⌜ ((l : List ℕ) → now (words .exit) ≡ performAll four (planned plan) (memory (now (words .entry)) l) .words) ⌝ }
+{
+    let mut i = 0;
+    while i < STEPS {
+        let s = plan[i];
+        step_words(words, s);
+        i += 1;
+    }
+}
+
+// The writes of a plan to the words and to the free list.
+pub fn write_all(words: &mut [u64], list: &mut [u32], plan: [Step; STEPS])
+    ensures { λ _. ⌜ memory (now (words .exit)) (now (list .exit))
+        ≡ performAll four (planned plan) (memory (now (words .entry)) (now (list .entry))) ⌝ }
+{
+    let mut i = 0;
+    while i < STEPS {
+        let s = plan[i];
+        step_words(words, s);
+        step_list(list, s);
+        i += 1;
+    }
+}

@@ -1,0 +1,4 @@
+pub mod Frees
+pub mod Prunes
+pub mod Tests
+pub mod Unmaps

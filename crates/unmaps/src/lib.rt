@@ -1,0 +1,165 @@
+// Unmap. It makes every test first, then plans its single writes, then carries them out.
+use entry::Entry;
+use model::UnmapAnswer;
+use model::Unmapped;
+use path::Setup;
+use plans::Step;
+ghost use mathlib.Core.Path.{_≡_};
+ghost use mathlib.Core.Bool.{true};
+ghost use Prim.Native.Nat.{_+_, _-_, _≤_};
+ghost use lib.ListN.{length};
+ghost use Rattle.path.specs.Geometry.{four};
+ghost use Rattle.path.specs.Numbers.{mostTables, goodSetup};
+ghost use Rattle.entry.specs.declared.Entry.the-variants.{Frame};
+ghost use Rattle.model.specs.Answers.{saysUnmap, refused, pool, unmapDid};
+ghost use Rattle.model.specs.Walk.{stop};
+ghost use Rattle.model.specs.Writes.{freed, unmapWrites};
+ghost use Rattle.model.specs.Calls.{unmapTests, unmapAt, unmapW};
+ghost use Rattle.plans.specs.Plan.{planned};
+
+// Unmap's tests 4 and 5, or 0.
+fn unmap_tests(levels: u64, address: u64) -> u64
+    ensures { λ r. ⌜ r ≡ unmapTests four levels address ⌝ }
+{
+    if address >= path::space_of(levels) {
+        return 4;
+    }
+    if address % path::PAGE != 0 {
+        return 5;
+    }
+    0
+}
+
+// Of the tables on the way, from the one with entries of height `left` upward, the root excepted: how many come free, one after the other, once the
+// path's entry in each is cleared.
+fn count_freed(words: &[u64], way: [u32; 4], path: [u16; 4], left: usize, top: usize) -> usize
+    requires { ⌜ (left ≤ top) × (top ≤ 3) ⌝ }
+    ensures { λ r. ⌜ r ≡ freed four (now (words .entry)) way path left (top - left) ⌝ }
+{
+    let mut h = left;
+    while h < top {
+        let at = 3 - h;
+        let t = way[at];
+        let i = path[at];
+        if !pool::only_entry(words, t, i) {
+            return h - left;
+        }
+        h += 1;
+    }
+    top - left
+}
+
+// The writes of an unmap: the frame's word becomes 0; then, for each table that comes free, its parent's entry becomes 0, and after that the table goes
+// on the free list.
+fn unmap_plan(
+    way: [u32; 4],
+    path: [u16; 4],
+    left: usize,
+    free: usize,
+    given: usize,
+) -> [Step; plans::STEPS]
+    requires { ⌜ (left + given ≤ 3) × (free ≤ mostTables) ⌝ }
+    ensures { λ r. ⌜ planned r ≡ unmapWrites four way path left free given ⌝ }
+{
+    let mut plan = [Step::Nothing; plans::STEPS];
+    let at = 3 - left;
+    let place = plans::entry_place(way[at], path[at]);
+    plan[0] = Step::Store { place, value: 0 };
+    let mut k = 0;
+    while k < given {
+        let at = 3 - (left + k);
+        let table = way[at];
+        let up = at - 1;
+        let place = plans::entry_place(way[up], path[up]);
+        let next = free + k;
+        plan[2 * k + 1] = Step::Store { place, value: 0 };
+        plan[2 * k + 2] = Step::Give { place: next, table };
+        k += 1;
+    }
+    plan
+}
+
+// A refused unmap.
+fn unmap_refused(no: u64, s: Setup) -> Unmapped
+    ensures { λ r. ⌜ (saysUnmap (r .answer) ≡ refused no) × (r .setup ≡ s) ⌝ }
+{
+    Unmapped {
+        answer: UnmapAnswer::Refused(no),
+        setup: s,
+    }
+}
+
+// Unmap, where the walk ended at a frame.
+fn unmap_frame(
+    s: Setup,
+    words: &mut [u64],
+    list: &mut [u32],
+    address: u64,
+    frame: u64,
+    attributes: u64,
+    way: [u32; 4],
+    left: usize,
+) -> Unmapped
+    requires { ⌜ (goodSetup four s (length (now words)) (length (now list)) ≡ true) × (left ≤ s .levels - 1) ⌝ }
+    ensures { λ r. ⌜ unmapDid r (now (words .exit)) (now (list .exit))
+        ≡ unmapAt four (pool s (now (words .entry)) (now (list .entry)))
+        address (stop (Frame frame attributes) left way) (Frame frame attributes) ⌝ }
+{
+    let size = path::size_at(left);
+    if address % size != 0 {
+        return unmap_refused(10, s);
+    }
+    let path = path::path_of(address);
+    let top = (s.levels - 1) as usize;
+    let given = count_freed(&words[..], way, path, left, top);
+    let free = s.free + given as u64;
+    let most = s.tables - 1;
+    if free > most {
+        return unmap_refused(8, s);
+    }
+    let plan = unmap_plan(way, path, left, s.free as usize, given);
+    plans::write_all(words, list, plan);
+    Unmapped {
+        answer: UnmapAnswer::Given {
+            frame,
+            size,
+            attributes,
+            tables: given as u64,
+        },
+        setup: path::with_free(s, free),
+    }
+}
+
+// The mapping that starts at an address goes, and so does each table that is empty then. Answers the frame and the tables given back, or a refusal:
+// 1, 4, 5, 8, 9 or 10.
+pub fn unmap(s: Setup, words: &mut [u64], list: &mut [u32], address: u64) -> Unmapped
+    ensures { λ r. ⌜ unmapDid r (now (words .exit)) (now (list .exit))
+        ≡ unmapW four (pool s (now (words .entry)) (now (list .entry))) address ⌝ }
+{
+    if !path::good_setup(s, words.len(), list.len()) {
+        return unmap_refused(1, s);
+    }
+    let no = unmap_tests(s.levels, address);
+    if no != 0 {
+        return unmap_refused(no, s);
+    }
+    let o = lookup::walk_to(s, &words[..], 0, address);
+    let e = o.entry;
+    let way = o.tables;
+    let left = o.left;
+    match e {
+        Entry::Frame { base, attributes } => unmap_frame(
+            s,
+            words,
+            list,
+            address,
+            base,
+            attributes,
+            way,
+            left,
+        ),
+        Entry::Empty => unmap_refused(9, s),
+        Entry::Table(_) => unmap_refused(8, s),
+        Entry::Damaged => unmap_refused(8, s),
+    }
+}

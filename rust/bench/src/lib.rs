@@ -1,0 +1,103 @@
+//! `plain` behind functions of the C surface's shape. They are a crate of their own, so that nothing of them is compiled into
+//! the measuring: it calls them as it calls the library and the engine in C.
+
+use std::slice::{from_raw_parts, from_raw_parts_mut};
+
+use oakabut::raw::{Mapped, Unmapped};
+use oakabut::{Audit, Mapping, Setup};
+use plain::Refusal;
+
+fn to_plain(s: &Setup) -> plain::Setup {
+    plain::Setup { levels: s.levels, base: s.base, tables: s.tables, free: s.free }
+}
+
+fn from_plain(s: plain::Setup) -> Setup {
+    Setup { levels: s.levels, base: s.base, tables: s.tables, free: s.free }
+}
+
+/// Hands over the answer, which is the second where there is none, and the number of the refusal.
+#[inline(always)]
+unsafe fn hand_over<T>(result: Result<T, Refusal>, none: T, answer: *mut T) -> u64 {
+    match result {
+        Ok(found) => {
+            *answer = found;
+            0
+        }
+        Err(refusal) => {
+            *answer = none;
+            refusal.number()
+        }
+    }
+}
+
+pub extern "C" fn frame_word(base: u64, size: u64, attributes: u64) -> u64 {
+    plain::frame_word(base, size, attributes)
+}
+
+pub extern "C" fn word_meaning(word: u64, size: u64) -> u64 {
+    plain::word_meaning(word, size)
+}
+
+/// # Safety
+/// As for `oak_format`; here and below the function of the same name.
+#[inline(never)]
+pub unsafe extern "C" fn format(
+    levels: u64, base: u64, tables: u64, words: *mut u64, words_len: usize, list: *mut u32, list_len: usize, answer: *mut Setup,
+) -> u64 {
+    let (words, list) = (from_raw_parts_mut(words, words_len), from_raw_parts_mut(list, list_len));
+    let (setup, result) = plain::format(levels, base, tables, words, list);
+    *answer = from_plain(setup);
+    result.map_or_else(|refusal| refusal.number(), |()| 0)
+}
+
+/// # Safety
+/// As for `oak_map`.
+#[inline(never)]
+pub unsafe extern "C" fn map(
+    setup: *const Setup, words: *mut u64, words_len: usize, list: *const u32, list_len: usize, address: u64, frame: u64,
+    size: u64, attributes: u64, answer: *mut Mapped,
+) -> u64 {
+    let (words, list) = (from_raw_parts_mut(words, words_len), from_raw_parts(list, list_len));
+    let (setup, result) = plain::map(to_plain(&*setup), words, list, address, frame, size, attributes);
+    let setup = from_plain(setup);
+    hand_over(result.map(|taken| Mapped { setup, taken }), Mapped { setup, taken: 0 }, answer)
+}
+
+/// # Safety
+/// As for `oak_unmap`.
+#[inline(never)]
+pub unsafe extern "C" fn unmap(
+    setup: *const Setup, words: *mut u64, words_len: usize, list: *mut u32, list_len: usize, address: u64, answer: *mut Unmapped,
+) -> u64 {
+    let (words, list) = (from_raw_parts_mut(words, words_len), from_raw_parts_mut(list, list_len));
+    let (setup, result) = plain::unmap(to_plain(&*setup), words, list, address);
+    let setup = from_plain(setup);
+    let removed =
+        result.map(|plain::Removed { frame, size, attributes, given }| Unmapped { setup, frame, size, attributes, given });
+    hand_over(removed, Unmapped { setup, frame: 0, size: 0, attributes: 0, given: 0 }, answer)
+}
+
+/// # Safety
+/// As for `oak_query`.
+#[inline(never)]
+pub unsafe extern "C" fn query(
+    setup: *const Setup, words: *const u64, words_len: usize, list: *const u32, list_len: usize, address: u64,
+    answer: *mut Mapping,
+) -> u64 {
+    let (words, list) = (from_raw_parts(words, words_len), from_raw_parts(list, list_len));
+    let found = plain::query(to_plain(&*setup), words, list, address)
+        .map(|plain::Found { base, frame, size, attributes }| Mapping { base, frame, size, attributes });
+    hand_over(found, Mapping { base: 0, frame: 0, size: 0, attributes: 0 }, answer)
+}
+
+/// # Safety
+/// As for `oak_audit`.
+#[inline(never)]
+pub unsafe extern "C" fn audit(
+    setup: *const Setup, words: *const u64, words_len: usize, list: *const u32, list_len: usize, answer: *mut Audit,
+) -> u64 {
+    let (words, list) = (from_raw_parts(words, words_len), from_raw_parts(list, list_len));
+    let counts =
+        plain::audit(to_plain(&*setup), words, list).map(|plain::Counts { tables, mappings }| Audit { tables, mappings });
+    hand_over(counts, Audit { tables: 0, mappings: 0 }, answer)
+}
