@@ -1,5 +1,7 @@
 // Setup numbers, sizes, and paths: the indices of an address, and back.
 ghost use mathlib.Core.Path.{_≡_};
+ghost use Prim.Native.Nat.{_%_};
+ghost use lib.Dec.{ltb};
 ghost use Rattle.path.specs.Geometry.{four, sizeAt, atLevel, spaceOf, heightOf};
 ghost use Rattle.path.specs.Areas.{areaAt};
 ghost use Rattle.path.specs.Numbers.{noSetup, withFree, goodNumbers, goodSetup};
@@ -70,10 +72,7 @@ pub fn good_numbers(levels: u64, base: u64, tables: u64, words: usize, places: u
     if base % PAGE != 0 {
         return false;
     }
-    if base > PHYSICAL {
-        return false;
-    }
-    if base + PAGE * tables > PHYSICAL {
+    if base > PHYSICAL - PAGE * tables {
         return false;
     }
     if words as u64 != ENTRIES * tables {
@@ -86,10 +85,10 @@ pub fn good_numbers(levels: u64, base: u64, tables: u64, words: usize, places: u
 pub fn good_setup(s: Setup, words: usize, places: usize) -> bool
     ensures { λ r. ⌜ r ≡ goodSetup four s words places ⌝ }
 {
-    if !good_numbers(s.levels, s.base, s.tables, words, places) {
+    if s.free >= s.tables {
         return false;
     }
-    s.free < s.tables
+    good_numbers(s.levels, s.base, s.tables, words, places)
 }
 
 // The addresses of a tree of so many levels are below this; 0 for levels that no tree has.
@@ -103,6 +102,19 @@ pub fn space_of(levels: u64) -> u64
         return PHYSICAL;
     }
     0
+}
+
+// Whether an address is one of a tree of so many levels.
+pub fn in_space(levels: u64, address: u64) -> bool
+    ensures { λ r. ⌜ r ≡ ltb address (spaceOf four levels) ⌝ }
+{
+    if levels == 3 {
+        return address < GIB512;
+    }
+    if levels == 4 {
+        return address < PHYSICAL;
+    }
+    false
 }
 
 // The bytes that an entry of a height stands for; 0 where no level has it.
@@ -149,6 +161,25 @@ pub fn index_at(address: u64, height: usize) -> u16
         return 0;
     }
     (address / bytes % ENTRIES) as u16
+}
+
+// How far an address is past the start of its region of a height; 0 where no level has it.
+pub fn rest_at(address: u64, height: usize) -> u64
+    ensures { λ r. ⌜ r ≡ atLevel four height (address % sizeAt four height) ⌝ }
+{
+    if height == 0 {
+        return address % PAGE;
+    }
+    if height == 1 {
+        return address % MIB2;
+    }
+    if height == 2 {
+        return address % GIB;
+    }
+    if height == 3 {
+        return address % GIB512;
+    }
+    0
 }
 
 // The first address of the region of a height that holds an address; 0 where no level has it.
