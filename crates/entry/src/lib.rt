@@ -126,7 +126,7 @@ fn base_in(w: u64) -> u64
 
 // Whether a word is the word of its own base and attributes at a height: beside the base, bits 7:6 and bit 54 it has its type and the bits of normal or of
 // device memory.
-fn is_frame(w: u64, height: usize) -> bool
+pub fn is_frame(w: u64, height: usize) -> bool
     ensures { λ r. ⌜ r ≡ eqb w (frameWord (baseIn w) height (attrsIn w)) ⌝ }
 {
     let rest = w - base_in(w) - w / 64 % 4 * 64 - w / NO_EXECUTE % 2 * NO_EXECUTE;
