@@ -1,8 +1,9 @@
 // Setup numbers, sizes, and paths: the indices of an address, and back.
 ghost use mathlib.Core.Path.{_≡_};
-ghost use Prim.Native.Nat.{_%_};
-ghost use lib.Dec.{ltb};
-ghost use Rattle.path.specs.Geometry.{four, sizeAt, atLevel, spaceOf, heightOf};
+ghost use Prim.Native.Nat.{_+_, _%_};
+ghost use mathlib.Core.Bool.{_&&_};
+ghost use lib.Dec.{leb};
+ghost use Rattle.path.specs.Geometry.{four, sizeAt, atLevel, goodLevels, spaceOf, heightOf};
 ghost use Rattle.path.specs.Areas.{areaAt};
 ghost use Rattle.path.specs.Numbers.{noSetup, withFree, goodNumbers, goodSetup};
 ghost use Rattle.path.specs.Paths.{indexAt, baseAt, pathOf, addressOf};
@@ -104,15 +105,21 @@ pub fn space_of(levels: u64) -> u64
     0
 }
 
-// Whether an address is one of a tree of so many levels.
-pub fn in_space(levels: u64, address: u64) -> bool
-    ensures { λ r. ⌜ r ≡ ltb address (spaceOf four levels) ⌝ }
+// Whether so many addresses from one on are all in the space of a tree of so many levels.
+pub fn in_space(levels: u64, address: u64, size: u64) -> bool
+    ensures { λ r. ⌜ r ≡ (goodLevels four levels && leb (address + size) (spaceOf four levels)) ⌝ }
 {
     if levels == 3 {
-        return address < GIB512;
+        if size > GIB512 {
+            return false;
+        }
+        return address <= GIB512 - size;
     }
     if levels == 4 {
-        return address < PHYSICAL;
+        if size > PHYSICAL {
+            return false;
+        }
+        return address <= PHYSICAL - size;
     }
     false
 }

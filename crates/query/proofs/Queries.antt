@@ -1,14 +1,14 @@
 -- What a query answers, by what its tests and its walk found.
-use Prim.Native.Nat.{ℕ, _<_}
+use Prim.Native.Nat.{ℕ, _+_, _<_}
 use mathlib.Core.Path.{_≡_, sym, ap, _∙_}
-use mathlib.Core.Bool.{Bool, true, false, not}
-use borrow.Author.Tests.{not-true, not-false, ltb-true, ltb-false, le-leb, lt-leb}
-use lib.Dec.{ltb}
-use Rattle.path.specs.Geometry.{four, sizeAt, atLevel, spaceOf}
-use Rattle.path.specs.Areas.{areaOf}
+use mathlib.Core.Bool.{Bool, true, false, not, _&&_}
+use native.Mathlib.Omega.{arith}
+use borrow.Author.Tests.{not-true, not-false, le-leb, lt-leb}
+use lib.Dec.{leb}
+use Rattle.path.specs.Geometry.{four, sizeAt, atLevel, goodLevels, spaceOf}
 use Rattle.path.specs.Numbers.{goodSetup, GoodSetup}
 use Rattle.path.specs.Paths.{baseAt}
-use Rattle.path.specs.Laws.{level-some, good-setup}
+use Rattle.path.specs.Laws.{level-some, in-space, past-space, good-setup}
 use Rattle.path.specs.declared.Setup.{Setup}
 use Rattle.entry.specs.declared.Entry.{Entry}
 use Rattle.entry.specs.declared.Entry.the-variants.{Frame}
@@ -36,11 +36,15 @@ module _ (p : Pool) (a : ℕ) {r : Bool} (e : r ≡ goodPool four p) where
   unfolding queryW
   query-bad n = rw (sym e ∙ not-true _ n)
 
-  module _ (n : not r ≡ false) {inside : Bool} (q : inside ≡ ltb a (spaceOf four (p .numbers .levels))) where
+  module _ (n : not r ≡ false) {inside : Bool} (q : inside ≡ (goodLevels four (p .numbers .levels) && leb (a + 1) (spaceOf four (p .numbers .levels)))) where
     pub query-past : not inside ≡ true → refused 4 ≡ queryW four p a
     unfolding queryW
-    query-past m = rw (sym e ∙ not-false _ n, le-leb _ _ (ltb-false _ _ (sym q ∙ not-true _ m)))
+    query-past m =
+        let l = past-space four (p .numbers .levels) a 1 (sym q ∙ not-true _ m) (omega arith) in
+        rw (sym e ∙ not-false _ n, le-leb (spaceOf four (p .numbers .levels)) a (omega arith))
 
     pub query-walks : not inside ≡ false → endsAt four a (walkTo four p 0 a) ≡ queryW four p a
     unfolding queryW
-    query-walks m = rw (sym e ∙ not-false _ n, lt-leb _ _ (ltb-true _ _ (sym q ∙ not-false _ m)))
+    query-walks m =
+        let l = in-space four (p .numbers .levels) a 1 (sym q ∙ not-false _ m) in
+        rw (sym e ∙ not-false _ n, lt-leb (spaceOf four (p .numbers .levels)) a (omega arith))

@@ -1,11 +1,9 @@
 -- What a query answers, as a number and four places, and as the walk that it makes has it.
 use Prim.Native.Nat.{ℕ}
-use mathlib.Core.Path.{_≡_}
 use mathlib.Core.Bool.{cond}
 use mathlib.Core.List.{List}
 use lib.Dec.{eqb}
 use lib.ListN.{getD}
-use borrow.Author.Tests.{ne-eqb}
 use Rattle.path.specs.Geometry.{Granule}
 use Rattle.model.specs.declared.Walked.{Walked}
 use Rattle.model.specs.Answers.{Answer, found, refused, mapping}
@@ -18,14 +16,6 @@ inPlaces f = found (mapping (getD f 0 0) (getD f 1 0) (getD f 2 0) (getD f 3 0))
 -- a refusal by its number; 0 where the four places hold the mapping
 unfoldable pub answerOf : ℕ → List ℕ → Answer
 answerOf r f = cond (eqb r 0) (inPlaces f) (refused r)
-
-pub answer-no : (r : ℕ) (f : List ℕ) → (r ≡ 0 → ⊥) → answerOf r f ≡ refused r
-unfolding answerOf
-answer-no r f n = rw (ne-eqb r 0 n)
-
-pub answer-found : {r : ℕ} (f : List ℕ) → r ≡ 0 → answerOf r f ≡ inPlaces f
-unfolding answerOf
-answer-found f e = rw e
 
 -- what a walk to the last level answers of an address, where it ended
 abbrev pub endsAt : Granule → ℕ → Walked → Answer

@@ -87,7 +87,7 @@ pub fn query(s: Setup, words: &[u64], list: &[u32], address: u64) -> QueryAnswer
     if !path::good_setup(s, words.len(), list.len()) {
         return QueryAnswer::Refused(1);
     }
-    if !path::in_space(levels, address) {
+    if !path::in_space(levels, address, 1) {
         return QueryAnswer::Refused(4);
     }
     let mut places = [0u64; 4];

@@ -14,13 +14,14 @@ use Rattle.model.specs.declared.Walked.{Walked}
 use Rattle.model.specs.Walk.{noWay, walkFrom}
 use Rattle.model.specs.Calls.{foundAt}
 use Rattle.lookup.specs.Steps.{Going, going-first, going-past, going-down, ends-empty, ends-frame, comes-again, goes-down}
-use Rattle.query.specs.Asks.{answer-no, endsAt}
+use Rattle.query.specs.Asks.{endsAt}
+use Rattle.query.specs.AskLaws.{answer-no}
 use Rattle.query.proofs.ask.Statement.{statement}
 use Rattle.query.proofs.ask.Tie as tie
 
 abbrev Inv-loop : tie.InvT-loop
 Inv-loop words base tables levels address places₀ path way₀ t₀ h₀ places way t h =
-    (1 ≤ h) × (h ≤ 4) × (t < tables) × (length way ≡ 4) × Going four words (areaAt base tables) 0 path levels h way t
+    (1 ≤ h) × (h ≤ 4) × (t < tables) × (length way ≡ 4) × Going four words (areaAt base tables) 0 path (levels - 1) h way t
 
 abbrev μ-loop : tie.MeasureT-loop
 μ-loop words base tables levels address places₀ path way₀ t₀ h₀ places way t h = h
@@ -144,7 +145,7 @@ loop-again c =
       omega arith,
       child-only four (areaAt (s .base) (s .tables)) _ (sym (c .before .before .before .child-in .ensures)) (omega (arith, c .before .before .if4 .left)) .0,
       length-set (l .way) (3 - (l .h - 1)) (l .t) ∙ l .inv .3,
-      going-down four _ _ _ _ (l .inv .4) (omega arith) (omega arith)
+      going-down four _ _ _ _ (l .inv .4) (omega arith)
           (goes-down four (s .words .now) (areaAt (s .base) (s .tables)) 0 (c .before .before .before .before .before .before .before .before .before .before .path-of .result) (l .h - 1) (l .way) (l .t) refl (c .before .before .before .child-in .ensures) (omega (arith, c .before .before .if4 .left)) (omega (arith, c .before .before .before .before .if3 .left))
           (sym (c .before .among-four .ensures) ∙ c .if5 .left)),
     )
@@ -156,7 +157,7 @@ loop-again-2 : tie.Need-loop-again-2 Inv-loop μ-loop
 loop-again-2 c =
     let s = c .before .before .before .before .before .args in
     let l = c .before .before .loop in
-    (omega arith, omega arith, l .inv .2, l .inv .3, going-past four _ _ _ _ (l .inv .4) (omega arith) (omega arith))
+    (omega arith, omega arith, l .inv .2, l .inv .3, going-past four _ _ _ _ (l .inv .4) (omega arith))
 
 returns-5 : tie.Need-returns-5 Inv-loop μ-loop
 returns-5 c = absurd (omega arith)

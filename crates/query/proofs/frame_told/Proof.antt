@@ -3,7 +3,7 @@ use mathlib.Core.Path.{refl, sym, _∙_}
 use native.Mathlib.Omega.{arith}
 use borrow.Author.Needs.{needs}
 use Rattle.model.specs.Calls.{foundAt}
-use Rattle.query.specs.Asks.{answer-no, answer-found}
+use Rattle.query.specs.AskLaws.{answer-no, answer-found}
 use Rattle.query.proofs.Queries.{at-entry, at-frame}
 use Rattle.query.proofs.frame_told.Statement.{statement}
 use Rattle.query.proofs.frame_told.Tie as tie

@@ -3,7 +3,7 @@ use mathlib.Core.Path.{sym, _∙_}
 use native.Mathlib.Omega.{arith}
 use borrow.Author.Needs.{needs}
 use Rattle.model.specs.Answers.{pool}
-use Rattle.query.specs.Asks.{answer-no, answer-found}
+use Rattle.query.specs.AskLaws.{answer-no, answer-found}
 use Rattle.query.proofs.Queries.{good, query-bad, query-past, query-walks}
 use Rattle.query.proofs.query.Statement.{statement}
 use Rattle.query.proofs.query.Tie as tie
