@@ -10,13 +10,14 @@ use borrow.Author.Tests.{lt-ltb, le-ltb, ltb-true, leb-true, eqb-true, le-leb, e
 use Rattle.path.specs.Geometry.{Granule, Sane, entries, physical}
 use Rattle.path.specs.Areas.{Area, areaOf, total}
 use Rattle.path.specs.Numbers.{mostTables, GoodSetup}
+use Rattle.path.specs.Paths.{pathOf}
 use Rattle.path.specs.declared.Setup.{Setup}
 use Rattle.entry.specs.Words.{entryAt}
 use Rattle.entry.specs.Laws.{and-true}
 use Rattle.entry.specs.declared.Entry.the-variants.{Damaged}
 use Rattle.model.specs.declared.Walked.{Walked}
-use Rattle.model.specs.Walk.{stop}
-use Rattle.model.specs.Answers.{pool}
+use Rattle.model.specs.Walk.{slot, atHeight, stop}
+use Rattle.model.specs.Answers.{Pool, pool}
 use Rattle.model.specs.Calls.{walkTo}
 use Rattle.lookup.specs.Walks.{nowhere}
 use Rattle.lookup.specs.Ends.{endOf, canWalk, walkIf}
@@ -108,3 +109,24 @@ module _ (G : Granule) (s : Setup) (ws : List ℕ) (target a : ℕ) where
     few = omega (arith, g);
     whole = g .numbers .words-are;
   }))
+
+-- ---- a walk of the calls that is done, and answered r
+
+pub record Came (G : Granule) (p : Pool) (target a r : ℕ) (way : List ℕ) : Type 0 where
+  pub end : endOf G (p .words) (areaOf (p .numbers)) r way ≡ walkTo G p target a
+  pub place : r / 4 < length (p .words) → r / 4 ≡ slot G (atHeight way (r % 4)) (atHeight (pathOf G a) (r % 4))
+
+module _ {G : Granule} {p : Pool} {target a r : ℕ} {way : List ℕ} (C : Came G p target a r way) where
+  -- a table was come to again
+  pub came-again : length (p .words) ≤ r / 4 → stop Damaged (r % 4) way ≡ walkTo G p target a
+  unfolding endOf
+  came-again l = rw (le-ltb (r / 4) (length (p .words)) l) at (C .end)
+
+  -- it ended at the entry of a word
+  pub came-word :
+      r / 4 < length (p .words) → {w : ℕ} → w ≡ getD (p .words) (r / 4) 0
+      → stop (entryAt G (areaOf (p .numbers)) (r % 4) w) (r % 4) way ≡ walkTo G p target a
+  unfolding endOf
+  came-word l e =
+      ap (λ (w : ℕ). stop (entryAt G (areaOf (p .numbers)) (r % 4) w) (r % 4) way) e
+      ∙ rw (lt-ltb (r / 4) (length (p .words)) l) at (C .end)

@@ -24,7 +24,7 @@ use Rattle.model.specs.Writes.{Write, memory, performAll, mapWrites, mayTake}
 use Rattle.model.specs.Calls.{goodPool, walkTo, mapTests, mapHere, mapAt, mapW}
 use Rattle.model.specs.Refusing.{passed}
 use Rattle.lookup.specs.WalkLaws.{walk-above}
-use Rattle.lookup.specs.Ends.{endOf}
+use Rattle.lookup.specs.Reaches.{Came, came-again, came-word}
 use Rattle.plans.specs.Plan.{planned}
 use Rattle.plans.specs.declared.Step.{Step}
 use Rattle.maps.specs.Parts.{metBy, mapFrom}
@@ -60,35 +60,22 @@ one-here G p a b h k way =
 
 -- ---- the walk to height h is done, and answered r
 
-pub record Came (G : Granule) (p : Pool) (a h r : ℕ) (way : List ℕ) : Type 0 where
-  pub end : endOf G (p .words) (areaOf (p .numbers)) r way ≡ walkTo G p h a
-  pub place : r / 4 < length (p .words) → r / 4 ≡ slot G (atHeight way (r % 4)) (atHeight (pathOf G a) (r % 4))
-
-module _ {G : Granule} {p : Pool} {a h r : ℕ} {way : List ℕ} (C : Came G p a h r way) (b k : ℕ) where
+module _ {G : Granule} {p : Pool} {a h r : ℕ} {way : List ℕ} (C : Came G p h a r way) (b k : ℕ) where
   -- what map does at the end of a walk
   abbrev doneAt : Walked → Done
   doneAt o = mapAt G p a b h k o (o .entry)
 
   pub came-past : length (p .words) ≤ r / 4 → refuse 8 p ≡ mapFrom G p a b h k
-  unfolding endOf mapAt
-  came-past l = ap doneAt (rw (le-ltb (r / 4) (length (p .words)) l) at (C .end))
+  unfolding mapAt
+  came-past l = ap doneAt (came-again C l)
 
   module _ (l : r / 4 < length (p .words)) where
-    here : {w : ℕ} → w ≡ getD (p .words) (r / 4) 0 → stop (entryAt G (areaOf (p .numbers)) (r % 4) w) (r % 4) way ≡ walkTo G p h a
-    unfolding endOf
-    here e =
-        ap (λ (w : ℕ). stop (entryAt G (areaOf (p .numbers)) (r % 4) w) (r % 4) way) e
-        ∙ rw (lt-ltb (r / 4) (length (p .words)) l) at (C .end)
-
     pub came-met : Sane G → {w no : ℕ} → w ≡ getD (p .words) (r / 4) 0 → w ≢ 0
-        → no ≡ metBy (entryAt G (areaOf (p .numbers)) (r % 4) w) → refuse no p ≡ mapFrom G p a b h k
+        → no ≡ metBy (walkTo G p h a .entry) → refuse no p ≡ mapFrom G p a b h k
     unfolding mapAt
-    came-met S {w} e some d =
-        rw d
-        (met-at (entryAt G (areaOf (p .numbers)) (r % 4) w) (λ z. some (empty-only S (areaOf (p .numbers)) (r % 4) w z))
-        ∙ ap doneAt (here e))
+    came-met S {w} e some d = rw d (met-at (walkTo G p h a .entry) (λ z. some (empty-only S (areaOf (p .numbers)) (r % 4) w (ap (λ (o : Walked). o .entry) (came-word C l e) ∙ z))))
       where
-        met-at : (x : Entry) → (x ≡ Empty → ⊥) → refuse (metBy x) p ≡ mapAt G p a b h k (stop x (r % 4) way) x
+        met-at : (x : Entry) → (x ≡ Empty → ⊥) → refuse (metBy x) p ≡ mapAt G p a b h k (walkTo G p h a) x
         met-at Empty f = absurd (f refl)
         met-at (Table c) f = refl
         met-at (Frame c d) f = refl
@@ -100,12 +87,12 @@ module _ {G : Granule} {p : Pool} {a h r : ℕ} {way : List ℕ} (C : Came G p a
     came-empty {w} e z =
         ap doneAt
         (ap (λ (x : Entry). stop x (r % 4) way) (sym (ap (entryAt G (areaOf (p .numbers)) (r % 4)) z ∙ entry-zero G _ _))
-        ∙ here e)
+        ∙ came-word C l e)
 
     -- it ended no lower than the frame's height
     pub came-above : {w : ℕ} → w ≡ getD (p .words) (r / 4) 0 → h ≤ p .numbers .levels - 1 → h ≤ r % 4
     came-above e low =
-        rw (ap (λ (o : Walked). o .left) (here e))
+        rw (ap (λ (o : Walked). o .left) (came-word C l e))
         (walk-above G (p .words) (areaOf (p .numbers)) h (pathOf G a) (p .numbers .levels - 1) noWay 0 low)
 
     -- at an empty entry of that height the frame's word is the only write

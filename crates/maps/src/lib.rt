@@ -9,14 +9,15 @@ ghost use mathlib.Core.Bool.{true};
 ghost use Prim.Native.Nat.{ℕ, _+_, _-_, _≤_};
 ghost use lib.ListN.{length};
 ghost use Rattle.path.specs.Geometry.{four, physical, heightOf};
-ghost use Rattle.path.specs.Areas.{areaAt, areaOf};
+ghost use Rattle.path.specs.Areas.{areaAt};
 ghost use Rattle.path.specs.Numbers.{goodSetup};
-ghost use Rattle.entry.specs.Words.{frameWord, entryAt};
+ghost use Rattle.entry.specs.Words.{frameWord};
 ghost use Rattle.entry.specs.declared.Entry.the-variants.{Empty};
 ghost use Rattle.model.specs.Answers.{saysMap, refused, pool, mapDid};
 ghost use Rattle.model.specs.Walk.{stop};
 ghost use Rattle.model.specs.Writes.{mapWrites, mayTake};
 ghost use Rattle.model.specs.Calls.{mapTests, mapHere, mapW};
+ghost use Rattle.lookup.specs.Walks.{walkBy};
 ghost use Rattle.plans.specs.Plan.{planned};
 ghost use Rattle.maps.specs.Parts.{metBy, mapFrom};
 
@@ -156,11 +157,12 @@ fn map_empty(
     }
 }
 
-// The refusal of a map whose walk ended at a word that is not 0: 8 for damage, 6 for a table or a frame.
-fn met(w: u64, left: usize, base: u64, tables: u32) -> u64
-    ensures { λ r. ⌜ r ≡ metBy (entryAt four (areaAt base tables) left w) ⌝ }
+// The refusal of a map whose walk does not end at an empty entry: 8 for damage, 6 for a table or a frame.
+fn met(s: Setup, words: &[u64], height: usize, address: u64) -> u64
+    ensures { λ r. ⌜ r ≡ metBy (walkBy four s (now (words .entry)) height address .entry) ⌝ }
 {
-    let e = entry::read_word(w, left, base, tables);
+    let o = lookup::walk_to(s, words, height, address);
+    let e = o.entry;
     match e {
         Entry::Damaged => 8,
         Entry::Empty => 6,
@@ -192,7 +194,7 @@ fn map_walk(
     }
     let w = words[place];
     if w != 0 {
-        return map_refused(met(w, left, s.base, s.tables as u32), s);
+        return map_refused(met(s, &words[..], height, address), s);
     }
     if left != height {
         return map_empty(s, words, list, address, height, word, way, left);

@@ -1,21 +1,24 @@
 -- `maps::map_walk`: by where the walk ended.
 use Prim.Native.Nat.{_%_, _/_}
-use mathlib.Core.Path.{refl, _∙_}
+use mathlib.Core.Path.{refl, ap, _∙_}
 use native.Mathlib.Omega.{arith}
 use borrow.Author.Needs.{needs}
 use Rattle.path.specs.Laws.{four-sane, good-setup}
 use Rattle.path.specs.Geometry.{four}
+use Rattle.model.specs.declared.Walked.{Walked}
 use Rattle.model.specs.Answers.{pool}
 use Rattle.model.specs.Refusing.{refusing}
-use Rattle.lookup.specs.Reaches.{reach-good}
-use Rattle.maps.proofs.Maps.{Came, came-past, came-met, came-above, came-empty, came-here}
+use Rattle.lookup.specs.WalkLaws.{walk-good}
+use Rattle.lookup.specs.Reaches.{reach-good, Came}
+use Rattle.maps.specs.Parts.{metBy}
+use Rattle.maps.proofs.Maps.{came-past, came-met, came-above, came-empty, came-here}
 use Rattle.maps.proofs.map_walk.Statement.{statement}
 use Rattle.maps.proofs.map_walk.Tie as tie
 
 -- the walk is done
 came : (c : tie.After-reach)
     → let a = c .before .before .before .before .before .args in
-    Came four (pool (a .s) (a .words .now) (a .list .now)) (a .address) (a .height) (c .reach .result) (c .reach .last .1 .1 .1 .1 .0)
+    Came four (pool (a .s) (a .words .now) (a .list .now)) (a .height) (a .address) (c .reach .result) (c .reach .last .1 .1 .1 .1 .0)
 came c =
     let a = c .before .before .before .before .before .args in
     let g = good-setup {G = four} (c .before .before .before .before .before .pre .0) in
@@ -45,9 +48,6 @@ mul-w c = search needs
 slice-read-w : tie.Need-slice-read-w
 slice-read-w c = search needs
 
-cast-met : tie.Need-cast-met
-cast-met c = omega (arith, good-setup {G = four} (c .before .before .before .before .before .before .before .before .before .pre .0))
-
 met-requires : tie.Need-met-requires
 met-requires c κs = search needs
 
@@ -62,7 +62,9 @@ returns-2 c b k e =
     let a = c .before .before .before .before .before .before .before .before .before .before .before .args in
     let C = came (c .before .before .before .before .before .before) in
     refusing (a .words .now) (a .list .now) (c .map-refused2 .ensures)
-    ∙ came-met C b k (c .before .before .before .before .before .if1 .left) four-sane refl (c .before .before .before .if2 .taken) (c .before .met .ensures)
+    ∙ came-met C b k (c .before .before .before .before .before .if1 .left) four-sane refl (c .before .before .before .if2 .taken)
+    (c .before .met .ensures
+    ∙ ap (λ (o : Walked). metBy (o .entry)) (walk-good four (a .s) (a .words .now) (a .height) (a .address) four-sane (good-setup {G = four} (c .before .before .before .before .before .before .before .before .before .before .before .pre .0)) (a .list .now)))
 
 map-empty-requires : tie.Need-map-empty-requires
 map-empty-requires c κs =
@@ -104,7 +106,6 @@ map-walk-spec =
     returns
     mul-w
     slice-read-w
-    cast-met
     met-requires
     map-refused-requires-2
     same-length-2
