@@ -92,19 +92,6 @@ pub fn good_setup(s: Setup, words: usize, places: usize) -> bool
     good_numbers(s.levels, s.base, s.tables, words, places)
 }
 
-// The addresses of a tree of so many levels are below this; 0 for levels that no tree has.
-pub fn space_of(levels: u64) -> u64
-    ensures { λ r. ⌜ r ≡ spaceOf four levels ⌝ }
-{
-    if levels == 3 {
-        return GIB512;
-    }
-    if levels == 4 {
-        return PHYSICAL;
-    }
-    0
-}
-
 // Whether so many addresses from one on are all in the space of a tree of so many levels.
 pub fn in_space(levels: u64, address: u64, size: u64) -> bool
     ensures { λ r. ⌜ r ≡ (goodLevels four levels && leb (address + size) (spaceOf four levels)) ⌝ }
