@@ -1,4 +1,5 @@
 mod Parts
 mod Tables
+mod Pages
 mod Frees
 mod Whole

@@ -20,6 +20,9 @@ _⊞_ F G = record { ok = F .ok && G .ok; reached = F .reached ++ G .reached; co
 abbrev pub unseen : Seen
 unseen = record { ok = true; reached = []; count = 0 }
 
+pub unseen-⊞ : (F : Seen) → unseen ⊞ F ≡ F
+unseen-⊞ F = let z : 0 + F .count ≡ F .count = omega arith in rw z
+
 pub seen-⊕ : (F G : Found) → seen (F ⊕ G) ≡ seen F ⊞ seen G
 seen-⊕ F G = rw (length-append (F .mappings) (G .mappings), in-pairs (F .ok) (G .ok) (F .full) (G .full))
   where

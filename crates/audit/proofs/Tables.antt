@@ -25,7 +25,7 @@ use Rattle.model.specs.Sound.{wordAt}
 use Rattle.audit.specs.Checks.{Seen, seen, clash, marks, mark, Ends, Answers, belowOf, atTable, atEntry, isFresh, TableFit, EntryFit}
 use Rattle.audit.specs.declared.Tally.{Tally}
 use Rattle.audit.specs.declared.Tally.the-variants.{Counts, Damaged}
-use Rattle.audit.proofs.Parts.{_⊞_, unseen, seen-⊕, Room, Goes, goes-bad, goes-good, goes-answers, Carried, carried-start, carried-bad, carried-few, carried-more, carried-end}
+use Rattle.audit.proofs.Parts.{_⊞_, unseen, unseen-⊞, seen-⊕, Room, Goes, goes-bad, goes-good, goes-answers, Carried, carried-start, carried-bad, carried-few, carried-more, carried-end}
 
 -- ---- what is seen is the same from any address
 
@@ -71,6 +71,17 @@ below-table G ws area (suc h) c l = rw (sub-one (suc h))
 -- table t alone
 abbrev pub atVisit : Granule → List ℕ → ℕ → Seen
 atVisit G ws t = seen (ofVisit (tableWords G ws t) t)
+
+-- of so many last entries, those are empty that come before the last j
+abbrev pub Skips : Granule → List ℕ → ℕ → ℕ → ℕ → Type 0
+Skips G ws t left j = (j ≤ left) × ((k : ℕ) → j < k → k ≤ left → wordAt G ws t (entries G - k) ≡ 0)
+
+pub skips-more : (G : Granule) (ws : List ℕ) (t left j : ℕ) → Skips G ws t left j → wordAt G ws t (entries G - j) ≡ 0 → Skips G ws t left (j - 1)
+skips-more G ws t left j s e = (omega (arith, s .0), λ k a b. go k b (decLt j k) (omega arith))
+  where
+    go : (k : ℕ) → k ≤ left → Dec (j < k) → j ≤ k → wordAt G ws t (entries G - k) ≡ 0
+    go k b (yes i) m = s .1 k i b
+    go k b (no i) m = let q : k ≡ j = omega arith in rw q e
 
 -- its last entries, so many of them
 abbrev pub atRest : Granule → List ℕ → Area → ℕ → ℕ → ℕ → Seen
@@ -124,6 +135,21 @@ module _ (G : Granule) (ws : List ℕ) (area : Area) (h t : ℕ) where
           (same-entries G area h below (same-below G ws area h) (0 + sizeAt G h) 0 (drop (suc i) words)))
       go (no j) =
           rw (drop-of-length-le words {i = i} (omega arith), drop-of-length-le words {i = suc i} (omega arith), List·getD-eq-default words 0 {n = i} (omega arith), entry-zero G area h)
+
+  -- empty entries add nothing
+  pub rest-skip : (left j : ℕ) → left ≤ entries G → Skips G ws t left j → atRest G ws area h t left ≡ atRest G ws area h t j
+  rest-skip zero j l s = let z : j ≡ 0 = omega (arith, s .0) in rw z
+  rest-skip (suc left) j l s = go (decLt j (suc left)) (rest-skip left j (omega arith))
+    where
+      first : j < suc left → atEntry G ws area h t (entries G - suc left) ≡ unseen
+      first i = rw (s .1 (suc left) i (omega arith), entry-zero G area h)
+
+      go : Dec (j < suc left) → (Skips G ws t left j → atRest G ws area h t left ≡ atRest G ws area h t j) → atRest G ws area h t (suc left) ≡ atRest G ws area h t j
+      go (yes i) ih =
+          rest-parts (suc left) (omega arith) l
+          ∙ ap₂ _⊞_ (first i) (ap (atRest G ws area h t) (sub-one (suc left)) ∙ ih (omega arith, λ k a b. s .1 k a (omega arith)))
+          ∙ unseen-⊞ (atRest G ws area h t j)
+      go (no i) ih = let e : suc left ≡ j = omega (arith, s .0) in rw e
 
 -- ---- how much there can be
 
@@ -202,6 +228,16 @@ module _ {ws : List ℕ} {area : Area} {h t : ℕ} {M₀ : List ℕ} {a₀ b₀ 
   pub loop-end : left ≤ 0 → Goes (atRest four ws area h t (entries four)) M₀ a₀ b₀ (Counts a b) M
   loop-end l = let z : left ≡ 0 = omega arith in carried-end (k .carried) (ap (atRest four ws area h t) z ∙ rest-none four ws area h t)
 
+  pub loop-skip : (j : ℕ) → Skips four ws t left j → Loop ws area h t M₀ a₀ b₀ M a b j
+  loop-skip j s =
+      record {
+        few-left = omega (arith, k .few-left, s .0);
+        carried =
+            subst (λ (r : Seen). Carried (atRest four ws area h t (entries four)) M₀ a₀ b₀ r M a b)
+            (rest-skip four ws area h t left j (k .few-left) s)
+            (k .carried);
+      }
+
   module _ (l : 0 < left) where
     abbrev F : Seen
     F = atEntry four ws area h t (entries four - left)
@@ -222,7 +258,7 @@ module _ {ws : List ℕ} {area : Area} {h t : ℕ} {M₀ : List ℕ} {a₀ b₀ 
       pub loop-more : length N ≡ length M → Loop ws area h t M₀ a₀ b₀ N (a + x) (b + y) (left - 1)
       loop-more i = record { few-left = omega (arith, k .few-left); carried = carried-more (k .carried) F G next x y N g i }
 
-module _ {M : List ℕ} {n t h : ℕ} (f : TableFit M n t h) (ws : List ℕ) (area : Area) where
+module _ (ws : List ℕ) (area : Area) (h t : ℕ) (M : List ℕ) where
   abbrev all : Seen
   all = atRest four ws area h t (entries four)
 
@@ -238,24 +274,25 @@ module _ {M : List ℕ} {n t h : ℕ} (f : TableFit M n t h) (ws : List ℕ) (ar
       goes-answers (atTable four ws area h t) M r N
       (rw (table-parts four ws area h t) (goes-good (atVisit four ws t) all M 0 0 1 0 (set M t 1) (visit-fresh four ws M t e) r N g))
 
-  pub table-starts : Loop ws area h t (set M t 1) 1 0 (set M t 1) 1 0 (entries four)
-  table-starts =
+  pub table-starts : h < four .most → Loop ws area h t M 1 0 M 1 0 (entries four)
+  table-starts l =
       record {
         few-left = omega arith;
-        carried = carried-start all (set M t 1) 1 0 (rest (rw (table-parts four ws area h t) at (room-table ws area h t (f .low))));
+        carried = carried-start all M 1 0 (rest (rw (table-parts four ws area h t) at (room-table ws area h t l)));
       }
     where
       rest : Room (atVisit four ws t ⊞ all) 0 0 → Room all 1 0
       rest m = record { few = omega (arith, m .few); some-more = omega (arith, m .some-more) }
 
-  pub table-entry : {a b left : ℕ} {N : List ℕ} → Loop ws area h t (set M t 1) 1 0 N a b left → 0 < left → EntryFit N n h left
-  table-entry k l =
-      record {
-        marked = omega (arith, f .marked, k .carried .long, length-set M t 1);
-        low = f .low;
-        some-left = l;
-        few-left = k .few-left;
-      }
+pub table-entry : {ws : List ℕ} {area : Area} {M N : List ℕ} {n t h a b left : ℕ} → TableFit M n t h → Loop ws area h t (set M t 1) 1 0 N a b left → 0 < left
+    → EntryFit N n h left
+table-entry {M = M} {t = t} f k l =
+    record {
+      marked = omega (arith, f .marked, k .carried .long, length-set M t 1);
+      low = f .low;
+      some-left = l;
+      few-left = k .few-left;
+    }
 
 -- ---- an entry
 

@@ -3,12 +3,15 @@ use entry::Entry;
 use model::AuditAnswer;
 use path::Setup;
 ghost use mathlib.Core.Path.{_≡_};
-ghost use Prim.Native.Nat.{_≤_, _<_, _-_};
-ghost use lib.ListN.{length, take};
+ghost use mathlib.Core.Bool.{true};
+ghost use mathlib.Core.List.{List};
+ghost use Prim.Native.Nat.{ℕ, _≤_, _<_, _+_, _-_, _*_};
+ghost use lib.ListN.{length, take, set};
 ghost use Rattle.path.specs.Geometry.{four, entries};
-ghost use Rattle.path.specs.Areas.{areaAt};
+ghost use Rattle.path.specs.Areas.{Area, areaAt};
 ghost use Rattle.model.specs.Answers.{saysAudit, pool};
 ghost use Rattle.model.specs.Audit.{auditW};
+ghost use Rattle.model.specs.Sound.{wordAt};
 ghost use Rattle.audit.specs.Checks.{Answers, TableFit, EntryFit, isFresh, atTable, atEntry, freePass};
 
 // The entries of a table.
@@ -36,18 +39,61 @@ fn is_fresh(words: &[u64], marks: &[u8], t: u32) -> bool
     !pool::is_table_empty(words, t)
 }
 
+// Checks table t of the last level, which is fresh. A word that is damaged is neither empty nor a page, and the loop goes on: it has no branch, so that it
+// is done on several words at once.
+fn pages_check(words: &[u64], t: u32) -> Tally
+    requires { ⌜ entries four * t + entries four ≤ length (now words) ⌝ }
+    ensures { λ r. ⌜ ((area : Area) (M : List ℕ) → isFresh four (now (words .entry)) M t ≡ true
+        → Answers (atTable four (now (words .entry)) area 0 t) M r (set M t 1)) ⌝ }
+{
+    let end = ENTRIES * (t as usize) + ENTRIES;
+    let mut empty: u64 = 0;
+    let mut pages: u64 = 0;
+    let mut left = ENTRIES;
+    while 0 < left {
+        let w = words[end - left];
+        let page = entry::is_frame(w, 0);
+        empty += (w == 0) as u64;
+        pages += page as u64;
+        left -= 1;
+    }
+    if empty + pages < ENTRIES as u64 {
+        return Tally::Damaged;
+    }
+    Tally::Counts(1, pages)
+}
+
+// Where so many entries of table t are left: how many are left from the first of them that is not empty on.
+fn skip_empty(words: &[u64], t: u32, left: usize) -> usize
+    requires { ⌜ (left ≤ entries four) × (entries four * t + entries four ≤ length (now words)) ⌝ }
+    ensures { λ r. ⌜ (r ≤ left) × ((k : ℕ) → r < k → k ≤ left → wordAt four (now (words .entry)) t (entries four - k) ≡ 0) ⌝ }
+{
+    let end = ENTRIES * (t as usize) + ENTRIES;
+    let mut rest = left;
+    while 0 < rest {
+        if words[end - rest] != 0 {
+            return rest;
+        }
+        rest -= 1;
+    }
+    0
+}
+
 // Checks table t, whose entries have this height, and all below it, and marks the tables come to.
 fn table_check(words: &[u64], marks: &mut [u8], base: u64, n: u32, t: u32, height: usize) -> Tally
-    requires { ⌜ TableFit (now marks) n t height ⌝ }
+    requires { ⌜ TableFit (now marks) n t height × (entries four * n ≤ length (now words)) ⌝ }
     ensures { λ r. ⌜ Answers (atTable four (now (words .entry)) (areaAt base n) height t) (now (marks .entry)) r (now (marks .exit)) ⌝ }
 {
     if !is_fresh(words, marks, t) {
         return Tally::Damaged;
     }
     marks[t as usize] = 1;
+    if height == 0 {
+        return pages_check(words, t);
+    }
     let mut tables: u64 = 1;
     let mut mappings: u64 = 0;
-    let mut left = ENTRIES;
+    let mut left = skip_empty(words, t, ENTRIES);
     while 0 < left {
         let r = entry_check(words, marks, base, n, t, height, left);
         match r {
@@ -59,7 +105,7 @@ fn table_check(words: &[u64], marks: &mut [u8], base: u64, n: u32, t: u32, heigh
                 return Tally::Damaged;
             }
         }
-        left -= 1;
+        left = skip_empty(words, t, left - 1);
     }
     Tally::Counts(tables, mappings)
 }
@@ -74,7 +120,7 @@ fn entry_check(
     height: usize,
     left: usize,
 ) -> Tally
-    requires { ⌜ EntryFit (now marks) n height left ⌝ }
+    requires { ⌜ EntryFit (now marks) n height left × (entries four * n ≤ length (now words)) ⌝ }
     ensures { λ r. ⌜ Answers (atEntry four (now (words .entry)) (areaAt base n) height t (entries four - left))
         (now (marks .entry)) r (now (marks .exit)) ⌝ }
 {

@@ -1,14 +1,15 @@
 -- What the code adds up is the word of the definitions.
-use Prim.Native.Nat.{ℕ, _+_, _≤_, _<_}
-use mathlib.Core.Path.{_≡_, sym, _∙_}
+use Prim.Native.Nat.{ℕ, _+_, _-_, _*_, _/_, _%_, _^_, _≤_, _<_}
+use mathlib.Core.Path.{_≡_, refl, sym, _∙_}
 use mathlib.Core.Bool.{cond}
 use native.Mathlib.Omega.{arith}
 use lib.Dec.{ltb}
 use borrow.Author.Tests.{lt-ltb}
-use Rattle.path.specs.Geometry.{four, sizeAt, physical, atLevel, heightOf}
-use Rattle.path.specs.Laws.{four-sane, size-pos, size-fits, height-size, level-some}
-use Rattle.entry.specs.Words.{attrWord, typeAt, frameWord}
+use Rattle.path.specs.Geometry.{four, physical, heightOf}
+use Rattle.path.specs.Laws.{four-sane, size-pos, size-fits, height-size}
+use Rattle.entry.specs.Words.{attrWord, baseIn, attrsIn, typeAt, frameWord}
 use Rattle.entry.specs.Host.{hostWord, Accepted}
+use Rattle.entry.specs.Parts.{attr-of-bits}
 use Rattle.entry.specs.Laws.{type-le}
 use Rattle.entry.specs.HostLaws.{accepted-word}
 
@@ -20,12 +21,6 @@ frame-size size l =
     let p = size-pos four h in
     let q = size-fits four four-sane {h = h} (omega arith) in
     omega arith
-
--- the size that the code has for a height of frames
-pub size-known : (h s : ℕ) → h ≤ 2 → s ≡ atLevel four h (sizeAt four h) → (s ≡ sizeAt four h) × (0 < s)
-size-known h s l e =
-    let f = e ∙ level-some four {h = h} (omega arith) (sizeAt four h) in
-    (f, omega (arith, size-pos four h))
 
 -- a frame's word from its three parts
 pub sum-word : (b h a k m : ℕ) → k ≡ typeAt h → m ≡ attrWord a → b + k + m ≡ frameWord b h a
@@ -48,3 +43,67 @@ pub host-sum : {b size a h k m : ℕ}
     → m ≡ cond (ltb a 16) (attrWord a) 0
     → b + k + m ≡ hostWord four b size a
 host-sum {b} {size} {a} {h} {k} {m} e x p q = sum-word b h a k m p (attr-known (x .few) q) ∙ rw e (sym (accepted-word x))
+
+-- ---- a word without its base, bits 7:6 and bit 54
+
+abbrev pub restOf : ℕ → ℕ
+restOf w = w - baseIn w - w / 64 % 4 * 64 - w / 2 ^ 54 % 2 * 2 ^ 54
+
+pub base-fits : (w : ℕ) → baseIn w + w % 4096 + w / 2 ^ 48 * 2 ^ 48 ≡ w
+base-fits w = omega arith
+
+pub rest-fits : (w : ℕ) → (w / 64 % 4 * 64 ≤ w - baseIn w) × (w / 2 ^ 54 % 2 * 2 ^ 54 ≤ w - baseIn w - w / 64 % 4 * 64)
+rest-fits w = fit (baseIn w) (w % 4096) (w / 2 ^ 48 * 2 ^ 48) (w / 64 % 4 * 64) (w / 2 ^ 54 % 2 * 2 ^ 54) (base-fits w) (omega arith) (omega arith)
+  where
+    fit : (b low high x y : ℕ) → b + low + high ≡ w → x ≤ low → y ≤ high → (x ≤ w - b) × (y ≤ w - b - x)
+    fit b low high x y e l m = (omega arith, omega arith)
+
+-- the word is their sum
+parts-sum : (w : ℕ) → w ≡ baseIn w + w / 64 % 4 * 64 + w / 2 ^ 54 % 2 * 2 ^ 54 + restOf w
+parts-sum w = sum (baseIn w) (w / 64 % 4 * 64) (w / 2 ^ 54 % 2 * 2 ^ 54) (base-fits w) (rest-fits w)
+  where
+    sum : (b x y : ℕ) → b + w % 4096 + w / 2 ^ 48 * 2 ^ 48 ≡ w → (x ≤ w - b) × (y ≤ w - b - x) → w ≡ b + x + y + (w - b - x - y)
+    sum b x y e f = omega arith
+
+-- bit 5 is left in the rest
+rest-bit : (w : ℕ) → w / 32 % 2 ≡ restOf w / 32 % 2
+rest-bit w = bit (baseIn w) (w % 2 ^ 48 / 4096) (w / 64 % 4) (w / 2 ^ 54 % 2) (restOf w) (omega arith) (parts-sum w)
+  where
+    bit : (b q x y r : ℕ) → b ≡ 4096 * q → w ≡ b + x * 64 + y * 2 ^ 54 + r → w / 32 % 2 ≡ r / 32 % 2
+    bit b q x y r e s = omega arith
+
+-- the word of its own base and attributes, by the rest: the type, and the bits of device or of normal memory
+own-word : (w h : ℕ) → frameWord (baseIn w) h (attrsIn w) ≡ baseIn w + typeAt h + (1028 + w / 64 % 4 * 64 + w / 32 % 2 * 824 + w / 2 ^ 54 % 2 * 2 ^ 54)
+own-word w h =
+    sym (sum-word (baseIn w) h (attrsIn w) _ _ refl (attr-of-bits (w / 64 % 4) (w / 2 ^ 54 % 2) (w / 32 % 2) (omega arith) (omega arith) (omega arith)))
+
+pub frame-rest : (w h : ℕ) → restOf w ≡ typeAt h + 1028 + w / 32 % 2 * 824 → w ≡ frameWord (baseIn w) h (attrsIn w)
+frame-rest w h e = join (baseIn w) (w / 64 % 4 * 64) (w / 2 ^ 54 % 2 * 2 ^ 54) (w / 32 % 2 * 824) (typeAt h) (restOf w) (parts-sum w) e ∙ sym (own-word w h)
+  where
+    join : (b x y z t r : ℕ) → w ≡ b + x + y + r → r ≡ t + 1028 + z → w ≡ b + t + (1028 + x + z + y)
+    join b x y z t r s e = omega arith
+
+pub rest-frame : (w h : ℕ) → w ≡ frameWord (baseIn w) h (attrsIn w) → restOf w ≡ typeAt h + 1028 + w / 32 % 2 * 824
+rest-frame w h e = part (baseIn w) (w / 64 % 4 * 64) (w / 2 ^ 54 % 2 * 2 ^ 54) (w / 32 % 2 * 824) (typeAt h) (restOf w) (parts-sum w) (e ∙ own-word w h)
+  where
+    part : (b x y z t r : ℕ) → w ≡ b + x + y + r → w ≡ b + t + (1028 + x + z + y) → r ≡ t + 1028 + z
+    part b x y z t r s e = omega arith
+
+module _ (w h : ℕ) {k : ℕ} (e : k ≡ typeAt h) where
+  pub normal-frame : restOf w ≡ 1852 + k → w ≡ frameWord (baseIn w) h (attrsIn w)
+  normal-frame r = frame-rest w h (of (restOf w) (w / 32 % 2) (rest-bit w) r)
+    where
+      of : (x z : ℕ) → z ≡ x / 32 % 2 → x ≡ 1852 + k → x ≡ typeAt h + 1028 + z * 824
+      of x z b r = omega (arith, type-le h)
+
+  pub device-frame : restOf w ≡ 1028 + k → w ≡ frameWord (baseIn w) h (attrsIn w)
+  device-frame r = frame-rest w h (of (restOf w) (w / 32 % 2) (rest-bit w) r)
+    where
+      of : (x z : ℕ) → z ≡ x / 32 % 2 → x ≡ 1028 + k → x ≡ typeAt h + 1028 + z * 824
+      of x z b r = omega (arith, type-le h)
+
+  pub device-else : (restOf w ≡ 1852 + k → ⊥) → w ≡ frameWord (baseIn w) h (attrsIn w) → restOf w ≡ 1028 + k
+  device-else n f = of (restOf w) (w / 32 % 2) (omega arith) n (rest-frame w h f)
+    where
+      of : (x z : ℕ) → z < 2 → (x ≡ 1852 + k → ⊥) → x ≡ typeAt h + 1028 + z * 824 → x ≡ 1028 + k
+      of x z l n r = omega arith

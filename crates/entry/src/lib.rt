@@ -2,10 +2,10 @@
 ghost use mathlib.Core.Path.{_≡_};
 ghost use Prim.Native.Nat.{ℕ, _<_, _^_};
 ghost use mathlib.Core.Bool.{cond};
-ghost use lib.Dec.{ltb, leb};
+ghost use lib.Dec.{ltb, leb, eqb};
 ghost use Rattle.path.specs.Geometry.{four, physical};
 ghost use Rattle.path.specs.Areas.{areaAt};
-ghost use Rattle.entry.specs.Words.{attrWord, attrsIn, typeAt, tableWord, childAt, frameAt, entryAt};
+ghost use Rattle.entry.specs.Words.{attrWord, baseIn, attrsIn, typeAt, frameWord, tableWord, childAt, frameAt, entryAt};
 ghost use Rattle.entry.specs.Host.{hostWord, hostMeaning, meaningOf};
 
 // The attribute words of the attributes 0 to 15.
@@ -29,6 +29,10 @@ const ATTRIBUTES: [u64; 16] = [
 ];
 // Bit 54 of a word: not execute.
 const NO_EXECUTE: u64 = 0x0040_0000_0000_0000;
+// The bits of normal and of device memory, with bit 10, which is always there.
+const NORMAL: u64 = 0x73C;
+
+const DEVICE: u64 = 0x404;
 // A word's bits below the base of a frame count up to this.
 const BELOW_BASE: u64 = 4096;
 // The greatest height of a frame.
@@ -82,6 +86,20 @@ pub fn frame_word(base: u64, size: u64, attributes: u64) -> u64
     base + type_at(height) + attr_word(attributes)
 }
 
+// The entry word of a frame at a height, from the bits of its attributes; 0 where the base is above 2^48.
+pub fn word_of(base: u64, height: usize, attributes: u64) -> u64
+    ensures { λ r. ⌜ r ≡ cond (leb base physical) (frameWord base height attributes) 0 ⌝ }
+{
+    if base > path::PHYSICAL {
+        return 0;
+    }
+    let bits = DEVICE
+        + attributes % 4 * 64
+        + (1 - attributes / 8 % 2) * (NORMAL - DEVICE)
+        + (1 - attributes / 4 % 2) * NO_EXECUTE;
+    base + type_at(height) + bits
+}
+
 // The word that names table c of a pool; 0 where the pool's base is above 2^48.
 pub fn table_word(base: u64, c: u32) -> u64
     ensures { λ r. ⌜ ((n : ℕ) → r ≡ cond (leb base physical) (tableWord four (areaAt base n) c) 0) ⌝ }
@@ -99,25 +117,38 @@ fn attrs_in(w: u64) -> u64
     w / 64 % 4 + (1 - w / NO_EXECUTE % 2) * 4 + (1 - w / 32 % 2) * 8
 }
 
-// Their attribute word, from the bits themselves: bits 10 and 2 always, and bits 9:8 and 5:3 where bit 5 says normal memory.
-fn attr_bits(w: u64) -> u64
-    ensures { λ r. ⌜ r ≡ attrWord (attrsIn w) ⌝ }
+// The base that a word has: bits 47:12.
+fn base_in(w: u64) -> u64
+    ensures { λ r. ⌜ r ≡ baseIn w ⌝ }
 {
-    0x404 + w / 64 % 4 * 64 + w / 32 % 2 * 0x338 + w / NO_EXECUTE % 2 * NO_EXECUTE
+    w % path::PHYSICAL - w % BELOW_BASE
+}
+
+// Whether a word is the word of its own base and attributes at a height: beside the base, bits 7:6 and bit 54 it has its type and the bits of normal or of
+// device memory.
+pub fn is_frame(w: u64, height: usize) -> bool
+    ensures { λ r. ⌜ r ≡ eqb w (frameWord (baseIn w) height (attrsIn w)) ⌝ }
+{
+    let rest = w - base_in(w) - w / 64 % 4 * 64 - w / NO_EXECUTE % 2 * NO_EXECUTE;
+    let kind = type_at(height);
+    if rest == NORMAL + kind {
+        return true;
+    }
+    rest == DEVICE + kind
 }
 
 // The frame that a word says at a height, or that it is damaged.
-fn frame_at(w: u64, height: usize) -> Entry
+pub fn frame_at(w: u64, height: usize) -> Entry
     ensures { λ r. ⌜ r ≡ frameAt four height w ⌝ }
 {
     if height > LARGE {
         return Entry::Damaged;
     }
-    let base = w % path::PHYSICAL - w % BELOW_BASE;
-    if base % path::size_at(height) != 0 {
+    let base = base_in(w);
+    if path::rest_at(base, height) != 0 {
         return Entry::Damaged;
     }
-    if w == base + type_at(height) + attr_bits(w) {
+    if is_frame(w, height) {
         return Entry::Frame {
             base,
             attributes: attrs_in(w),
@@ -127,22 +158,20 @@ fn frame_at(w: u64, height: usize) -> Entry
 }
 
 // The child that a word names as a table, 1 to tables - 1; 0 where it names none.
-fn child_in(w: u64, base: u64, tables: u32) -> u32
+pub fn child_in(w: u64, base: u64, tables: u32) -> u32
     ensures { λ r. ⌜ r ≡ childAt four (areaAt base tables) w ⌝ }
 {
-    if w < 3 {
+    if base > path::PHYSICAL {
+        if w < base {
+            return 0;
+        }
+    }
+    let off = std::num::wrapping_sub_u64(w, base);
+    if off % path::PAGE != 3 {
         return 0;
     }
-    let at = w - 3;
-    if at <= base {
-        return 0;
-    }
-    let off = at - base;
     let c = off / path::PAGE;
     if c >= tables as u64 {
-        return 0;
-    }
-    if off % path::PAGE != 0 {
         return 0;
     }
     c as u32

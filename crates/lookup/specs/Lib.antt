@@ -1,2 +1,5 @@
 pub mod Walks
+pub mod Ends
 pub mod WalkLaws
+pub mod Steps
+pub mod Reaches

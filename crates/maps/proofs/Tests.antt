@@ -1,16 +1,14 @@
 -- The tests of the arguments of map, one after the other, and what follows where none refuses.
 use Prim.Native.Nat.{ℕ, _+_, _%_, _≤_, _<_}
-use mathlib.Core.Path.{_≡_, refl, _∙_, subst}
+use mathlib.Core.Path.{_≡_, refl, sym, ap, _∙_, subst}
 use mathlib.Core.Logic.{_≢_}
-use mathlib.Core.Bool.{Bool, true, false, cond}
-use native.Mathlib.Decide.{decLt}
+use mathlib.Core.Bool.{Bool, true, false, cond, not, _&&_}
+use native.Mathlib.Decide.{decLt, ℕ-discrete}
 use native.Mathlib.Omega.{arith}
-use borrow.Author.Tests.{lt-ltb, le-ltb, le-leb, lt-leb, eq-eqb, ne-eqb}
+use borrow.Author.Tests.{not-true, not-false, lt-ltb, le-ltb, ltb-false, le-leb, lt-leb, eq-eqb, ne-eqb}
 use lib.Dec.{ltb, leb, eqb}
-use Rattle.path.specs.Geometry.{Granule, Sane, sizeAt, physical, spaceOf, heightOf}
-use Rattle.path.specs.Laws.{size-pos, size-fits, height-size}
-use Rattle.entry.specs.Words.{frameWord}
-use Rattle.entry.specs.Host.{hostWord}
+use Rattle.path.specs.Geometry.{Granule, Sane, sizeAt, physical, atLevel, goodLevels, spaceOf, heightOf}
+use Rattle.path.specs.Laws.{size-pos, size-fits, level-some, height-size, in-space, past-space}
 use Rattle.model.specs.Calls.{mapTests}
 
 -- a size that a frame can have
@@ -24,6 +22,10 @@ module _ (G : Granule) (S : Sane G) (size : ℕ) {h : ℕ} (e : h ≡ heightOf G
   pub size-least : size ≤ physical
   size-least = subst (λ (x : ℕ). x ≤ physical) is-size (size-fits G S (omega (arith, S)))
 
+  -- the rest of a number by its height is the rest by the size
+  pub rest-is : (x : ℕ) {r : ℕ} → r ≡ atLevel G h (x % sizeAt G h) → r ≡ x % size
+  rest-is x d = d ∙ level-some G (omega (arith, S)) (x % sizeAt G h) ∙ ap (λ (y : ℕ). x % y) is-size
+
 -- the tests, in their order
 module _ (G : Granule) (levels a b size k : ℕ) {h : ℕ} (e : h ≡ heightOf G size) where
   pub refuses-size : G .large < h → 2 ≡ mapTests G levels a b size k
@@ -35,38 +37,48 @@ module _ (G : Granule) (levels a b size k : ℕ) {h : ℕ} (e : h ≡ heightOf G
     unfolding mapTests
     refuses-attributes m = rw (← e, le-ltb _ _ l, lt-ltb _ _ m)
 
-    module _ (m : k ≤ 15) {space : ℕ} (s : space ≡ spaceOf G levels) where
-      pub refuses-address : space ≤ a → 4 ≡ mapTests G levels a b size k
+    module _ (m : k ≤ 15) (some : 1 ≤ size) {inside : Bool} (s : inside ≡ (goodLevels G levels && leb (a + size) (spaceOf G levels))) where
+      pub refuses-space : not inside ≡ true → 4 ≡ mapTests G levels a b size k
       unfolding mapTests
-      refuses-address p = rw (← e, le-ltb _ _ l, le-ltb _ _ m, ← s, le-leb _ _ p)
+      refuses-space n = go (decLt a (spaceOf G levels))
+        where
+          past : spaceOf G levels < a + size
+          past = past-space G levels a size (sym s ∙ not-true _ n) some
 
-      module _ (p : a < space) where
-        pub refuses-range : space < a + size → 4 ≡ mapTests G levels a b size k
+          go : Dec (a < spaceOf G levels) → 4 ≡ mapTests G levels a b size k
+          go (yes p) = rw (← e, le-ltb _ _ l, le-ltb _ _ m, lt-leb _ _ p, lt-ltb _ _ past)
+          go (no p) = let q : spaceOf G levels ≤ a = omega arith in rw (← e, le-ltb _ _ l, le-ltb _ _ m, le-leb _ _ q)
+
+      module _ (n : not inside ≡ false) where
+        ends : a + size ≤ spaceOf G levels
+        ends = in-space G levels a size (sym s ∙ not-false _ n)
+
+        starts : a < spaceOf G levels
+        starts = omega (arith, ends)
+
+        pub refuses-frame : physical < b + size → 4 ≡ mapTests G levels a b size k
         unfolding mapTests
-        refuses-range q = rw (← e, le-ltb _ _ l, le-ltb _ _ m, ← s, lt-leb _ _ p, lt-ltb _ _ q)
+        refuses-frame r = rw (← e, le-ltb _ _ l, le-ltb _ _ m, lt-leb _ _ starts, le-ltb _ _ ends, lt-ltb _ _ r)
 
-        module _ (q : a + size ≤ space) where
-          pub refuses-frame : physical < b + size → 4 ≡ mapTests G levels a b size k
+        module _ (r : b + size ≤ physical) {x y : ℕ} (u : x ≡ a % size) (v : y ≡ b % size) where
+          pub refuses-unaligned : (x + y ≢ 0) → 5 ≡ mapTests G levels a b size k
           unfolding mapTests
-          refuses-frame r = rw (← e, le-ltb _ _ l, le-ltb _ _ m, ← s, lt-leb _ _ p, le-ltb _ _ q, lt-ltb _ _ r)
+          refuses-unaligned f = go (ℕ-discrete (a % size) 0)
+            where
+              go : Dec (a % size ≡ 0) → 5 ≡ mapTests G levels a b size k
+              go (yes z) =
+                  let w : b % size ≢ 0 = λ t. f (omega arith) in
+                  rw (← e, le-ltb _ _ l, le-ltb _ _ m, lt-leb _ _ starts, le-ltb _ _ ends, le-ltb _ _ r, eq-eqb _ _ z, ne-eqb _ _ w)
+              go (no z) = rw (← e, le-ltb _ _ l, le-ltb _ _ m, lt-leb _ _ starts, le-ltb _ _ ends, le-ltb _ _ r, ne-eqb _ _ z)
 
-          module _ (r : b + size ≤ physical) where
-            pub refuses-unaligned : (a % size ≢ 0) → 5 ≡ mapTests G levels a b size k
-            unfolding mapTests
-            refuses-unaligned t = rw (← e, le-ltb _ _ l, le-ltb _ _ m, ← s, lt-leb _ _ p, le-ltb _ _ q, le-ltb _ _ r, ne-eqb _ _ t)
+          pub refuses-nothing : x + y ≡ 0 → 0 ≡ mapTests G levels a b size k
+          unfolding mapTests
+          refuses-nothing f =
+              let z : a % size ≡ 0 = omega arith in
+              let w : b % size ≡ 0 = omega arith in
+              rw (← e, le-ltb _ _ l, le-ltb _ _ m, lt-leb _ _ starts, le-ltb _ _ ends, le-ltb _ _ r, eq-eqb _ _ z, eq-eqb _ _ w)
 
-            module _ (t : a % size ≡ 0) where
-              pub refuses-unaligned-frame : (b % size ≢ 0) → 5 ≡ mapTests G levels a b size k
-              unfolding mapTests
-              refuses-unaligned-frame u =
-                  rw (← e, le-ltb _ _ l, le-ltb _ _ m, ← s, lt-leb _ _ p, le-ltb _ _ q, le-ltb _ _ r, eq-eqb _ _ t, ne-eqb _ _ u)
-
-              pub refuses-nothing : b % size ≡ 0 → 0 ≡ mapTests G levels a b size k
-              unfolding mapTests
-              refuses-nothing u =
-                  rw (← e, le-ltb _ _ l, le-ltb _ _ m, ← s, lt-leb _ _ p, le-ltb _ _ q, le-ltb _ _ r, eq-eqb _ _ t, eq-eqb _ _ u)
-
--- where no test refuses, the size has a height, and the host's word of the frame is its entry word
+-- where no test refuses, the size has a height, and the frame ends within the physical addresses
 pub passed-size : (G : Granule) (levels a b size k : ℕ) → mapTests G levels a b size k ≡ 0 → heightOf G size ≤ G .large
 unfolding mapTests
 passed-size G levels a b size k e = go (decLt (G .large) (heightOf G size))
@@ -75,18 +87,18 @@ passed-size G levels a b size k e = go (decLt (G .large) (heightOf G size))
     go (yes l) = absurd (omega (arith, refuses-size G levels a b size k refl l ∙ e))
     go (no n) = omega arith
 
-pub passed-word : (G : Granule) (levels a b size k : ℕ) → mapTests G levels a b size k ≡ 0 → hostWord G b size k ≡ frameWord b (heightOf G size) k
-unfolding mapTests hostWord
-passed-word G levels a b size k e =
-    go (ltb (G .large) (heightOf G size)) (ltb 15 k) (leb (spaceOf G levels) a) (ltb (spaceOf G levels) (a + size)) (ltb physical (b + size)) (eqb (a % size) 0) (eqb (b % size) 0) e
+pub passed-frame : (G : Granule) (levels a b size k : ℕ) → mapTests G levels a b size k ≡ 0 → b + size ≤ physical
+unfolding mapTests
+passed-frame G levels a b size k e =
+    go (ltb (G .large) (heightOf G size)) (ltb 15 k) (leb (spaceOf G levels) a) (ltb (spaceOf G levels) (a + size)) (ltb physical (b + size)) refl e
   where
-    go : (p q r s t u v : Bool) → _≡_ {A = ℕ} (cond p 2 (cond q 3 (cond r 4 (cond s 4 (cond t 4 (cond u (cond v 0 5) 5)))))) 0
-        → cond p 2 (cond q 3 (cond t 4 (cond v (frameWord b (heightOf G size) k) 5))) ≡ frameWord b (heightOf G size) k
-    go false false false false false true true e = refl
-    go true q r s t u v e = absurd (omega arith)
-    go false true r s t u v e = absurd (omega arith)
-    go false false true s t u v e = absurd (omega arith)
-    go false false false true t u v e = absurd (omega arith)
-    go false false false false true u v e = absurd (omega arith)
-    go false false false false false false v e = absurd (omega arith)
-    go false false false false false true false e = absurd (omega arith)
+    rest : ℕ
+    rest = cond (eqb (a % size) 0) (cond (eqb (b % size) 0) 0 5) 5
+
+    go : (p q r s t : Bool) → ltb physical (b + size) ≡ t → _≡_ {A = ℕ} (cond p 2 (cond q 3 (cond r 4 (cond s 4 (cond t 4 rest))))) 0 → b + size ≤ physical
+    go false false false false false f e = ltb-false physical (b + size) f
+    go true q r s t f e = absurd (omega arith)
+    go false true r s t f e = absurd (omega arith)
+    go false false true s t f e = absurd (omega arith)
+    go false false false true t f e = absurd (omega arith)
+    go false false false false true f e = absurd (omega arith)

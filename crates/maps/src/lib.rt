@@ -11,41 +11,41 @@ ghost use lib.ListN.{length};
 ghost use Rattle.path.specs.Geometry.{four, physical, heightOf};
 ghost use Rattle.path.specs.Areas.{areaAt};
 ghost use Rattle.path.specs.Numbers.{goodSetup};
+ghost use Rattle.entry.specs.Words.{frameWord};
 ghost use Rattle.entry.specs.declared.Entry.the-variants.{Empty};
 ghost use Rattle.model.specs.Answers.{saysMap, refused, pool, mapDid};
 ghost use Rattle.model.specs.Walk.{stop};
 ghost use Rattle.model.specs.Writes.{mapWrites, mayTake};
 ghost use Rattle.model.specs.Calls.{mapTests, mapHere, mapW};
+ghost use Rattle.lookup.specs.Walks.{walkBy};
 ghost use Rattle.plans.specs.Plan.{planned};
+ghost use Rattle.maps.specs.Parts.{metBy, mapFrom};
 
-// Map's tests 2 to 5, or 0.
-fn map_tests(levels: u64, address: u64, frame: u64, size: u64, attributes: u64) -> u64
+// Map's tests 2 to 5, or 0, for a size of this height.
+fn map_tests(
+    levels: u64,
+    address: u64,
+    frame: u64,
+    size: u64,
+    height: usize,
+    attributes: u64,
+) -> u64
+    requires { ⌜ height ≡ heightOf four size ⌝ }
     ensures { λ r. ⌜ r ≡ mapTests four levels address frame size attributes ⌝ }
 {
-    let height = path::height_of(size);
     if height > 2 {
         return 2;
     }
     if attributes > 15 {
         return 3;
     }
-    let space = path::space_of(levels);
-    if address >= space {
+    if !path::in_space(levels, address, size) {
         return 4;
     }
-    if address + size > space {
+    if frame > path::PHYSICAL - size {
         return 4;
     }
-    if frame > path::PHYSICAL {
-        return 4;
-    }
-    if frame + size > path::PHYSICAL {
-        return 4;
-    }
-    if address % size != 0 {
-        return 5;
-    }
-    if frame % size != 0 {
+    if path::rest_at(address, height) + path::rest_at(frame, height) != 0 {
         return 5;
     }
     0
@@ -122,25 +122,22 @@ fn map_refused(no: u64, s: Setup) -> Mapped
     }
 }
 
-// Map, where the walk ended at an empty entry.
+// Map, where the walk ended at an empty entry: the missing tables, and the frame's word.
 fn map_empty(
     s: Setup,
     words: &mut [u64],
     list: &[u32],
     address: u64,
-    frame: u64,
-    size: u64,
-    attributes: u64,
+    height: usize,
+    word: u64,
     way: [u32; 4],
     left: usize,
 ) -> Mapped
-    requires { ⌜ (goodSetup four s (length (now words)) (length (now list)) ≡ true)
-        × ((mapTests four (s .levels) address frame size attributes ≡ 0) × ((heightOf four size ≤ left) × (left ≤ 3))) ⌝ }
-    ensures { λ r. ⌜ mapDid r (now (words .exit)) (now (list .entry))
-        ≡ mapHere four (pool s (now (words .entry)) (now (list .entry)))
-        address frame (heightOf four size) attributes (stop Empty left way) (left - heightOf four size) ⌝ }
+    requires { ⌜ (goodSetup four s (length (now words)) (length (now list)) ≡ true) × ((height ≤ left) × (left ≤ 3)) ⌝ }
+    ensures { λ r. ⌜ ((b k : ℕ) → word ≡ frameWord b height k
+        → mapDid r (now (words .exit)) (now (list .entry))
+        ≡ mapHere four (pool s (now (words .entry)) (now (list .entry))) address b height k (stop Empty left way) (left - height)) ⌝ }
 {
-    let height = path::height_of(size);
     let need = left - height;
     let free = s.free as usize;
     if free < need {
@@ -150,7 +147,6 @@ fn map_empty(
         return map_refused(8, s);
     }
     let path = path::path_of(address);
-    let word = entry::frame_word(frame, size, attributes);
     let at = 3 - left;
     let plan = map_plan(s.base, path, list, height, word, way[at], free, need);
     plans::write_words(words, plan);
@@ -158,6 +154,55 @@ fn map_empty(
     Mapped {
         answer: MapAnswer::Taken(need as u64),
         setup: path::with_free(s, rest),
+    }
+}
+
+// The refusal of a map whose walk does not end at an empty entry: 8 for damage, 6 for a table or a frame.
+fn met(s: Setup, words: &[u64], height: usize, address: u64) -> u64
+    ensures { λ r. ⌜ r ≡ metBy (walkBy four s (now (words .entry)) height address .entry) ⌝ }
+{
+    let o = lookup::walk_to(s, words, height, address);
+    let e = o.entry;
+    match e {
+        Entry::Damaged => 8,
+        Entry::Empty => 6,
+        Entry::Table(_) => 6,
+        Entry::Frame { .. } => 6,
+    }
+}
+
+// Map past its tests: the walk to the frame's height, and what is done where it ends. A word of the frame's height alone is a single write.
+fn map_walk(
+    s: Setup,
+    words: &mut [u64],
+    list: &[u32],
+    address: u64,
+    height: usize,
+    word: u64,
+) -> Mapped
+    requires { ⌜ (goodSetup four s (length (now words)) (length (now list)) ≡ true) × (height ≤ 2) ⌝ }
+    ensures { λ r. ⌜ ((b k : ℕ) → word ≡ frameWord b height k
+        → mapDid r (now (words .exit)) (now (list .entry))
+        ≡ mapFrom four (pool s (now (words .entry)) (now (list .entry))) address b height k) ⌝ }
+{
+    let mut way = [0u32; 4];
+    let end = lookup::reach(s, &words[..], height, address, &mut way);
+    let left = (end % 4) as usize;
+    let place = (end / 4) as usize;
+    if place >= words.len() {
+        return map_refused(8, s);
+    }
+    let w = words[place];
+    if w != 0 {
+        return map_refused(met(s, &words[..], height, address), s);
+    }
+    if left != height {
+        return map_empty(s, words, list, address, height, word, way, left);
+    }
+    words[place] = word;
+    Mapped {
+        answer: MapAnswer::Taken(0),
+        setup: s,
     }
 }
 
@@ -177,18 +222,11 @@ pub fn map(
     if !path::good_setup(s, words.len(), list.len()) {
         return map_refused(1, s);
     }
-    let no = map_tests(s.levels, address, frame, size, attributes);
+    let height = path::height_of(size);
+    let no = map_tests(s.levels, address, frame, size, height, attributes);
     if no != 0 {
         return map_refused(no, s);
     }
-    let o = lookup::walk_to(s, &words[..], path::height_of(size), address);
-    let e = o.entry;
-    let way = o.tables;
-    let left = o.left;
-    match e {
-        Entry::Empty => map_empty(s, words, list, address, frame, size, attributes, way, left),
-        Entry::Frame { .. } => map_refused(6, s),
-        Entry::Table(_) => map_refused(6, s),
-        Entry::Damaged => map_refused(8, s),
-    }
+    let word = entry::word_of(frame, height, attributes);
+    map_walk(s, words, list, address, height, word)
 }

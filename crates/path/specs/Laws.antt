@@ -8,7 +8,7 @@ use native.Mathlib.Decide.{decLt, ℕ-discrete}
 use native.Mathlib.Omega.{arith}
 use lib.Dec.{leb, eqb}
 use lib.Pow.{pow-pos, pow-mono, pow-lt, pow-add}
-use borrow.Author.Tests.{ltb-true, leb-true, eqb-true, eqb-false, lt-ltb, le-ltb, le-leb, eq-eqb}
+use borrow.Author.Tests.{ltb-true, leb-true, leb-false, eqb-true, eqb-false, lt-ltb, le-ltb, le-leb, eq-eqb}
 use Rattle.path.specs.Geometry.{Granule, Sane, four, pageSize, entries, sizeAt, physical, atLevel, goodLevels, spaceOf, seek, heightOf}
 use Rattle.path.specs.Areas.{Area, areaOf, total}
 use Rattle.path.specs.Numbers.{mostTables, goodNumbers, goodSetup, GoodNumbers, GoodSetup}
@@ -195,9 +195,25 @@ good-levels G levels e =
     let (a, b) = both (leb (G .fewest) levels) (leb levels (G .most)) e in
     (leb-true (G .fewest) levels a, leb-true levels (G .most) b)
 
+pub levels-none : (G : Granule) (levels : ℕ) → (G .fewest ≤ levels → levels ≤ G .most → ⊥) → goodLevels G levels ≡ false
+levels-none G levels f = untrue (goodLevels G levels) (λ e. f (good-levels G levels e .0) (good-levels G levels e .1))
+
 pub space-none : (G : Granule) (levels : ℕ) → (G .fewest ≤ levels → levels ≤ G .most → ⊥) → spaceOf G levels ≡ 0
 unfolding spaceOf
-space-none G levels f = rw (untrue (goodLevels G levels) (λ e. f (good-levels G levels e .0) (good-levels G levels e .1)))
+space-none G levels f = rw (levels-none G levels f)
+
+-- so many addresses from a on, some at least, are all in the space, or end past it
+module _ (G : Granule) (levels a size : ℕ) where
+  pub in-space : (goodLevels G levels && leb (a + size) (spaceOf G levels)) ≡ true → a + size ≤ spaceOf G levels
+  in-space e = leb-true (a + size) (spaceOf G levels) (both (goodLevels G levels) _ e .1)
+
+  pub past-space : (goodLevels G levels && leb (a + size) (spaceOf G levels)) ≡ false → 1 ≤ size → spaceOf G levels < a + size
+  unfolding spaceOf
+  past-space e some = go (goodLevels G levels) refl e
+    where
+      go : (b : Bool) → goodLevels G levels ≡ b → (b && leb (a + size) (spaceOf G levels)) ≡ false → spaceOf G levels < a + size
+      go true l f = leb-false (a + size) (spaceOf G levels) f
+      go false l f = let z : spaceOf G levels ≡ 0 = rw l in omega arith
 
 pub space-physical : {G : Granule} → Sane G → (levels : ℕ) → spaceOf G levels ≤ physical
 unfolding spaceOf

@@ -1,6 +1,9 @@
 // Setup numbers, sizes, and paths: the indices of an address, and back.
 ghost use mathlib.Core.Path.{_≡_};
-ghost use Rattle.path.specs.Geometry.{four, sizeAt, atLevel, spaceOf, heightOf};
+ghost use Prim.Native.Nat.{_+_, _%_};
+ghost use mathlib.Core.Bool.{_&&_};
+ghost use lib.Dec.{leb};
+ghost use Rattle.path.specs.Geometry.{four, sizeAt, atLevel, goodLevels, spaceOf, heightOf};
 ghost use Rattle.path.specs.Areas.{areaAt};
 ghost use Rattle.path.specs.Numbers.{noSetup, withFree, goodNumbers, goodSetup};
 ghost use Rattle.path.specs.Paths.{indexAt, baseAt, pathOf, addressOf};
@@ -70,10 +73,7 @@ pub fn good_numbers(levels: u64, base: u64, tables: u64, words: usize, places: u
     if base % PAGE != 0 {
         return false;
     }
-    if base > PHYSICAL {
-        return false;
-    }
-    if base + PAGE * tables > PHYSICAL {
+    if base > PHYSICAL - PAGE * tables {
         return false;
     }
     if words as u64 != ENTRIES * tables {
@@ -86,23 +86,29 @@ pub fn good_numbers(levels: u64, base: u64, tables: u64, words: usize, places: u
 pub fn good_setup(s: Setup, words: usize, places: usize) -> bool
     ensures { λ r. ⌜ r ≡ goodSetup four s words places ⌝ }
 {
-    if !good_numbers(s.levels, s.base, s.tables, words, places) {
+    if s.free >= s.tables {
         return false;
     }
-    s.free < s.tables
+    good_numbers(s.levels, s.base, s.tables, words, places)
 }
 
-// The addresses of a tree of so many levels are below this; 0 for levels that no tree has.
-pub fn space_of(levels: u64) -> u64
-    ensures { λ r. ⌜ r ≡ spaceOf four levels ⌝ }
+// Whether so many addresses from one on are all in the space of a tree of so many levels.
+pub fn in_space(levels: u64, address: u64, size: u64) -> bool
+    ensures { λ r. ⌜ r ≡ (goodLevels four levels && leb (address + size) (spaceOf four levels)) ⌝ }
 {
     if levels == 3 {
-        return GIB512;
+        if size > GIB512 {
+            return false;
+        }
+        return address <= GIB512 - size;
     }
     if levels == 4 {
-        return PHYSICAL;
+        if size > PHYSICAL {
+            return false;
+        }
+        return address <= PHYSICAL - size;
     }
-    0
+    false
 }
 
 // The bytes that an entry of a height stands for; 0 where no level has it.
@@ -149,6 +155,25 @@ pub fn index_at(address: u64, height: usize) -> u16
         return 0;
     }
     (address / bytes % ENTRIES) as u16
+}
+
+// How far an address is past the start of its region of a height; 0 where no level has it.
+pub fn rest_at(address: u64, height: usize) -> u64
+    ensures { λ r. ⌜ r ≡ atLevel four height (address % sizeAt four height) ⌝ }
+{
+    if height == 0 {
+        return address % PAGE;
+    }
+    if height == 1 {
+        return address % MIB2;
+    }
+    if height == 2 {
+        return address % GIB;
+    }
+    if height == 3 {
+        return address % GIB512;
+    }
+    0
 }
 
 // The first address of the region of a height that holds an address; 0 where no level has it.

@@ -3,27 +3,78 @@ use entry::Entry;
 use model::QueryAnswer;
 use path::Setup;
 ghost use mathlib.Core.Path.{_≡_};
-ghost use Prim.Native.Nat.{_≤_};
-ghost use Rattle.path.specs.Geometry.{four};
+ghost use Prim.Native.Nat.{_-_, _*_, _≤_};
+ghost use lib.ListN.{length};
+ghost use Rattle.path.specs.Geometry.{four, entries};
+ghost use Rattle.path.specs.Areas.{areaAt};
+ghost use Rattle.path.specs.Paths.{pathOf};
+ghost use Rattle.entry.specs.Words.{frameAt};
 ghost use Rattle.model.specs.Answers.{saysQuery, pool};
+ghost use Rattle.model.specs.Walk.{noWay, walkFrom};
 ghost use Rattle.model.specs.Calls.{foundAt, queryW};
+ghost use Rattle.query.specs.Asks.{answerOf, endsAt};
 
-// What a walk to the last level that ended at this entry says of an address.
-fn found_at(e: Entry, left: usize, address: u64) -> QueryAnswer
-    requires { ⌜ left ≤ 3 ⌝ }
-    ensures { λ r. ⌜ saysQuery r ≡ foundAt four address e left ⌝ }
+// What a word that names no table answers of an address at a height: a refusal, or 0 and the mapping in four places.
+fn frame_told(w: u64, height: usize, address: u64, places: &mut [u64; 4]) -> u64
+    requires { ⌜ height ≤ 3 ⌝ }
+    ensures { λ r. ⌜ answerOf r (now (places .exit)) ≡ foundAt four address (frameAt four height w) height ⌝ }
 {
+    let e = entry::frame_at(w, height);
     match e {
-        Entry::Frame { base, attributes } => QueryAnswer::Found {
-            base: path::base_at(address, left),
-            frame: base,
-            size: path::size_at(left),
-            attributes,
-        },
-        Entry::Empty => QueryAnswer::Refused(9),
-        Entry::Table(_) => QueryAnswer::Refused(8),
-        Entry::Damaged => QueryAnswer::Refused(8),
+        Entry::Frame { base, attributes } => {
+            let start = path::base_at(address, height);
+            let size = path::size_at(height);
+            *places = [start, base, size, attributes];
+            0
+        }
+        Entry::Empty => 9,
+        Entry::Table(_) => 8,
+        Entry::Damaged => 8,
     }
+}
+
+// What the walk to the last level answers of an address, as a loop over the heights: a refusal, or 0 and the mapping in four places. The loop begins
+// above every tree, so that its turns are as many for each; a turn above this tree's root does nothing.
+fn ask(
+    words: &[u64],
+    base: u64,
+    tables: u32,
+    levels: usize,
+    address: u64,
+    places: &mut [u64; 4],
+) -> u64
+    requires { ⌜ (1 ≤ levels) × ((levels ≤ 4) × ((1 ≤ tables) × (length (now words) ≡ entries four * tables))) ⌝ }
+    ensures { λ r. ⌜ answerOf r (now (places .exit)) ≡ endsAt four address (walkFrom four (now (words .entry)) (areaAt base tables) 0 (pathOf four address) (levels - 1) noWay 0) ⌝ }
+{
+    let path = path::path_of(address);
+    let mut way = [0u32; 4];
+    let mut t: u32 = 0;
+    let mut h: usize = 4;
+    while h > 0 {
+        h -= 1;
+        if h < levels {
+            let k = 3 - h;
+            let i = path[k];
+            let place = (path::ENTRIES * (t as u64) + (i as u64)) as usize;
+            let w = words[place];
+            if w == 0 {
+                return 9;
+            }
+            if h == 0 {
+                return frame_told(w, h, address, places);
+            }
+            let child = entry::child_in(w, base, tables);
+            if child == 0 {
+                return frame_told(w, h, address, places);
+            }
+            way[k] = t;
+            if pool::among_four(way, child) {
+                return 8;
+            }
+            t = child;
+        }
+    }
+    8
 }
 
 // The mapping that holds an address, or a refusal: 1, 4, 8 or 9.
@@ -31,14 +82,30 @@ pub fn query(s: Setup, words: &[u64], list: &[u32], address: u64) -> QueryAnswer
     ensures { λ r. ⌜ saysQuery r ≡ queryW four (pool s (now (words .entry)) (now (list .entry))) address ⌝ }
 {
     let levels = s.levels;
+    let base = s.base;
+    let tables = s.tables;
     if !path::good_setup(s, words.len(), list.len()) {
         return QueryAnswer::Refused(1);
     }
-    if path::space_of(levels) <= address {
+    if !path::in_space(levels, address, 1) {
         return QueryAnswer::Refused(4);
     }
-    let o = lookup::walk_to(s, words, 0, address);
-    let left = o.left;
-    let e = o.entry;
-    found_at(e, left, address)
+    let mut places = [0u64; 4];
+    let no = ask(
+        words,
+        base,
+        tables as u32,
+        levels as usize,
+        address,
+        &mut places,
+    );
+    if no != 0 {
+        return QueryAnswer::Refused(no);
+    }
+    QueryAnswer::Found {
+        base: places[0],
+        frame: places[1],
+        size: places[2],
+        attributes: places[3],
+    }
 }

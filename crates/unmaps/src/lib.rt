@@ -5,15 +5,17 @@ use model::Unmapped;
 use path::Setup;
 use plans::Step;
 ghost use mathlib.Core.Path.{_≡_};
-ghost use mathlib.Core.Bool.{true};
-ghost use Prim.Native.Nat.{_+_, _-_, _≤_};
+ghost use mathlib.Core.Bool.{true, not, _||_};
+ghost use Prim.Native.Nat.{_+_, _-_, _/_, _%_, _^_, _≤_, _<_};
+ghost use lib.Dec.{leb};
 ghost use lib.ListN.{length};
-ghost use Rattle.path.specs.Geometry.{four};
+ghost use Rattle.path.specs.Geometry.{four, sizeAt};
+ghost use Rattle.path.specs.Paths.{pathOf};
 ghost use Rattle.path.specs.Numbers.{mostTables, goodSetup};
 ghost use Rattle.entry.specs.declared.Entry.the-variants.{Frame};
 ghost use Rattle.model.specs.Answers.{saysUnmap, refused, pool, unmapDid};
-ghost use Rattle.model.specs.Walk.{stop};
-ghost use Rattle.model.specs.Writes.{freed, unmapWrites};
+ghost use Rattle.model.specs.Walk.{slot, atHeight, stop};
+ghost use Rattle.model.specs.Writes.{onlyEntry, freed, unmapWrites};
 ghost use Rattle.model.specs.Calls.{unmapTests, unmapAt, unmapW};
 ghost use Rattle.plans.specs.Plan.{planned};
 
@@ -21,7 +23,7 @@ ghost use Rattle.plans.specs.Plan.{planned};
 fn unmap_tests(levels: u64, address: u64) -> u64
     ensures { λ r. ⌜ r ≡ unmapTests four levels address ⌝ }
 {
-    if address >= path::space_of(levels) {
+    if !path::in_space(levels, address, 1) {
         return 4;
     }
     if address % path::PAGE != 0 {
@@ -89,8 +91,8 @@ fn unmap_refused(no: u64, s: Setup) -> Unmapped
     }
 }
 
-// Unmap, where the walk ended at a frame.
-fn unmap_frame(
+// Unmap, where the walk ended at a frame whose table comes free.
+fn unmap_more(
     s: Setup,
     words: &mut [u64],
     list: &mut [u32],
@@ -100,18 +102,14 @@ fn unmap_frame(
     way: [u32; 4],
     left: usize,
 ) -> Unmapped
-    requires { ⌜ (goodSetup four s (length (now words)) (length (now list)) ≡ true) × (left ≤ s .levels - 1) ⌝ }
+    requires { ⌜ (goodSetup four s (length (now words)) (length (now list)) ≡ true) × ((left < s .levels - 1) × ((address % sizeAt four left ≡ 0) × (onlyEntry four (now words) (atHeight way left) (atHeight (pathOf four address) left) ≡ true))) ⌝ }
     ensures { λ r. ⌜ unmapDid r (now (words .exit)) (now (list .exit))
-        ≡ unmapAt four (pool s (now (words .entry)) (now (list .entry)))
-        address (stop (Frame frame attributes) left way) (Frame frame attributes) ⌝ }
+        ≡ unmapAt four (pool s (now (words .entry)) (now (list .entry))) address (stop (Frame frame attributes) left way) (Frame frame attributes) ⌝ }
 {
     let size = path::size_at(left);
-    if address % size != 0 {
-        return unmap_refused(10, s);
-    }
     let path = path::path_of(address);
     let top = (s.levels - 1) as usize;
-    let given = count_freed(&words[..], way, path, left, top);
+    let given = count_freed(&words[..], way, path, left + 1, top) + 1;
     let free = s.free + given as u64;
     let most = s.tables - 1;
     if free > most {
@@ -130,6 +128,54 @@ fn unmap_frame(
     }
 }
 
+// Whether the table of an entry of height `left`, by the entry's place, stays once the entry is cleared: it is the root, or it has another entry.
+fn stays(words: &[u64], place: usize, left: usize, top: usize) -> bool
+    requires { ⌜ place / 512 < 2 ^ 32 ⌝ }
+    ensures { λ r. ⌜ r ≡ (leb top left || not (onlyEntry four (now (words .entry)) (place / 512) (place % 512))) ⌝ }
+{
+    if left >= top {
+        return true;
+    }
+    let t = (place / 512) as u32;
+    let i = (place % 512) as u16;
+    !pool::only_entry(words, t, i)
+}
+
+// Unmap, where the walk ended at a frame, at this place. A frame whose table stays is a single write.
+fn unmap_frame(
+    s: Setup,
+    words: &mut [u64],
+    list: &mut [u32],
+    address: u64,
+    frame: u64,
+    attributes: u64,
+    way: [u32; 4],
+    left: usize,
+    place: usize,
+) -> Unmapped
+    requires { ⌜ (goodSetup four s (length (now words)) (length (now list)) ≡ true) × ((left ≤ s .levels - 1) × ((place < length (now words)) × (place ≡ slot four (atHeight way left) (atHeight (pathOf four address) left)))) ⌝ }
+    ensures { λ r. ⌜ unmapDid r (now (words .exit)) (now (list .exit))
+        ≡ unmapAt four (pool s (now (words .entry)) (now (list .entry))) address (stop (Frame frame attributes) left way) (Frame frame attributes) ⌝ }
+{
+    if path::rest_at(address, left) != 0 {
+        return unmap_refused(10, s);
+    }
+    let top = (s.levels - 1) as usize;
+    if !stays(&words[..], place, left, top) {
+        return unmap_more(s, words, list, address, frame, attributes, way, left);
+    }
+    words[place] = 0;
+    Unmapped {
+        answer: UnmapAnswer::Given {
+            frame,
+            size: path::size_at(left),
+            attributes,
+            tables: 0,
+        },
+        setup: s,
+    }
+}
+
 // The mapping that starts at an address goes, and so does each table that is empty then. Answers the frame and the tables given back, or a refusal:
 // 1, 4, 5, 8, 9 or 10.
 pub fn unmap(s: Setup, words: &mut [u64], list: &mut [u32], address: u64) -> Unmapped
@@ -143,10 +189,15 @@ pub fn unmap(s: Setup, words: &mut [u64], list: &mut [u32], address: u64) -> Unm
     if no != 0 {
         return unmap_refused(no, s);
     }
-    let o = lookup::walk_to(s, &words[..], 0, address);
-    let e = o.entry;
-    let way = o.tables;
-    let left = o.left;
+    let mut way = [0u32; 4];
+    let end = lookup::reach(s, &words[..], 0, address, &mut way);
+    let left = (end % 4) as usize;
+    let place = (end / 4) as usize;
+    if place >= words.len() {
+        return unmap_refused(8, s);
+    }
+    let w = words[place];
+    let e = entry::read_word(w, left, s.base, s.tables as u32);
     match e {
         Entry::Frame { base, attributes } => unmap_frame(
             s,
@@ -157,6 +208,7 @@ pub fn unmap(s: Setup, words: &mut [u64], list: &mut [u32], address: u64) -> Unm
             attributes,
             way,
             left,
+            place,
         ),
         Entry::Empty => unmap_refused(9, s),
         Entry::Table(_) => unmap_refused(8, s),

@@ -8,7 +8,7 @@ use borrow.Author.Tests.{not-true, not-false}
 use borrow.Fn.Kinds.{In}
 use Rattle.path.specs.Areas.{areaAt}
 use borrow.Fn.PlainCycle.{Measures, is, falls, and}
-use Rattle.audit.proofs.Tables.{Loop, loop-bad, loop-few, loop-more, loop-end, table-stale, table-fresh, table-starts, table-entry, entry-empty, entry-frame, entry-damaged, entry-child, entry-fit}
+use Rattle.audit.proofs.Tables.{Loop, loop-skip, loop-bad, loop-few, loop-more, loop-end, table-stale, table-fresh, table-starts, table-entry, entry-empty, entry-frame, entry-damaged, entry-child, entry-fit}
 use Rattle.audit.proofs.entry_check.Reads as entry-check
 use Rattle.audit.proofs.entry_check.Kinds as entry-check-kinds
 use Rattle.audit.proofs.+entry_check+table_check.Lts-entry_check as entry-check-lts
@@ -16,6 +16,8 @@ use Rattle.audit.proofs.table_check.Reads as table-check
 use Rattle.audit.proofs.table_check.Kinds as table-check-kinds
 use Rattle.audit.proofs.+entry_check+table_check.Lts-table_check as table-check-lts
 use Rattle.audit.proofs.is_fresh.Reads as is-fresh-reads
+use Rattle.audit.proofs.pages_check.Reads as pages-check-reads
+use Rattle.audit.proofs.skip_empty.Reads as skip-empty-reads
 use Rattle.entry.proofs.read_word.Reads as read-word-reads
 use Rattle.pool.proofs.word.Reads as word-reads
 use Rattle.audit.proofs.+entry_check+table_check.{statement}
@@ -52,7 +54,16 @@ entry-claims t = (
 )
 
 abbrev table-claims : ℕ → table-check-lts.Claims
-table-claims t = (is-fresh-reads.Asked, is-fresh-reads.Learnt, entry-check-below t, entry-check.Post)
+table-claims t = (
+  is-fresh-reads.Asked,
+  is-fresh-reads.Learnt,
+  pages-check-reads.Asked,
+  pages-check-reads.Learnt,
+  skip-empty-reads.Asked,
+  skip-empty-reads.Learnt,
+  entry-check-below t,
+  entry-check.Post,
+)
 
 entry-check-mul-word : (t : ℕ) → entry-check-lts.Need-mul-word (entry-claims t) (entry-check-at t) entry-check.Post
 entry-check-mul-word t c = search needs
@@ -79,12 +90,12 @@ entry-check-enum-known-e : (t : ℕ) → entry-check-lts.Need-enum-known-e (entr
 entry-check-enum-known-e t c = c .match .keys3
 
 entry-check-sub-table-check : (t : ℕ) → entry-check-lts.Need-sub-table-check (entry-claims t) (entry-check-at t) entry-check.Post
-entry-check-sub-table-check t c = omega (arith, entry-fit (c .before .before .before .before .before .before .before .before .pre .1) _ _ _ (sym (c .before .before .before .before .read-word .ensures) ∙ c .before .before .e .given .1) .0)
+entry-check-sub-table-check t c = omega (arith, entry-fit (c .before .before .before .before .before .before .before .before .pre .1 .0) _ _ _ (sym (c .before .before .before .before .read-word .ensures) ∙ c .before .before .e .given .1) .0)
 
 entry-check-table-check-requires : (t : ℕ) → entry-check-lts.Need-table-check-requires (entry-claims t) (entry-check-at t) entry-check.Post
 entry-check-table-check-requires t c κs =
-    let fit = entry-fit (c .before .before .before .before .before .before .before .before .pre .1) _ _ _ (sym (c .before .before .before .before .read-word .ensures) ∙ c .before .before .e .given .1) in
-    (omega (arith, fit .0, c .before .before .before .before .before .before .before .before .pre .0, c .before .before .before .before .before .before .before .before .pre .1 .some-left), fit .1)
+    let fit = entry-fit (c .before .before .before .before .before .before .before .before .pre .1 .0) _ _ _ (sym (c .before .before .before .before .read-word .ensures) ∙ c .before .before .e .given .1) in
+    (omega (arith, fit .0, c .before .before .before .before .before .before .before .before .pre .0, c .before .before .before .before .before .before .before .before .pre .1 .0 .some-left), (fit .1, c .before .before .before .before .before .before .before .before .pre .1 .1))
 
 entry-check-enum-told-3 : (t : ℕ) → entry-check-lts.Need-enum-told-3 (entry-claims t) (entry-check-at t) entry-check.Post
 entry-check-enum-told-3 t c = c .match .keys4
@@ -127,18 +138,31 @@ table-check-same-length t c = search needs
 
 table-check-returns : (t : ℕ) → table-check-lts.Need-returns (table-claims t) (table-check-at t) table-check.Post table-check-Inv-loop table-check-μ-loop
 table-check-returns t c =
-    table-stale (c .before .before .before .before .before .pre .1) _ _ (sym (c .before .is-fresh .ensures) ∙ not-true _ (c .if1 .taken))
+    table-stale _ _ _ _ _ (sym (c .before .is-fresh .ensures) ∙ not-true _ (c .if1 .taken))
 
 table-check-slice-write-marks : (t : ℕ) → table-check-lts.Need-slice-write-marks (table-claims t) (table-check-at t) table-check.Post table-check-Inv-loop table-check-μ-loop
 table-check-slice-write-marks t c = search needs
 
+table-check-pages-check-requires : (t : ℕ) → table-check-lts.Need-pages-check-requires (table-claims t) (table-check-at t) table-check.Post table-check-Inv-loop table-check-μ-loop
+table-check-pages-check-requires t c κs = omega (arith, c .before .before .before .before .before .before .pre .1 .1, c .before .before .before .before .before .before .pre .1 .0 .inside)
+
+table-check-same-length-2 : (t : ℕ) → table-check-lts.Need-same-length-2 (table-claims t) (table-check-at t) table-check.Post table-check-Inv-loop table-check-μ-loop
+table-check-same-length-2 t c = simp length-set
+
+table-check-returns-2 : (t : ℕ) → table-check-lts.Need-returns-2 (table-claims t) (table-check-at t) table-check.Post table-check-Inv-loop table-check-μ-loop
+table-check-returns-2 t c =
+    rw (c .before .if2 .taken) (c .pages-check .ensures _ _ (sym (c .before .before .before .is-fresh .ensures) ∙ not-false _ (c .before .before .if1 .left)))
+
+table-check-skip-empty-requires : (t : ℕ) → table-check-lts.Need-skip-empty-requires (table-claims t) (table-check-at t) table-check.Post table-check-Inv-loop table-check-μ-loop
+table-check-skip-empty-requires t c κs = (omega arith, omega (arith, c .before .before .before .before .before .before .pre .1 .1, c .before .before .before .before .before .before .pre .1 .0 .inside))
+
 table-check-loop-holds : (t : ℕ) → table-check-lts.Need-loop-holds (table-claims t) (table-check-at t) table-check.Post table-check-Inv-loop table-check-μ-loop
-table-check-loop-holds t c = table-starts (c .before .before .before .before .before .pre .1) _ _
+table-check-loop-holds t c = loop-skip (table-starts _ _ _ _ _ (c .before .before .before .before .before .before .before .pre .1 .0 .low)) _ (c .skip-empty .ensures)
 
 table-check-entry-check-requires : (t : ℕ) → table-check-lts.Need-entry-check-requires (table-claims t) (table-check-at t) table-check.Post table-check-Inv-loop table-check-μ-loop
 table-check-entry-check-requires t c κs =
-    let fit = table-entry (c .before .before .before .before .before .before .before .before .pre .1) _ _ (c .before .before .loop .inv) (c .before .loop-test .taken) in
-    (omega (arith, fit .few-left, c .before .before .before .before .before .before .before .before .pre .0), fit)
+    let fit = table-entry (c .before .before .before .before .before .before .before .before .before .before .pre .1 .0) (c .before .before .loop .inv) (c .before .loop-test .taken) in
+    (omega (arith, fit .few-left, c .before .before .before .before .before .before .before .before .before .before .pre .0), (fit, c .before .before .before .before .before .before .before .before .before .before .pre .1 .1))
 
 table-check-enum-known-r : (t : ℕ) → table-check-lts.Need-enum-known-r (table-claims t) (table-check-at t) table-check.Post table-check-Inv-loop table-check-μ-loop
 table-check-enum-known-r t c = c .match .keys1
@@ -152,30 +176,37 @@ table-check-add-mappings t c = record { fits = loop-few (c .before .before .befo
 table-check-enum-told : (t : ℕ) → table-check-lts.Need-enum-told (table-claims t) (table-check-at t) table-check.Post table-check-Inv-loop table-check-μ-loop
 table-check-enum-told t c = c .match .keys2
 
-table-check-same-length-2 : (t : ℕ) → table-check-lts.Need-same-length-2 (table-claims t) (table-check-at t) table-check.Post table-check-Inv-loop table-check-μ-loop
-table-check-same-length-2 t c =
-    c .before .before .before .before .entry-check .kept .1 .0 ∙ c .before .before .before .before .before .before .before .loop .inv .carried .long ∙ simp length-set
-
-table-check-returns-2 : (t : ℕ) → table-check-lts.Need-returns-2 (table-claims t) (table-check-at t) table-check.Post table-check-Inv-loop table-check-μ-loop
-table-check-returns-2 t c =
-    table-fresh (c .before .before .before .before .before .before .before .before .before .before .before .before .before .pre .1) _ _ (sym (c .before .before .before .before .before .before .before .before .before .is-fresh .ensures) ∙ not-false _ (c .before .before .before .before .before .before .before .before .if1 .left)) _ _
-    (loop-bad (c .before .before .before .before .before .before .before .loop .inv) (c .before .before .before .before .before .before .loop-test .taken) _ _ (rw (c .enum-told .given .1) at (c .before .before .before .before .entry-check .ensures)))
-
-table-check-sub-left : (t : ℕ) → table-check-lts.Need-sub-left (table-claims t) (table-check-at t) table-check.Post table-check-Inv-loop table-check-μ-loop
-table-check-sub-left t c = search needs
-
-table-check-loop-less : (t : ℕ) → table-check-lts.Need-loop-less (table-claims t) (table-check-at t) table-check.Post table-check-Inv-loop table-check-μ-loop
-table-check-loop-less t c = search needs
-
-table-check-loop-again : (t : ℕ) → table-check-lts.Need-loop-again (table-claims t) (table-check-at t) table-check.Post table-check-Inv-loop table-check-μ-loop
-table-check-loop-again t c = loop-more (c .before .before .before .before .before .before .before .before .loop .inv) (c .before .before .before .before .before .before .before .loop-test .taken) _ _ _ (rw (c .before .r .given .1) at (c .before .before .before .before .before .entry-check .ensures)) (c .before .before .before .before .before .entry-check .kept .1 .0)
-
 table-check-same-length-3 : (t : ℕ) → table-check-lts.Need-same-length-3 (table-claims t) (table-check-at t) table-check.Post table-check-Inv-loop table-check-μ-loop
-table-check-same-length-3 t c = c .before .loop .inv .carried .long ∙ simp length-set
+table-check-same-length-3 t c =
+    c .before .before .before .before .entry-check .kept .1 .0 ∙ c .before .before .before .before .before .before .before .loop .inv .carried .long ∙ simp length-set
 
 table-check-returns-3 : (t : ℕ) → table-check-lts.Need-returns-3 (table-claims t) (table-check-at t) table-check.Post table-check-Inv-loop table-check-μ-loop
 table-check-returns-3 t c =
-    table-fresh (c .before .before .before .before .before .before .before .pre .1) _ _ (sym (c .before .before .before .is-fresh .ensures) ∙ not-false _ (c .before .before .if1 .left)) _ _
+    table-fresh _ _ _ _ _ (sym (c .before .before .before .before .before .before .before .before .before .before .before .is-fresh .ensures) ∙ not-false _ (c .before .before .before .before .before .before .before .before .before .before .if1 .left)) _ _
+    (loop-bad (c .before .before .before .before .before .before .before .loop .inv) (c .before .before .before .before .before .before .loop-test .taken) _ _ (rw (c .enum-told .given .1) at (c .before .before .before .before .entry-check .ensures)))
+
+table-check-sub-skip-empty : (t : ℕ) → table-check-lts.Need-sub-skip-empty (table-claims t) (table-check-at t) table-check.Post table-check-Inv-loop table-check-μ-loop
+table-check-sub-skip-empty t c = search needs
+
+table-check-skip-empty-requires-2 : (t : ℕ) → table-check-lts.Need-skip-empty-requires-2 (table-claims t) (table-check-at t) table-check.Post table-check-Inv-loop table-check-μ-loop
+table-check-skip-empty-requires-2 t c κs =
+    (omega (arith, c .before .before .before .before .before .before .before .before .loop .inv .few-left), omega (arith, c .before .before .before .before .before .before .before .before .before .before .before .before .before .before .before .before .pre .1 .1, c .before .before .before .before .before .before .before .before .before .before .before .before .before .before .before .before .pre .1 .0 .inside))
+
+table-check-loop-less : (t : ℕ) → table-check-lts.Need-loop-less (table-claims t) (table-check-at t) table-check.Post table-check-Inv-loop table-check-μ-loop
+table-check-loop-less t c = omega (arith, c .skip-empty2 .ensures .0, c .before .before .before .before .before .before .before .before .loop-test .taken)
+
+table-check-loop-again : (t : ℕ) → table-check-lts.Need-loop-again (table-claims t) (table-check-at t) table-check.Post table-check-Inv-loop table-check-μ-loop
+table-check-loop-again t c =
+    loop-skip
+    (loop-more (c .before .before .before .before .before .before .before .before .before .loop .inv) (c .before .before .before .before .before .before .before .before .loop-test .taken) _ _ _ (rw (c .before .before .r .given .1) at (c .before .before .before .before .before .before .entry-check .ensures)) (c .before .before .before .before .before .before .entry-check .kept .1 .0))
+    _ (c .skip-empty2 .ensures)
+
+table-check-same-length-4 : (t : ℕ) → table-check-lts.Need-same-length-4 (table-claims t) (table-check-at t) table-check.Post table-check-Inv-loop table-check-μ-loop
+table-check-same-length-4 t c = c .before .loop .inv .carried .long ∙ simp length-set
+
+table-check-returns-4 : (t : ℕ) → table-check-lts.Need-returns-4 (table-claims t) (table-check-at t) table-check.Post table-check-Inv-loop table-check-μ-loop
+table-check-returns-4 t c =
+    table-fresh _ _ _ _ _ (sym (c .before .before .before .before .before .is-fresh .ensures) ∙ not-false _ (c .before .before .before .before .if1 .left)) _ _
     (loop-end (c .before .loop .inv) (c .loop-test .left))
 
 pub +entry-check+table-check-spec : {M : Type 1} → statement M
@@ -203,16 +234,21 @@ pub +entry-check+table-check-spec : {M : Type 1} → statement M
     (table-check-same-length t)
     (table-check-returns t)
     (table-check-slice-write-marks t)
+    (table-check-pages-check-requires t)
+    (table-check-same-length-2 t)
+    (table-check-returns-2 t)
+    (table-check-skip-empty-requires t)
     (table-check-loop-holds t)
     (table-check-entry-check-requires t)
     (table-check-enum-known-r t)
     (table-check-add-tables t)
     (table-check-add-mappings t)
     (table-check-enum-told t)
-    (table-check-same-length-2 t)
-    (table-check-returns-2 t)
-    (table-check-sub-left t)
+    (table-check-same-length-3 t)
+    (table-check-returns-3 t)
+    (table-check-sub-skip-empty t)
+    (table-check-skip-empty-requires-2 t)
     (table-check-loop-less t)
     (table-check-loop-again t)
-    (table-check-same-length-3 t)
-    (table-check-returns-3 t))
+    (table-check-same-length-4 t)
+    (table-check-returns-4 t))

@@ -59,7 +59,9 @@ sub-table-check : tie.Need-sub-table-check
 sub-table-check c = omega (arith, numbers (c .before .before .before) .numbers .enough)
 
 table-check-requires : tie.Need-table-check-requires
-table-check-requires c κs = root-fit (at (c .before .before .before)) (good (c .before .before .before))
+table-check-requires c κs =
+    let p = c .before .before .before in
+    (root-fit (at p) (good p), omega (arith, numbers p .numbers .words-are))
 
 enum-known-r : tie.Need-enum-known-r
 enum-known-r c = search needs

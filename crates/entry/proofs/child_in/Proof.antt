@@ -1,46 +1,67 @@
 -- `entry::child_in` meets its contract: what fails a test is no table's word, and the rest is that of the child.
-use Prim.Native.Nat.{_-_, _/_}
+use Prim.Native.Nat.{ℕ, _+_, _*_, _/_, _%_, _^_, _≤_, _<_}
 use mathlib.Core.Path.{_≡_, sym, ap, _∙_}
+use mathlib.Core.Logic.{_⊎_, inl, inr, ⊎-elim}
 use native.Mathlib.Omega.{arith}
 use borrow.Author.Needs.{needs}
-use Rattle.path.specs.Geometry.{four}
+use Rattle.path.specs.Geometry.{four, physical}
 use Rattle.path.specs.Areas.{areaAt}
 use Rattle.entry.specs.Words.{tableWord, childAt}
 use Rattle.entry.specs.Laws.{child-none, child-back}
 use Rattle.entry.proofs.child_in.Statement.{statement}
 use Rattle.entry.proofs.child_in.Tie as tie
 
+-- the difference modulo 2^64 of a word and a base that is at most 2^48 or at most the word
+module _ {w P off : ℕ} (low : (P ≤ physical) ⊎ (P ≤ w)) (wide : off < 2 ^ 64) (e : (off + P) % 2 ^ 64 ≡ w) where
+  -- is that of a table's word exactly where the word is the table's
+  table-off : (n k : ℕ) → n < 2 ^ 32 → k < n → w ≡ P + 4096 * k + 3 → off ≡ 4096 * k + 3
+  table-off n k few lt z = go low
+    where
+      go : (P ≤ physical) ⊎ (P ≤ w) → off ≡ 4096 * k + 3
+      go (inl l) = omega arith
+      go (inr l) = omega arith
+
+  off-table : (n k : ℕ) → n < 2 ^ 32 → k < n → off ≡ 4096 * k + 3 → w ≡ P + 4096 * k + 3
+  off-table n k few lt z = go low
+    where
+      go : (P ≤ physical) ⊎ (P ≤ w) → w ≡ P + 4096 * k + 3
+      go (inl l) = omega arith
+      go (inr l) = omega arith
+
 returns : tie.Need-returns
 unfolding tableWord
 returns c = sym (child-none four _ _ (λ k some lt e. omega arith))
 
+wrapping-sub-u64-requires : tie.Need-wrapping-sub-u64-requires
+wrapping-sub-u64-requires c κs = search needs
+
 returns-2 : tie.Need-returns-2
 unfolding tableWord
-returns-2 c = sym (child-none four _ _ (λ k some lt e. omega arith))
-
-sub-off : tie.Need-sub-off
-sub-off c = search needs
+returns-2 c =
+    let a = c .before .before .before .args in
+    sym
+    (child-none four _ _
+    (λ k some lt z. omega (arith, table-off (⊎-elim (λ way. inr (omega (arith, way .1 .left))) (λ way. inl (omega (arith, way .left))) (c .before .before .if1 .came)) (omega arith) (c .before .wrapping-sub-u64 .ensures) (a .tables) k (omega arith) lt z)))
 
 returns-3 : tie.Need-returns-3
 unfolding tableWord
-returns-3 c = sym (child-none four _ _ (λ k some lt e. omega arith))
-
-returns-4 : tie.Need-returns-4
-unfolding tableWord
-returns-4 c = sym (child-none four _ _ (λ k some lt e. omega arith))
+returns-3 c =
+    let a = c .before .before .before .before .args in
+    sym
+    (child-none four _ _
+    (λ k some lt z. omega (arith, table-off (⊎-elim (λ way. inr (omega (arith, way .1 .left))) (λ way. inl (omega (arith, way .left))) (c .before .before .before .if1 .came)) (omega arith) (c .before .before .wrapping-sub-u64 .ensures) (a .tables) k (omega arith) lt z)))
 
 cast-result : tie.Need-cast-result
 cast-result c = search needs
 
-returns-5 : tie.Need-returns-5
+returns-4 : tie.Need-returns-4
 unfolding tableWord
-returns-5 c =
+returns-4 c =
     let a = c .before .before .before .before .args in
-    let area = areaAt (a .base) (a .tables) in
-    let k = (a .w - 3 - a .base) / 4096 in
-    let e : a .w ≡ tableWord four area k = omega arith in
-    sym (ap (childAt four area) e ∙ child-back four area k (omega arith))
+    let k = c .before .before .wrapping-sub-u64 .result / 4096 in
+    let e = off-table (⊎-elim (λ way. inr (omega (arith, way .1 .left))) (λ way. inl (omega (arith, way .left))) (c .before .before .before .if1 .came)) (omega arith) (c .before .before .wrapping-sub-u64 .ensures) (a .tables) k (omega arith) (omega arith) (omega arith) in
+    sym (ap (childAt four (areaAt (a .base) (a .tables))) e ∙ child-back four (areaAt (a .base) (a .tables)) k (omega arith))
 
 pub child-in-spec : {M : Type 1} → statement M
 child-in-spec =
-    tie.close (tie.spec returns returns-2 sub-off returns-3 returns-4 cast-result returns-5)
+    tie.close (tie.spec returns wrapping-sub-u64-requires returns-2 returns-3 cast-result returns-4)

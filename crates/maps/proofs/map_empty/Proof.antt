@@ -9,9 +9,6 @@ use Rattle.maps.proofs.Maps.{here-short, here-unfit, here-done}
 use Rattle.maps.proofs.map_empty.Statement.{statement}
 use Rattle.maps.proofs.map_empty.Tie as tie
 
-height-of-requires : tie.Need-height-of-requires
-height-of-requires c κs = search needs
-
 sub-need : tie.Need-sub-need
 sub-need c = omega arith
 
@@ -19,13 +16,13 @@ map-refused-requires : tie.Need-map-refused-requires
 map-refused-requires c κs = search needs
 
 returns : tie.Need-returns
-returns c =
-    let a = c .before .before .before .before .before .args in
+returns c b k e =
+    let a = c .before .before .before .before .args in
     refusing (a .words .now) (a .list .now) (c .map-refused .ensures)
-    ∙ here-short four (a .s) (a .words .now) (a .list .now) (a .address) (a .frame) (a .size) (a .attributes) (a .left) (a .t8) (c .before .before .height-of .ensures) (c .before .if1 .taken)
+    ∙ here-short four (a .s) (a .words .now) (a .list .now) (a .address) b (a .height) k (a .left) (a .t7) (c .before .if1 .taken)
 
 cast-may-take : tie.Need-cast-may-take
-cast-may-take c = omega (arith, good-setup {G = four} (c .before .before .before .before .before .pre .0))
+cast-may-take c = omega (arith, good-setup {G = four} (c .before .before .before .before .pre .0))
 
 may-take-requires : tie.Need-may-take-requires
 may-take-requires c κs = search needs
@@ -34,16 +31,13 @@ map-refused-requires-2 : tie.Need-map-refused-requires-2
 map-refused-requires-2 c κs = search needs
 
 returns-2 : tie.Need-returns-2
-returns-2 c =
-    let a = c .before .before .before .before .before .before .before .before .args in
+returns-2 c b k e =
+    let a = c .before .before .before .before .before .before .before .args in
     refusing (a .words .now) (a .list .now) (c .map-refused2 .ensures)
-    ∙ here-unfit four (a .s) (a .words .now) (a .list .now) (a .address) (a .frame) (a .size) (a .attributes) (a .left) (a .t8) (c .before .before .before .before .before .height-of .ensures) (c .before .before .before .before .if1 .left) (c .before .before .may-take .ensures) (c .before .if2 .taken)
+    ∙ here-unfit four (a .s) (a .words .now) (a .list .now) (a .address) b (a .height) k (a .left) (a .t7) (c .before .before .before .before .if1 .left) (c .before .before .may-take .ensures) (c .before .if2 .taken)
 
 path-of-requires : tie.Need-path-of-requires
 path-of-requires c κs = search needs
-
-frame-word-requires : tie.Need-frame-word-requires
-frame-word-requires c κs = search needs
 
 sub-at : tie.Need-sub-at
 sub-at c = omega arith
@@ -55,8 +49,7 @@ array-read-map-plan : tie.Need-array-read-map-plan
 array-read-map-plan c = omega arith
 
 map-plan-requires : tie.Need-map-plan-requires
-map-plan-requires c κs =
-    omega (arith, c .before .before .before .before .before .before .height-of .ensures, good-setup {G = four} (c .before .before .before .before .before .before .before .before .before .pre .0))
+map-plan-requires c κs = omega (arith, good-setup {G = four} (c .before .before .before .before .before .before .before .pre .0))
 
 write-words-requires : tie.Need-write-words-requires
 write-words-requires c κs = search needs
@@ -68,17 +61,15 @@ same-length : tie.Need-same-length
 same-length c = search needs
 
 returns-3 : tie.Need-returns-3
-returns-3 c =
-    let a = c .before .before .before .before .before .before .before .before .before .before .before .before .before .before .before .args in
-    here-done four (a .s) (a .words .now) (a .list .now) (a .address) (a .frame) (a .size) (a .attributes) (a .left) (a .t8)
-    (c .before .before .before .before .before .before .before .before .before .before .before .before .height-of .ensures)
-    (c .before .before .before .before .before .before .before .before .before .before .before .if1 .left)
-    (c .before .before .before .before .before .before .before .before .before .may-take .ensures)
-    (c .before .before .before .before .before .before .before .before .if2 .left)
-    (c .before .before .before .before .before .before .before .before .before .before .before .before .before .before .before .pre .1 .0)
+returns-3 c b k e =
+    let a = c .before .before .before .before .before .before .before .before .before .before .before .before .before .args in
+    here-done four (a .s) (a .words .now) (a .list .now) (a .address) b (a .height) k (a .left) (a .t7)
+    (c .before .before .before .before .before .before .before .before .before .before .if1 .left)
+    (c .before .before .before .before .before .before .before .before .may-take .ensures)
+    (c .before .before .before .before .before .before .before .if2 .left)
     (c .before .before .before .before .before .map-plan .result)
-    (c .before .before .before .before .before .before .before .path-of .ensures)
-    (c .before .before .before .before .before .before .frame-word .ensures)
+    (c .before .before .before .before .before .before .path-of .ensures)
+    e
     (c .before .before .before .before .before .map-plan .ensures _)
     (c .before .before .before .write-words .ensures)
     (c .with-free .ensures)
@@ -87,7 +78,6 @@ pub map-empty-spec : {M : Type 1} → statement M
 map-empty-spec =
     tie.close
     (tie.spec
-    height-of-requires
     sub-need
     map-refused-requires
     returns
@@ -96,7 +86,6 @@ map-empty-spec =
     map-refused-requires-2
     returns-2
     path-of-requires
-    frame-word-requires
     sub-at
     mul-map-plan
     array-read-map-plan

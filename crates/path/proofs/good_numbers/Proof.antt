@@ -22,26 +22,23 @@ returns-4 c = sym (numbers-bad (λ N. omega arith))
 returns-5 : tie.Need-returns-5
 returns-5 c = sym (numbers-bad (λ N. omega arith))
 
+mul-if6 : tie.Need-mul-if6
+mul-if6 c = search needs
+
+sub-if6 : tie.Need-sub-if6
+sub-if6 c = search needs
+
 returns-6 : tie.Need-returns-6
 returns-6 c = sym (numbers-bad (λ N. omega arith))
 
 mul-if7 : tie.Need-mul-if7
 mul-if7 c = search needs
 
-add-if7 : tie.Need-add-if7
-add-if7 c = search needs
-
 returns-7 : tie.Need-returns-7
 returns-7 c = sym (numbers-bad (λ N. omega arith))
 
-mul-if8 : tie.Need-mul-if8
-mul-if8 c = search needs
-
 returns-8 : tie.Need-returns-8
-returns-8 c = sym (numbers-bad (λ N. omega arith))
-
-returns-9 : tie.Need-returns-9
-returns-9 c = same-truth _ _ (λ e. numbers-good (omega (arith, eqb-true))) (λ e. eq-eqb _ _ (good-numbers e .places-are))
+returns-8 c = same-truth _ _ (λ e. numbers-good (omega (arith, eqb-true))) (λ e. eq-eqb _ _ (good-numbers e .places-are))
 
 pub good-numbers-spec : {M : Type 1} → statement M
 good-numbers-spec =
@@ -52,10 +49,9 @@ good-numbers-spec =
     returns-3
     returns-4
     returns-5
+    mul-if6
+    sub-if6
     returns-6
     mul-if7
-    add-if7
     returns-7
-    mul-if8
-    returns-8
-    returns-9)
+    returns-8)

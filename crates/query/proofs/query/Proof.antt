@@ -1,8 +1,10 @@
 -- Query meets its contract.
-use mathlib.Core.Path.{_∙_}
+use mathlib.Core.Path.{sym, _∙_}
+use native.Mathlib.Omega.{arith}
 use borrow.Author.Needs.{needs}
 use Rattle.model.specs.Answers.{pool}
-use Rattle.query.proofs.Queries.{query-bad, query-past, query-left, query-walks}
+use Rattle.query.specs.AskLaws.{answer-no, answer-found}
+use Rattle.query.proofs.Queries.{good, query-bad, query-past, query-walks}
 use Rattle.query.proofs.query.Statement.{statement}
 use Rattle.query.proofs.query.Tie as tie
 
@@ -14,8 +16,8 @@ returns c =
     let s = c .before .before .before .before .args in
     query-bad (pool (s .s) (s .words .now) (s .list .now)) (s .address) (c .before .good-setup .ensures) (c .if1 .taken)
 
-space-of-requires : tie.Need-space-of-requires
-space-of-requires c κs = search needs
+in-space-requires : tie.Need-in-space-requires
+in-space-requires c κs = search needs
 
 returns-2 : tie.Need-returns-2
 returns-2 c =
@@ -23,31 +25,48 @@ returns-2 c =
     query-past (pool (s .s) (s .words .now) (s .list .now)) (s .address)
     (c .before .before .before .good-setup .ensures)
     (c .before .before .if1 .left)
-    (c .before .space-of .ensures)
+    (c .before .in-space .ensures)
     (c .if2 .taken)
 
-walk-to-requires : tie.Need-walk-to-requires
-walk-to-requires c κs = search needs
+cast-ask : tie.Need-cast-ask
+cast-ask c = omega (arith, good (c .before .before .before .good-setup .ensures) (c .before .before .if1 .left))
 
-found-at-requires : tie.Need-found-at-requires
-found-at-requires c κs =
-    let s = c .before .before .before .before .before .before .before .args in
-    query-left (pool (s .s) (s .words .now) (s .list .now)) (s .address)
-    (c .before .before .before .before .good-setup .ensures)
-    (c .before .before .before .if1 .left)
-    (c .before .before .space-of .ensures)
-    (c .walk-to .ensures)
+ask-requires : tie.Need-ask-requires
+ask-requires c κs = omega (arith, good (c .before .before .before .before .good-setup .ensures) (c .before .before .before .if1 .left))
 
 returns-3 : tie.Need-returns-3
 returns-3 c =
-    let s = c .before .before .before .before .before .before .before .before .args in
-    c .found-at .ensures
+    let s = c .before .before .before .before .before .before .before .before .before .args in
+    sym (answer-no _ _ (c .if3 .taken))
+    ∙ c .before .ask .ensures
     ∙ query-walks (pool (s .s) (s .words .now) (s .list .now)) (s .address)
-    (c .before .before .before .before .before .good-setup .ensures)
-    (c .before .before .before .before .if1 .left)
-    (c .before .before .before .space-of .ensures)
-    (c .before .walk-to .ensures)
-    (c .before .before .if2 .left)
+    (c .before .before .before .before .before .before .good-setup .ensures)
+    (c .before .before .before .before .before .if1 .left)
+    (c .before .before .before .before .in-space .ensures)
+    (c .before .before .before .if2 .left)
+
+array-read-t18 : tie.Need-array-read-t18
+array-read-t18 c = search needs
+
+array-read-t21 : tie.Need-array-read-t21
+array-read-t21 c = search needs
+
+array-read-t24 : tie.Need-array-read-t24
+array-read-t24 c = search needs
+
+array-read-t27 : tie.Need-array-read-t27
+array-read-t27 c = search needs
+
+returns-4 : tie.Need-returns-4
+returns-4 c =
+    let s = c .before .before .before .before .before .before .before .before .before .args in
+    sym (answer-found _ (c .if3 .left))
+    ∙ c .before .ask .ensures
+    ∙ query-walks (pool (s .s) (s .words .now) (s .list .now)) (s .address)
+    (c .before .before .before .before .before .before .good-setup .ensures)
+    (c .before .before .before .before .before .if1 .left)
+    (c .before .before .before .before .in-space .ensures)
+    (c .before .before .before .if2 .left)
 
 pub query-spec : {M : Type 1} → statement M
 query-spec =
@@ -55,8 +74,13 @@ query-spec =
     (tie.spec
     good-setup-requires
     returns
-    space-of-requires
+    in-space-requires
     returns-2
-    walk-to-requires
-    found-at-requires
-    returns-3)
+    cast-ask
+    ask-requires
+    returns-3
+    array-read-t18
+    array-read-t21
+    array-read-t24
+    array-read-t27
+    returns-4)

@@ -1,15 +1,28 @@
 -- `unmaps::unmap` makes its tests in their order, then walks.
-use mathlib.Core.Path.{sym, _∙_}
+use mathlib.Core.Path.{refl, sym, _∙_}
+use native.Mathlib.Omega.{arith}
 use borrow.Author.Needs.{needs}
 use Rattle.path.specs.Laws.{four-sane, good-setup}
 use Rattle.path.specs.Geometry.{four}
 use Rattle.model.specs.Calls.{unmapAt}
 use Rattle.model.specs.Answers.{pool}
 use Rattle.model.specs.Refusing.{refusing, passed}
-use Rattle.lookup.specs.WalkLaws.{walk-good}
-use Rattle.unmaps.proofs.Unmaps.{unmap-bad, unmap-refuses, Arrived, left-within, unmap-at, unmap-at-frame}
+use Rattle.lookup.specs.Reaches.{reach-good, Came}
+use Rattle.unmaps.proofs.Unmaps.{unmap-bad, unmap-refuses, came-past, came-left, came-at}
 use Rattle.unmaps.proofs.unmap.Statement.{statement}
 use Rattle.unmaps.proofs.unmap.Tie as tie
+
+-- no test refused, and the walk is done
+came : (c : tie.After-reach)
+    → let a = c .before .before .before .before .before .before .before .before .before .args in
+    Came four (pool (a .s) (a .words .now) (a .list .now)) 0 (a .address) (c .reach .result) (c .reach .last .1 .1 .1 .1 .0)
+came c =
+    let a = c .before .before .before .before .before .before .before .before .before .args in
+    let g = good-setup {G = four} (passed (c .before .before .before .before .before .before .good-setup .ensures) (c .before .before .before .before .before .if1 .left)) in
+    record {
+      end = c .reach .ensures .0 ∙ reach-good four (a .s) (a .words .now) 0 (a .address) four-sane g (omega arith) (a .list .now);
+      place = c .reach .ensures .1;
+    }
 
 good-setup-requires : tie.Need-good-setup-requires
 good-setup-requires c κs = search needs
@@ -20,8 +33,7 @@ unmap-refused-requires c κs = search needs
 returns : tie.Need-returns
 returns c =
     let a = c .before .before .before .before .before .args in
-    refusing (a .words .now) (a .list .now) (c .unmap-refused .ensures)
-    ∙ unmap-bad four (pool (a .s) (a .words .now) (a .list .now)) (a .address) (c .before .before .good-setup .ensures) (c .before .if1 .taken)
+    refusing (a .words .now) (a .list .now) (c .unmap-refused .ensures) ∙ unmap-bad four (pool (a .s) (a .words .now) (a .list .now)) (a .address) (c .before .before .good-setup .ensures) (c .before .if1 .taken)
 
 unmap-tests-requires : tie.Need-unmap-tests-requires
 unmap-tests-requires c κs = search needs
@@ -35,65 +47,68 @@ returns-2 c =
     refusing (a .words .now) (a .list .now) (c .unmap-refused2 .ensures)
     ∙ unmap-refuses four (pool (a .s) (a .words .now) (a .list .now)) (a .address) (c .before .before .before .before .good-setup .ensures) (c .before .before .before .if1 .left) (c .before .before .unmap-tests .ensures) (c .before .if2 .taken)
 
-walk-to-requires : tie.Need-walk-to-requires
-walk-to-requires c κs = search needs
+reach-requires : tie.Need-reach-requires
+reach-requires c κs = search needs
 
--- no test refused, and the walk is done
-arrived : (c : tie.After-walk-to)
-    → let a = c .before .before .before .before .before .before .before .before .args in
-    Arrived four (pool (a .s) (a .words .now) (a .list .now)) (a .address) (c .walk-to .result)
-arrived c =
-    let a = c .before .before .before .before .before .before .before .before .args in
-    let g = passed (c .before .before .before .before .before .good-setup .ensures) (c .before .before .before .before .if1 .left) in
-    record {
-      good = g;
-      tests = sym (c .before .before .before .unmap-tests .ensures) ∙ c .before .before .if2 .left;
-      walk = c .walk-to .ensures ∙ walk-good four (a .s) (a .words .now) 0 (a .address) four-sane (good-setup g) (a .list .now);
-    }
+unmap-refused-requires-3 : tie.Need-unmap-refused-requires-3
+unmap-refused-requires-3 c κs = search needs
+
+same-length : tie.Need-same-length
+same-length c = search needs
+
+returns-3 : tie.Need-returns-3
+returns-3 c =
+    let a = c .before .before .before .before .before .before .before .before .before .before .before .args in
+    refusing (a .words .now) (a .list .now) (c .unmap-refused3 .ensures) ∙ came-past (passed (c .before .before .before .before .before .before .before .before .good-setup .ensures) (c .before .before .before .before .before .before .before .if1 .left)) (sym (c .before .before .before .before .before .before .unmap-tests .ensures) ∙ c .before .before .before .before .before .if2 .left) (came (c .before .before)) (c .before .if3 .taken)
+
+mul-w : tie.Need-mul-w
+mul-w c = search needs
+
+slice-read-w : tie.Need-slice-read-w
+slice-read-w c = search needs
+
+cast-read-word : tie.Need-cast-read-word
+cast-read-word c = omega (arith, good-setup {G = four} (passed (c .before .before .before .before .before .before .before .before .before .good-setup .ensures) (c .before .before .before .before .before .before .before .before .if1 .left)))
+
+read-word-requires : tie.Need-read-word-requires
+read-word-requires c κs = search needs
 
 enum-known-e : tie.Need-enum-known-e
 enum-known-e c = search needs
 
 unmap-frame-requires : tie.Need-unmap-frame-requires
 unmap-frame-requires c κs =
-    let w = arrived (c .before .before .before .before .before .before) in
-    (w .good, left-within w)
+    let k = came (c .before .before .before .before .before .before .before .before .before) in
+    ((passed (c .before .before .before .before .before .before .before .before .before .before .before .before .before .before .before .good-setup .ensures) (c .before .before .before .before .before .before .before .before .before .before .before .before .before .before .if1 .left)), (came-left (passed (c .before .before .before .before .before .before .before .before .before .before .before .before .before .before .before .good-setup .ensures) (c .before .before .before .before .before .before .before .before .before .before .before .before .before .before .if1 .left)) (sym (c .before .before .before .before .before .before .before .before .before .before .before .before .before .unmap-tests .ensures) ∙ c .before .before .before .before .before .before .before .before .before .before .before .before .if2 .left) k (c .before .before .before .before .before .before .before .before .if3 .left), (c .before .before .before .before .before .before .before .before .if3 .left, k .place (c .before .before .before .before .before .before .before .before .if3 .left))))
 
 enum-told : tie.Need-enum-told
 enum-told c = search needs
 
-unmap-refused-requires-3 : tie.Need-unmap-refused-requires-3
-unmap-refused-requires-3 c κs = search needs
+unmap-refused-requires-4 : tie.Need-unmap-refused-requires-4
+unmap-refused-requires-4 c κs = search needs
 
 enum-told-2 : tie.Need-enum-told-2
 enum-told-2 c = search needs
 
-unmap-refused-requires-4 : tie.Need-unmap-refused-requires-4
-unmap-refused-requires-4 c κs = search needs
+unmap-refused-requires-5 : tie.Need-unmap-refused-requires-5
+unmap-refused-requires-5 c κs = search needs
 
 enum-told-3 : tie.Need-enum-told-3
 enum-told-3 c = search needs
 
-unmap-refused-requires-5 : tie.Need-unmap-refused-requires-5
-unmap-refused-requires-5 c κs = search needs
-
-same-length : tie.Need-same-length
-same-length c = search needs
+unmap-refused-requires-6 : tie.Need-unmap-refused-requires-6
+unmap-refused-requires-6 c κs = search needs
 
 same-length-2 : tie.Need-same-length-2
 same-length-2 c = search needs
-
-returns-3 : tie.Need-returns-3
-returns-3 c = c .before .before .before .before .unmap-frame .ensures ∙ unmap-at-frame (arrived (c .before .before .before .before .before .before .before .before .before .before .before)) (c .before .before .before .before .before .before .before .before .e .given .1)
 
 same-length-3 : tie.Need-same-length-3
 same-length-3 c = search needs
 
 returns-4 : tie.Need-returns-4
-unfolding unmapAt
 returns-4 c =
-    let a = c .before .before .before .before .before .before .before .before .before .before .before .before .args in
-    refusing (a .words .now) (a .list .now) (c .unmap-refused3 .ensures) ∙ unmap-at (arrived (c .before .before .before .before)) (c .before .enum-told .given .1)
+    c .before .before .before .before .unmap-frame .ensures
+    ∙ came-at (passed (c .before .before .before .before .before .before .before .before .before .before .before .before .before .before .before .before .before .before .before .before .good-setup .ensures) (c .before .before .before .before .before .before .before .before .before .before .before .before .before .before .before .before .before .before .before .if1 .left)) (sym (c .before .before .before .before .before .before .before .before .before .before .before .before .before .before .before .before .before .before .unmap-tests .ensures) ∙ c .before .before .before .before .before .before .before .before .before .before .before .before .before .before .before .before .before .if2 .left) (came (c .before .before .before .before .before .before .before .before .before .before .before .before .before .before)) (c .before .before .before .before .before .before .before .before .before .before .before .before .before .if3 .left) refl (c .before .before .before .before .before .before .before .before .before .before .read-word .ensures) (c .before .before .before .before .before .before .before .before .e .given .1)
 
 same-length-4 : tie.Need-same-length-4
 same-length-4 c = search needs
@@ -101,8 +116,9 @@ same-length-4 c = search needs
 returns-5 : tie.Need-returns-5
 unfolding unmapAt
 returns-5 c =
-    let a = c .before .before .before .before .before .before .before .before .before .before .before .before .args in
-    refusing (a .words .now) (a .list .now) (c .unmap-refused4 .ensures) ∙ unmap-at (arrived (c .before .before .before .before)) (c .before .enum-told2 .given .1)
+    let a = c .before .before .before .before .before .before .before .before .before .before .before .before .before .before .before .before .args in
+    refusing (a .words .now) (a .list .now) (c .unmap-refused4 .ensures)
+    ∙ came-at (passed (c .before .before .before .before .before .before .before .before .before .before .before .before .before .good-setup .ensures) (c .before .before .before .before .before .before .before .before .before .before .before .before .if1 .left)) (sym (c .before .before .before .before .before .before .before .before .before .before .before .unmap-tests .ensures) ∙ c .before .before .before .before .before .before .before .before .before .before .if2 .left) (came (c .before .before .before .before .before .before .before)) (c .before .before .before .before .before .before .if3 .left) refl (c .before .before .before .read-word .ensures) (c .before .enum-told .given .1)
 
 same-length-5 : tie.Need-same-length-5
 same-length-5 c = search needs
@@ -110,8 +126,19 @@ same-length-5 c = search needs
 returns-6 : tie.Need-returns-6
 unfolding unmapAt
 returns-6 c =
-    let a = c .before .before .before .before .before .before .before .before .before .before .before .before .args in
-    refusing (a .words .now) (a .list .now) (c .unmap-refused5 .ensures) ∙ unmap-at (arrived (c .before .before .before .before)) (c .before .enum-told3 .given .1)
+    let a = c .before .before .before .before .before .before .before .before .before .before .before .before .before .before .before .before .args in
+    refusing (a .words .now) (a .list .now) (c .unmap-refused5 .ensures)
+    ∙ came-at (passed (c .before .before .before .before .before .before .before .before .before .before .before .before .before .good-setup .ensures) (c .before .before .before .before .before .before .before .before .before .before .before .before .if1 .left)) (sym (c .before .before .before .before .before .before .before .before .before .before .before .unmap-tests .ensures) ∙ c .before .before .before .before .before .before .before .before .before .before .if2 .left) (came (c .before .before .before .before .before .before .before)) (c .before .before .before .before .before .before .if3 .left) refl (c .before .before .before .read-word .ensures) (c .before .enum-told2 .given .1)
+
+same-length-6 : tie.Need-same-length-6
+same-length-6 c = search needs
+
+returns-7 : tie.Need-returns-7
+unfolding unmapAt
+returns-7 c =
+    let a = c .before .before .before .before .before .before .before .before .before .before .before .before .before .before .before .before .args in
+    refusing (a .words .now) (a .list .now) (c .unmap-refused6 .ensures)
+    ∙ came-at (passed (c .before .before .before .before .before .before .before .before .before .before .before .before .before .good-setup .ensures) (c .before .before .before .before .before .before .before .before .before .before .before .before .if1 .left)) (sym (c .before .before .before .before .before .before .before .before .before .before .before .unmap-tests .ensures) ∙ c .before .before .before .before .before .before .before .before .before .before .if2 .left) (came (c .before .before .before .before .before .before .before)) (c .before .before .before .before .before .before .if3 .left) refl (c .before .before .before .read-word .ensures) (c .before .enum-told3 .given .1)
 
 pub unmap-spec : {M : Type 1} → statement M
 unmap-spec =
@@ -123,21 +150,28 @@ unmap-spec =
     unmap-tests-requires
     unmap-refused-requires-2
     returns-2
-    walk-to-requires
+    reach-requires
+    unmap-refused-requires-3
+    same-length
+    returns-3
+    mul-w
+    slice-read-w
+    cast-read-word
+    read-word-requires
     enum-known-e
     unmap-frame-requires
     enum-told
-    unmap-refused-requires-3
-    enum-told-2
     unmap-refused-requires-4
-    enum-told-3
+    enum-told-2
     unmap-refused-requires-5
-    same-length
+    enum-told-3
+    unmap-refused-requires-6
     same-length-2
-    returns-3
     same-length-3
     returns-4
     same-length-4
     returns-5
     same-length-5
-    returns-6)
+    returns-6
+    same-length-6
+    returns-7)

@@ -5,23 +5,23 @@ use Rattle.unmaps.proofs.Tests.{unmap-refuses-address, unmap-refuses-un
 use Rattle.unmaps.proofs.unmap_tests.Statement.{statement}
 use Rattle.unmaps.proofs.unmap_tests.Tie as tie
 
-space-of-requires : tie.Need-space-of-requires
-space-of-requires c κs = search needs
+in-space-requires : tie.Need-in-space-requires
+in-space-requires c κs = search needs
 
 returns : tie.Need-returns
 returns c =
     let a = c .before .before .args in
-    unmap-refuses-address four (a .levels) (a .address) (c .before .space-of .ensures) (c .if1 .taken)
+    unmap-refuses-address four (a .levels) (a .address) (c .before .in-space .ensures) (c .if1 .taken)
 
 returns-2 : tie.Need-returns-2
 returns-2 c =
     let a = c .before .before .before .args in
-    unmap-refuses-unaligned four (a .levels) (a .address) (c .before .before .space-of .ensures) (c .before .if1 .left) (c .if2 .taken)
+    unmap-refuses-unaligned four (a .levels) (a .address) (c .before .before .in-space .ensures) (c .before .if1 .left) (c .if2 .taken)
 
 returns-3 : tie.Need-returns-3
 returns-3 c =
     let a = c .before .before .before .args in
-    unmap-refuses-nothing four (a .levels) (a .address) (c .before .before .space-of .ensures) (c .before .if1 .left) (c .if2 .left)
+    unmap-refuses-nothing four (a .levels) (a .address) (c .before .before .in-space .ensures) (c .before .if1 .left) (c .if2 .left)
 
 pub unmap-tests-spec : {M : Type 1} → statement M
-unmap-tests-spec = tie.close (tie.spec space-of-requires returns returns-2 returns-3)
+unmap-tests-spec = tie.close (tie.spec in-space-requires returns returns-2 returns-3)

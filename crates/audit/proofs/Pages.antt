@@ -1,0 +1,106 @@
+-- A table of the last level: each of its words is empty, a page or damaged, and is counted once or, where it is damaged, not at all.
+use Prim.Native.Nat.{ℕ, _+_, _-_, _≤_, _<_}
+use mathlib.Core.Path.{_≡_, refl, sym, ap, _∙_}
+use mathlib.Core.Bool.{Bool, true, false, true≢false}
+use mathlib.Core.List.{List}
+use native.Mathlib.Decide.{decLt}
+use native.Mathlib.Omega.{arith}
+use mir.Val.{boolByte}
+use lib.Dec.{eqb}
+use borrow.Author.Tests.{eqb-true, eqb-false, eq-eqb}
+use Rattle.path.specs.Geometry.{four, entries, sizeAt}
+use Rattle.path.specs.Areas.{Area}
+use Rattle.entry.specs.Words.{baseIn, attrsIn, frameWord, entryAt}
+use Rattle.entry.specs.Laws.{frame-word-ge, frame-at-own, frame-at-not, entry-zero, entry-frame as frame-reads}
+use Rattle.entry.specs.declared.Entry.the-variants.{Frame, Damaged}
+use Rattle.model.specs.Sound.{wordAt}
+use Rattle.audit.specs.Checks.{Answers, atEntry}
+use Rattle.audit.specs.declared.Tally.the-variants.{Counts, Damaged}
+use Rattle.audit.proofs.Parts.{Goes}
+use Rattle.audit.proofs.Tables.{atRest, Loop, loop-bad, loop-more, loop-end, table-starts, entry-empty, entry-frame, entry-damaged}
+
+-- ---- a word
+
+-- whether a word is that of its own base and attributes, as a page
+abbrev pub isPage : ℕ → Bool
+isPage w = eqb w (frameWord (baseIn w) 0 (attrsIn w))
+
+module _ (area : Area) (w : ℕ) where
+  page-reads : (w ≡ 0 → ⊥) → isPage w ≡ true → entryAt four area 0 w ≡ Frame (baseIn w) (attrsIn w)
+  unfolding sizeAt
+  page-reads some e =
+      frame-reads four area 0 w some (λ l. absurd (omega arith))
+      ∙ frame-at-own four 0 w (omega arith) (omega arith) (eqb-true w _ e)
+
+  else-damaged : (w ≡ 0 → ⊥) → isPage w ≡ false → entryAt four area 0 w ≡ Damaged
+  else-damaged some e =
+      frame-reads four area 0 w some (λ l. absurd (omega arith))
+      ∙ frame-at-not four 0 w (λ level aligned same. eqb-false w _ e same)
+
+empty-no-page : (w : ℕ) → w ≡ 0 → isPage w ≡ true → ⊥
+empty-no-page w z e = omega (arith, eqb-true w _ e, frame-word-ge (baseIn w) 0 (attrsIn w))
+
+-- ---- the loop over the words
+
+-- as many were counted as were passed, and what is left answers for all; or fewer, and the table is damaged
+pub record Pages (ws : List ℕ) (area : Area) (t : ℕ) (M : List ℕ) (empty pages left : ℕ) : Type 0 where
+  pub few-left : left ≤ entries four
+  pub few : empty + pages + left ≤ entries four
+  pub sound : empty + pages + left ≡ entries four → Loop ws area 0 t M 1 0 M 1 pages left
+  pub unsound : empty + pages + left < entries four → Goes (atRest four ws area 0 t (entries four)) M 1 0 Damaged M
+
+pub pages-start : (ws : List ℕ) (area : Area) (t : ℕ) (M : List ℕ) → Pages ws area t M 0 0 (entries four)
+pages-start ws area t M =
+    record {
+      few-left = omega arith;
+      few = omega arith;
+      sound = λ e. table-starts ws area 0 t M (omega arith);
+      unsound = λ l. absurd (omega arith);
+    }
+
+module _ {ws : List ℕ} {area : Area} {t : ℕ} {M : List ℕ} {empty pages left : ℕ} (k : Pages ws area t M empty pages left) where
+  pub pages-good : left ≤ 0 → entries four ≤ empty + pages → Goes (atRest four ws area 0 t (entries four)) M 1 0 (Counts 1 pages) M
+  pages-good l m = loop-end (k .sound (omega (arith, k .few))) l
+
+  pub pages-bad : left ≤ 0 → empty + pages < entries four → Goes (atRest four ws area 0 t (entries four)) M 1 0 Damaged M
+  pages-bad l m = k .unsound (omega arith)
+
+  module _ (l : 0 < left) where
+    -- a word that is counted
+    counted : (x y : ℕ) → x + y ≡ 1 → Answers (atEntry four ws area 0 t (entries four - left)) M (Counts 0 y) M
+        → Pages ws area t M (empty + x) (pages + y) (left - 1)
+    counted x y e g =
+        record {
+          few-left = omega (arith, k .few-left);
+          few = omega (arith, k .few);
+          sound = λ q. loop-more (k .sound (omega arith)) l 0 y M g refl;
+          unsound = λ q. k .unsound (omega arith);
+        }
+
+    missed : Answers (atEntry four ws area 0 t (entries four - left)) M Damaged M → Pages ws area t M (empty + 0) (pages + 0) (left - 1)
+    missed g =
+        record {
+          few-left = omega (arith, k .few-left);
+          few = omega (arith, k .few);
+          sound = λ q. absurd (omega (arith, k .few));
+          unsound = λ q. go (decLt (empty + pages + left) (entries four));
+        }
+      where
+        go : Dec (empty + pages + left < entries four) → Goes (atRest four ws area 0 t (entries four)) M 1 0 Damaged M
+        go (yes m) = k .unsound m
+        go (no m) = loop-bad (k .sound (omega (arith, k .few))) l M M g
+
+    pub pages-more : (w : ℕ) → w ≡ wordAt four ws t (entries four - left) → (p : Bool) → p ≡ isPage w
+        → Pages ws area t M (empty + boolByte (eqb w 0)) (pages + boolByte p) (left - 1)
+    pages-more w at p e = go (eqb w 0) p refl e
+      where
+        i : ℕ
+        i = entries four - left
+
+        go : (x p : Bool) → eqb w 0 ≡ x → p ≡ isPage w → Pages ws area t M (empty + boolByte x) (pages + boolByte p) (left - 1)
+        go true true z e = absurd (empty-no-page w (eqb-true w 0 z) (sym e))
+        go true false z e =
+            counted 1 0 refl (entry-empty ws M area 0 t i w at (Counts 0 0) M (ap (entryAt four area 0) (eqb-true w 0 z) ∙ entry-zero four area 0) refl refl)
+        go false true z e =
+            counted 0 1 refl (entry-frame ws M area 0 t i w at (Counts 0 1) M (baseIn w) (attrsIn w) (page-reads area w (eqb-false w 0 z) (sym e)) refl refl)
+        go false false z e = missed (entry-damaged ws M area 0 t i w at Damaged M (else-damaged area w (eqb-false w 0 z) (sym e)) refl)

@@ -1,0 +1,34 @@
+-- Whether the loop walks meets its contract: each test refuses what breaks its rule, and what is left keeps them all.
+use mathlib.Core.Path.{sym}
+use mathlib.Core.Bool.{true}
+use native.Mathlib.Omega.{arith}
+use borrow.Author.Needs.{needs}
+use borrow.Author.Tests.{eqb-true, eq-eqb}
+use Rattle.path.specs.Laws.{same-truth}
+use Rattle.lookup.specs.Reaches.{can-walk, cannot-walk, walk-can}
+use Rattle.lookup.proofs.walkable.Statement.{statement}
+use Rattle.lookup.proofs.walkable.Tie as tie
+
+returns : tie.Need-returns
+returns c = sym (cannot-walk (λ w. omega arith))
+
+returns-2 : tie.Need-returns-2
+returns-2 c = sym (cannot-walk (λ w. omega arith))
+
+returns-3 : tie.Need-returns-3
+returns-3 c = sym (cannot-walk (λ w. omega arith))
+
+returns-4 : tie.Need-returns-4
+returns-4 c = sym (cannot-walk (λ w. omega arith))
+
+returns-5 : tie.Need-returns-5
+returns-5 c = sym (cannot-walk (λ w. omega arith))
+
+mul-result : tie.Need-mul-result
+mul-result c = search needs
+
+returns-6 : tie.Need-returns-6
+returns-6 c = same-truth _ _ (λ e. walk-can (omega (arith, eqb-true))) (λ e. eq-eqb _ _ (can-walk e .whole))
+
+pub walkable-spec : {M : Type 1} → statement M
+walkable-spec = tie.close (tie.spec returns returns-2 returns-3 returns-4 returns-5 mul-result returns-6)

@@ -1,0 +1,18 @@
+-- Parts of map, as its code is divided.
+use Prim.Native.Nat.{ℕ}
+use Rattle.path.specs.Geometry.{Granule}
+use Rattle.entry.specs.declared.Entry.{Entry}
+use Rattle.entry.specs.declared.Entry.the-variants.{Empty, Table, Frame, Damaged}
+use Rattle.model.specs.Answers.{Pool, Done}
+use Rattle.model.specs.Calls.{walkTo, mapAt}
+
+-- the refusal where the walk ended at an entry that is not empty
+abbrev pub metBy : Entry → ℕ
+metBy Damaged = 8
+metBy Empty = 6
+metBy (Table c) = 6
+metBy (Frame b k) = 6
+
+-- what map does where no test refused, for a frame of height h
+abbrev pub mapFrom : Granule → Pool → ℕ → ℕ → ℕ → ℕ → Done
+mapFrom G p a b h k = let o = walkTo G p h a in mapAt G p a b h k o (o .entry)
