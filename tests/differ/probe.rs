@@ -92,13 +92,16 @@ fn paths() {
         ask!(path::good_setup, path::Setup { levels, base: BASE, tables: 2, free: 1 }, 2, 1024);
     }
     for n in numbers() {
-        ask!(path::space_of, n);
+        for (levels, size) in [(2, 1), (3, 1), (4, 1), (5, 1), (3, PAGE), (4, GIB), (3, 1 << 39), (4, TOP), (3, TOP), (4, u64::MAX)] {
+            ask!(path::in_space, levels, n, size);
+        }
         ask!(path::size_at, n as usize);
         ask!(path::height_of, n);
         ask!(path::path_of, n);
         for height in [0, 1, 2, 3, 4, 5, usize::MAX] {
             ask!(path::index_at, n, height);
             ask!(path::base_at, n, height);
+            ask!(path::rest_at, n, height);
         }
     }
     for p in [[0, 0, 0, 0], [1, 2, 3, 4], [511, 0, 511, 1], [65535, 65535, 65535, 65535], [0, 0, 1, 0], [0, 1, 0, 0]] {
@@ -142,12 +145,24 @@ fn entries() {
     for attributes in 0..18 {
         ask!(entry::attr_word, attributes);
     }
+    for base in [0, PAGE, BASE, TOP - PAGE, TOP] {
+        for height in [0, 1, 2, 3] {
+            for attributes in [0, 1, 2, 4, 8, 15] {
+                ask!(entry::word_of, base, height, attributes);
+            }
+        }
+    }
     for w in words_to_read() {
+        for (base, tables) in [(BASE, 4), (0, 64), (BASE, 1), (TOP + PAGE, 8)] {
+            ask!(entry::child_in, w, base, tables);
+        }
         for size in [PAGE, MIB2, GIB, 1 << 39, 0] {
             ask!(entry::word_meaning, w, size);
             ask!(oakabut::oak_word_meaning, w, size);
         }
         for height in [0, 1, 2, 3, 4] {
+            ask!(entry::is_frame, w, height);
+            ask!(entry::frame_at, w, height);
             for (base, tables) in [(BASE, 1), (BASE, 3), (BASE, 64), (0, 2), (TOP - PAGE, 4), (u64::MAX, u32::MAX)] {
                 ask!(entry::read_word, w, height, base, tables);
             }
@@ -286,6 +301,9 @@ impl Lent {
         for target in [0, 1, 2, 3] {
             let r = tried(|| lookup::walk_to(path::Setup { levels, base, tables, free }, &self.words, target, address));
             line(&format!("{} walk_to {target} {address:#x} = {r}", self.name));
+            let mut way = [7u32; 4];
+            let r = tried(|| lookup::reach(path::Setup { levels, base, tables, free }, &self.words, target, address, &mut way));
+            line(&format!("{} reach {target} {address:#x} = {r} {way:?}", self.name));
         }
     }
 
