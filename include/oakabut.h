@@ -10,7 +10,11 @@
  *
  * Pointers. Each must be valid and aligned, also where a length is 0; a null pointer never is. The answer, the setup and the two lent
  * runs must not overlap: oak_map(&m.setup, ..., &m) is wrong, a copy of the setup is right. Nobody else may write to them during a
- * call. Lengths count elements, not bytes. */
+ * call. Lengths count elements, not bytes.
+ *
+ * The machine. Tables are little-endian (SCTLR_EL2.EE 0). Stage 2 is set up with HCR_EL2.FWB 0, VTCR_EL2.HA and HD 0, TG0 4 KiB, and T0SZ 25 with
+ * SL0 1 for three levels or T0SZ 16 with SL0 2 for four; without stage 2 permission indirection. A walker may read the pool while oak_map or
+ * oak_unmap runs, and sees the mappings from before the call or from after it. It may not while oak_format runs, which fills the pool by memset. */
 #ifndef OAKABUT_H
 #define OAKABUT_H
 

@@ -1,4 +1,4 @@
-"""Reads edits, wrong versions of a crate, and the logs of those that were tried, for check-edits and ./mutants."""
+"""Reads edits, wrong versions of a crate, and the logs of those that were tried, for the checks beside this file and ./mutants."""
 import re
 
 SHAPES = (
@@ -15,8 +15,15 @@ def edited_files(path):
     return re.findall(r'^file: *(.*)$', path.read_text(encoding='utf-8'), re.M)
 
 
-def text_faults(path, crate):
-    """Why rt could not make an edit of a crate's folder: it has no pair, or an old text does not stand once where the pairs before left it."""
+def order_reason(path):
+    """Why an edit changes nothing but the order of writes, as its line `order: REASON` says, or ''. rt passes over that line."""
+    m = re.search(r'^order: *(\S.*)$', path.read_text(encoding='utf-8'), re.M)
+    return m.group(1) if m else ''
+
+
+def edited_texts(path, crate):
+    """The files of a crate's folder that an edit changes, each with its text after it, and why rt could not make the edit, or '': it has no pair,
+    an old text does not stand once where the pairs before left it, or a new text is the old one."""
     texts, file, old, pairs = {}, '', '', 0
     for line in path.read_text(encoding='utf-8').splitlines():
         if line.startswith('file: '):
@@ -26,14 +33,17 @@ def text_faults(path, crate):
         elif line.startswith('new:'):
             if file not in texts:
                 if not file or not (crate / file).is_file():
-                    return [f'the crate has no file {file}']
+                    return {}, f'the crate has no file {file}'
                 texts[file] = (crate / file).read_text(encoding='utf-8')
             count = texts[file].count(old) if old else 0
             if count != 1:
-                return [f'its text "{old}" stands {count} times in {file}']
-            texts[file] = texts[file].replace(old, line[len('new:'):].removeprefix(' '))
+                return {}, f'its text "{old}" stands {count} times in {file}'
+            new = line[len('new:'):].removeprefix(' ')
+            if new == old:
+                return {}, f'its text "{old}" stays as it is'
+            texts[file] = texts[file].replace(old, new)
             old, pairs = '', pairs + 1
-    return [] if pairs else ['it has no pair of old and new']
+    return texts, '' if pairs else 'it has no pair of old and new'
 
 
 def first_error(log):

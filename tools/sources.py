@@ -10,14 +10,17 @@ class Unreadable(Exception):
 
 # ---- crates.txt
 
+def crate_lines(root):
+    """What each line of crates.txt lists: a name, and those that it leans on."""
+    for line in (Path(root) / 'crates.txt').read_text(encoding='utf-8').splitlines():
+        name, _, rest = line.split('#')[0].partition(':')
+        if name.strip():
+            yield name.strip(), rest.split()
+
+
 def listed_crates(root):
     """The names that crates.txt lists, in its order."""
-    names = []
-    for line in (Path(root) / 'crates.txt').read_text(encoding='utf-8').splitlines():
-        line = line.split('#')[0].strip()
-        if line:
-            names.append(line.split(':')[0].strip())
-    return names
+    return [name for name, _ in crate_lines(root)]
 
 
 # ---- a crate's modules

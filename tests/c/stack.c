@@ -8,7 +8,7 @@
 
 #include "oakabut.h"
 
-enum { TABLES = 64, ENTRIES = 512, STACK = 65536, MOST = 8192, PAINT = 0xA5 };
+enum { TABLES = 64, ENTRIES = 512, STACK = 65536, MOST = 8192, PAINT = 0xA5, KNOWN = 4000 };
 
 static uint64_t words[TABLES * ENTRIES];
 static uint32_t list[TABLES];
@@ -18,6 +18,11 @@ static unsigned char stack[STACK] __attribute__((aligned(64)));
 static ucontext_t here, there;
 
 static void nothing(void) {}
+static void known(void) { /* uses KNOWN bytes and little more */
+    volatile unsigned char bytes[KNOWN];
+    for (int i = 0; i < KNOWN; i++) bytes[i] = 1;
+    result = bytes[KNOWN - 1];
+}
 static void do_format(void) { result = oak_format(levels, UINT64_C(0x40000000), TABLES, words, TABLES * ENTRIES, list, TABLES, &setup); }
 static void do_map(void) {
     oak_mapped m;
@@ -52,9 +57,9 @@ static size_t used(void (*call)(void)) {
     return STACK - clean;
 }
 
-static size_t worst[6];
-static const char *const names[6] = {"format", "map", "unmap", "query", "audit", "nothing"};
-static void (*const calls[6])(void) = {do_format, do_map, do_unmap, do_query, do_audit, nothing};
+static size_t worst[7]; /* of the five calls, of the switch alone and of `known` */
+static const char *const names[5] = {"format", "map", "unmap", "query", "audit"};
+static void (*const calls[7])(void) = {do_format, do_map, do_unmap, do_query, do_audit, nothing, known};
 
 static void make(int call) {
     size_t n = used(calls[call]);
@@ -71,6 +76,7 @@ static uint64_t next(void) {
 
 int main(void) {
     int failed = 0, passed = 0;
+    make(5), make(6);
     for (levels = 3; levels <= 4; levels++) {
         make(0);
         for (int i = 0; i < 300; i++) { /* far apart, so that tables run out; then back again */
@@ -97,11 +103,13 @@ int main(void) {
         }
     }
     for (int call = 0; call < 5; call++) {
-        int fine = worst[call] - worst[5] <= MOST;
+        int fine = worst[5] < worst[call] && worst[call] - worst[5] <= MOST;
         printf("%s: %zu bytes of stack\n", names[call], worst[call] - worst[5]);
         if (fine) passed++;
         else failed++;
     }
+    if (worst[5] + KNOWN <= worst[6] && worst[6] <= worst[5] + KNOWN + 256) passed++; /* the measure itself */
+    else failed++, printf("a function of %d bytes: %zu, and the switch alone %zu\n", KNOWN, worst[6], worst[5]);
     printf("%d passed, %d failed\n", passed, failed);
     return failed != 0;
 }

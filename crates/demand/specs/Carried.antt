@@ -2,7 +2,7 @@
 use mathlib.Core.Path.{_≡_, refl, ap, sym, _∙_, subst}
 use mathlib.Core.Logic.{_≢_, _⊎_, inl, inr, ⊎-elim, ite, if-pos, if-neg}
 use mathlib.Core.Bool.{Bool, true, false, cond, _&&_, not, false≢true}
-use mathlib.Core.List.{List, [], _∷_, List·Memᴰ, List·Memᴰ·cases-cons}
+use mathlib.Core.List.{List, [], _∷_, List·Memᴰ, List·Memᴰ·head as here, List·Memᴰ·tail as there, List·Memᴰ·cases-cons}
 use Prim.Native.Nat.{ℕ, zero, suc, _+_, _-_, _*_, _/_, _%_, _≤_, _<_}
 use native.Mathlib.Nat.{mod-lt}
 use native.Mathlib.Omega.{arith}
@@ -10,9 +10,9 @@ use native.Mathlib.Decide.{ℕ-discrete}
 use lib.Dec.{ltb}
 use lib.ListN.{length, getD, set, length-set}
 use lib.Seq.{getD-set-same, getD-set-other}
-use borrow.Author.Tests.{lt-ltb}
+use borrow.Author.Tests.{ltb-true, lt-ltb, not-true}
 use Rattle.laws.specs.Lists.{part, zeroed, allZero, among}
-use Rattle.laws.specs.ListLaws.{among-none, length-part, getD-part, allZero-at, allZero-of}
+use Rattle.laws.specs.ListLaws.{length-zeroed, not-among, among-none, length-part, getD-part, allZero-at, allZero-of}
 use Rattle.path.specs.Geometry.{Granule, pageSize, entries, sizeAt, Sane}
 use Rattle.path.specs.Laws.{entries-pos}
 use Rattle.path.specs.Paths.{pathOf}
@@ -25,7 +25,7 @@ use Rattle.tree.specs.Tree.{Ent, empty, frame, table, Geo, Rendered}
 use Rattle.tree.specs.Inv.{Store}
 use Rattle.tree.specs.Ops.{grow, mem, Mem}
 use Rattle.tree.specs.Prune.{Bare, bare?, Pool, pool, prune}
-use Rattle.demand.specs.Shown.{pg, baseOf, attrsOf}
+use Rattle.demand.specs.Shown.{and-true, pg, baseOf, attrsOf}
 use Rattle.demand.specs.Arm.{geo}
 use Rattle.demand.specs.Memories as memories
 use Rattle.demand.specs.Memories.{readAt, placeAt, table-ends, in-table}
@@ -74,6 +74,59 @@ module _ (G : Granule) (Z : Sane G) (area : Area) (top : ℕ) (al : GoodArea G a
       where
         c : ℕ
         c = getD list (f - 1) 0
+
+  -- tables that may be taken from the end of a free list are of the pool, none is the root, none was seen, and none stands twice
+  pub record Chosen (list seen : List ℕ) (f need : ℕ) : Type 0 where
+    pub some : (i : ℕ) → i < f → f ≤ i + need → 0 < placeAt list i
+    pub low : (i : ℕ) → i < f → f ≤ i + need → placeAt list i < total area
+    pub unseen : (i : ℕ) → i < f → f ≤ i + need → List·Memᴰ (placeAt list i) seen → ⊥
+    pub once : (i j : ℕ) → i < f → f ≤ i + need → j < f → f ≤ j + need → placeAt list i ≡ placeAt list j → i ≡ j
+
+  -- one more before the others
+  chosen-more : (list : List ℕ) (need f : ℕ) (seen : List ℕ) → suc need ≤ f → 0 < placeAt list (f - 1) → placeAt list (f - 1) < total area
+      → among (placeAt list (f - 1)) seen ≡ false → Chosen list (placeAt list (f - 1) ∷ seen) (f - 1) need → Chosen list seen f (suc need)
+  chosen-more list need f seen l s₀ l₀ u₀ N = record {
+    some = λ i a b. some i a b (ℕ-discrete i (f - 1));
+    low = λ i a b. low i a b (ℕ-discrete i (f - 1));
+    unseen = λ i a b m. unseen i a b m (ℕ-discrete i (f - 1));
+    once = λ i j a b c d q. once i j a b c d q (ℕ-discrete i (f - 1)) (ℕ-discrete j (f - 1));
+  }
+    where
+      c : ℕ
+      c = placeAt list (f - 1)
+
+      some : (i : ℕ) → i < f → f ≤ i + suc need → Dec (i ≡ f - 1) → 0 < placeAt list i
+      some i a b (yes z) = rw z s₀
+      some i a b (no d) = N .some i (omega arith) (omega arith)
+
+      low : (i : ℕ) → i < f → f ≤ i + suc need → Dec (i ≡ f - 1) → placeAt list i < total area
+      low i a b (yes z) = rw z l₀
+      low i a b (no d) = N .low i (omega arith) (omega arith)
+
+      unseen : (i : ℕ) → i < f → f ≤ i + suc need → List·Memᴰ (placeAt list i) seen → Dec (i ≡ f - 1) → ⊥
+      unseen i a b m (yes z) = not-among c seen u₀ (subst (λ (x : ℕ). List·Memᴰ x seen) (ap (placeAt list) z) m)
+      unseen i a b m (no d) = N .unseen i (omega arith) (omega arith) (there m)
+
+      once : (i j : ℕ) → i < f → f ≤ i + suc need → j < f → f ≤ j + suc need → placeAt list i ≡ placeAt list j → Dec (i ≡ f - 1) → Dec (j ≡ f - 1) → i ≡ j
+      once i j a b k d q (yes y) (yes z) = y ∙ sym z
+      once i j a b k d q (yes y) (no z) = absurd (N .unseen j (omega arith) (omega arith) (here (sym q ∙ ap (placeAt list) y)))
+      once i j a b k d q (no y) (yes z) = absurd (N .unseen i (omega arith) (omega arith) (here (q ∙ ap (placeAt list) z)))
+      once i j a b k d q (no y) (no z) = N .once i j (omega arith) (omega arith) (omega arith) (omega arith) q
+
+  pub chosen : (list : List ℕ) (need f : ℕ) (seen : List ℕ) → need ≤ f → mayTake list (total area) seen f need ≡ true → Chosen list seen f need
+  unfolding mayTake
+  chosen list zero f seen l e = record {
+    some = λ i a b. absurd (omega arith);
+    low = λ i a b. absurd (omega arith);
+    unseen = λ i a b m. omega arith;
+    once = λ i j a b c d q. absurd (omega arith);
+  }
+  chosen list (suc need) f seen l e =
+      let (x, e₁) = and-true _ _ e in
+      let (y, e₂) = and-true _ _ e₁ in
+      let (z, e₃) = and-true _ _ e₂ in
+      chosen-more list need f seen l (ltb-true 0 (placeAt list (f - 1)) x) (ltb-true (placeAt list (f - 1)) (total area) y) (not-true _ z)
+      (chosen list need (f - 1) (placeAt list (f - 1) ∷ seen) (omega arith) e₃)
 
   -- tables may be taken from the end of a sound pool's free list
   module _ {T : ℕ → ℕ → ℕ} {S : ℕ → ℕ → Ent} {W : ℕ → ℕ → ℕ} (R : Rendered X W T S) (list : List ℕ) where

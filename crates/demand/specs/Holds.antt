@@ -1,15 +1,26 @@
--- A pool holds a ledger: the audit's rules are kept, the numbers are the ledger's, and the mappings found in the words are the ledger's, in
+-- A pool whose words are a tree; and a pool that holds a ledger: the audit's rules are kept, the numbers are the ledger's, and the mappings found in the words are the ledger's, in
 -- whatever order.
 use mathlib.Core.Path.{_≡_}
+use Prim.Native.Nat.{_-_}
 use mathlib.Core.List.{List, List·Memᴰ}
 use lib.ListN.{length}
 use Rattle.path.specs.Geometry.{Granule}
 use Rattle.path.specs.Areas.{areaOf}
 use Rattle.path.specs.Numbers.{GoodSetup}
 use Rattle.model.specs.Answers.{Mapping, Pool}
-use Rattle.model.specs.Sound.{SoundPool, mappingsOf}
-use Rattle.model.specs.Ledger.{Ledger}
+use Rattle.model.specs.Sound.{SoundTable, SoundPool, reachedOf, mappingsOf}
+use Rattle.model.specs.Ledger.{Ledger, ledger}
 use Rattle.laws.specs.Lists.{Distinct}
+
+-- the tree is well-formed: every table and every entry that is reached is sound, and no table is reached twice. Tables may be empty, and of the free
+-- list nothing is asked.
+pub record WfTree (G : Granule) (p : Pool) : Type 0 where
+  pub tree : SoundTable G (p .words) (areaOf (p .numbers)) (p .numbers .levels - 1) 0
+  pub once : Distinct (reachedOf G p)
+
+-- the pool's numbers and the mappings in its words, as a ledger
+abbrev pub ledgerOf : Granule → Pool → Ledger
+ledgerOf G p = ledger (p .numbers .levels) (areaOf (p .numbers)) (mappingsOf G p)
 
 pub record Holds (G : Granule) (p : Pool) (A : Ledger) : Type 0 where
   -- the pool's numbers and lengths are good, and the ledger's

@@ -15,3 +15,4 @@ pub mod Rest
 pub mod Theorem
 pub mod Clauses
 pub mod ClauseLaws
+pub mod Good

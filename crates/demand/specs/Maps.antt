@@ -1,4 +1,5 @@
--- Map on a pool that holds a ledger: the answer is the ledger's, and the pool after it holds the ledger after it.
+-- Map on a pool whose words are a tree: where tables that may be taken are unused, the pool after it has the mappings and the new one. On a pool that
+-- holds a ledger the answer is the ledger's, and the pool after it holds the ledger after it.
 use mathlib.Core.Path.{_≡_, refl, ap, sym, _∙_, subst, subst₂}
 use mathlib.Core.Logic.{_≢_, _⊎_, inl, inr, ⊎-elim}
 use mathlib.Core.Bool.{Bool, true, false, cond, false≢true}
@@ -28,8 +29,8 @@ use Rattle.model.specs.Calls.{walkTo, written, mapTests, mapHere, mapAt, mapW}
 use Rattle.model.specs.Ledger.{Ledger, ledger, withLive, anyOverlap, tablesLacking, tablesNeeded, freeTables, Entered, entered, mapL}
 use Rattle.tree.specs.Region.{anc, page, anc-page}
 use Rattle.tree.specs.Tree.{Ent, empty, frame, table, readOf, Geo}
-use Rattle.tree.specs.Inv.{Mapping, mapping, Inv, excuse}
-use Rattle.tree.specs.Ops.{grow, Mem, Mapped, Ready, grow-ok}
+use Rattle.tree.specs.Inv.{Mapping, mapping, InvIf, whole, excuse}
+use Rattle.tree.specs.Ops.{grow, Mem, Taken, free-taken, MappedIf, ReadyIf, grow-ok}
 use Rattle.tree.specs.Ledger.{lack, lack-is, none-meets, frame-meets, table-meets}
 use Rattle.tree.specs.Needed.{needed, pool-count}
 use Rattle.laws.specs.Lists.{Distinct}
@@ -38,7 +39,7 @@ use Rattle.demand.specs.Arm.{readEntry, payload-base, payload-attrs}
 use Rattle.demand.specs.Memories.{readAt, placeAt}
 use Rattle.demand.specs.Walks.{Ended, spot, wayAt, never-bad, entry-table}
 use Rattle.demand.specs.Carried.{A, map-carried, Fresh, may-take}
-use Rattle.demand.specs.Sims.{Sim}
+use Rattle.demand.specs.Sims.{SimIf}
 use Rattle.demand.specs.Queries.{area, n, k₀, al, X, R, own, pool-good, few, root-at, space-is, walk-ended, tables-above, entry-empty, entry-frame}
 
 -- what the tests of map's arguments say where none refuses
@@ -98,22 +99,25 @@ ledgerMap G B a b size k =
     (entered (took need) (withLive B (answers.mapping a b size k ∷ B .live))))
 
 -- a call of the words and one of the ledger come to the same
-pub record Alike (G : Granule) (Z : Sane G) (d : Done) (e : Entered) : Type 0 where
+pub record AlikeIf (C D : Type 0) (G : Granule) (Z : Sane G) (d : Done) (e : Entered) : Type 0 where
   pub answer : d .answer ≡ e .answer
-  pub sim : Sim G Z (d .after) (e .after)
+  pub sim : SimIf G Z C D (d .after) (e .after)
 
-module _ (G : Granule) (Z : Sane G) {p : Pool} {B : Ledger} (I : Sim G Z p B) where
+abbrev pub Alike : (G : Granule) → Sane G → Done → Entered → Type 0
+Alike G Z d e = AlikeIf (Unit {0}) (Unit {0}) G Z d e
+
+module _ (G : Granule) (Z : Sane G) {C D : Type 0} {p : Pool} {B : Ledger} (I : SimIf G Z C D p B) where
   abbrev f : ℕ
   f = p .numbers .free
 
-  -- the pool holds its own ledger
-  pub own-sim : Sim G Z p (own G Z I)
+  -- the pool with its own ledger
+  pub own-sim : SimIf G Z C D p (own G Z I)
   own-sim = record { good = I .good; levels-are = refl; area-is = refl; L = I .L; live-is = refl; once = I .once; T = I .T; S = I .S; inv = I .inv }
 
   -- the free count is the ledger's
-  pub free-is : freeTables G (own G Z I) ≡ f
+  pub free-is : C → D → freeTables G (own G Z I) ≡ f
   unfolding freeTables tablesNeeded
-  free-is = omega (arith, needed-count G Z (k₀ G Z I) (I .L), pool-count (I .inv) (k₀ G Z I) (root-at G Z I))
+  free-is c d = omega (arith, needed-count G Z (k₀ G Z I) (I .L), pool-count (whole (I .inv) c d) (k₀ G Z I) (root-at G Z I))
 
   module _ (a b size k : ℕ) (F : Fine G (p .numbers .levels) a b size k) where
     abbrev g : ℕ
@@ -178,11 +182,11 @@ module _ (G : Granule) (Z : Sane G) {p : Pool} {B : Ledger} (I : Sim G Z p B) wh
     ledgerSays = ledgerMap G (own G Z I) a b size k
 
     -- something is met
-    six : Met G Z g r (I .L) → Alike G Z (refuse 6 p) ledgerSays
-    six m = rw (overlap-is ∙ met-overlap G Z g r (I .L) m) (record { answer = refl; sim = own-sim })
+    pub met-any : (m : Mapping) × List·Memᴰ m (I .L) × Rattle.tree.specs.Ledger.Meets (entries G) g v m → anyOverlap a size (map (shown G Z) (I .L)) ≡ true
+    met-any (m, c, d) = overlap-is ∙ met-overlap G Z g r (I .L) (m, c, subst (λ (w : ℕ). Rattle.tree.specs.Ledger.Meets (entries G) g w m) (sym page-is) d)
 
-    to-met : (m : Mapping) × List·Memᴰ m (I .L) × Rattle.tree.specs.Ledger.Meets (entries G) g v m → Met G Z g r (I .L)
-    to-met (m, c, d) = (m, c, subst (λ (w : ℕ). Rattle.tree.specs.Ledger.Meets (entries G) g w m) (sym page-is) d)
+    six : (m : Mapping) × List·Memᴰ m (I .L) × Rattle.tree.specs.Ledger.Meets (entries G) g v m → AlikeIf C D G Z (refuse 6 p) ledgerSays
+    six m = rw (met-any m) (record { answer = refl; sim = own-sim })
 
     -- at an empty entry nothing is met, and so many tables are lacking as lie between it and the target
     module _ (vacant : I .S s (anc (entries G) s v) ≡ empty) where
@@ -194,8 +198,8 @@ module _ (G : Granule) (Z : Sane G) {p : Pool} {B : Ledger} (I : Sim G Z p B) wh
           go true e = let (m, c, d) = overlap-met G Z g r (I .L) (sym overlap-is ∙ e) in
               absurd (none-meets (R G Z I) (I .inv .holds) (E .ends) low vacant m c (subst (λ (w : ℕ). Rattle.tree.specs.Ledger.Meets (entries G) g w m) page-is d))
 
-      need-is : tablesLacking G (p .numbers .levels) (map (shown G Z) (I .L)) (answers.mapping a b size k) ≡ s - g
-      need-is = lacking ∙ lack-is (I .inv) g v s (E .ends .parent) vacant (E .ends .target low) (k₀ G Z I) (omega (arith, root-at G Z I)) ∙ omega (arith, E .ends .low)
+      need-is : C → tablesLacking G (p .numbers .levels) (map (shown G Z) (I .L)) (answers.mapping a b size k) ≡ s - g
+      need-is c = lacking ∙ lack-is (I .inv) c g v s (E .ends .parent) vacant (E .ends .target low) (k₀ G Z I) (omega (arith, root-at G Z I)) ∙ omega (arith, E .ends .low)
 
       pub s-low : s < 4
       s-low = omega (arith, E .ends .low, root-at G Z I, few G Z I)
@@ -211,9 +215,13 @@ module _ (G : Granule) (Z : Sane G) {p : Pool} {B : Ledger} (I : Sim G Z p B) wh
         abbrev grown : Mem (A G Z (area G Z I) (p .numbers .levels) (al G Z I))
         grown = grow (X G Z I) (A G Z (area G Z I) (p .numbers .levels) (al G Z I)) (placeAt (p .list)) g v x s (p .words) t f
 
+        -- the tables that it takes are unused
+        abbrev pub Takes : Type 0
+        Takes = Taken (X G Z I) (placeAt (p .list)) (I .T) (I .S) f (s - g)
+
         -- where growing starts
-        unfoldable pub ready : Ready (X G Z I) (A G Z (area G Z I) (p .numbers .levels) (al G Z I)) (placeAt (p .list)) g v x (I .L) s
-        ready = record {
+        unfoldable pub ready : Takes → ReadyIf (X G Z I) (A G Z (area G Z I) (p .numbers .levels) (al G Z I)) (placeAt (p .list)) g v x C D (I .L) s
+        ready tk = record {
           m = p .words;
           t = t;
           f = f;
@@ -227,56 +235,57 @@ module _ (G : Granule) (Z : Sane G) {p : Pool} {B : Ledger} (I : Sim G Z p B) wh
           above = E .ends .target low;
           room = room;
           good = good-frame;
+          taken = tk;
         }
 
-        M : Mapped (X G Z I) (A G Z (area G Z I) (p .numbers .levels) (al G Z I)) (placeAt (p .list)) g v x (I .L) f (s - g) grown
+        M : Takes → MappedIf (X G Z I) (A G Z (area G Z I) (p .numbers .levels) (al G Z I)) (placeAt (p .list)) g v x C D (I .L) f (s - g) grown
         unfolding ready
-        M = grow-ok (X G Z I) (A G Z (area G Z I) (p .numbers .levels) (al G Z I)) (placeAt (p .list)) g v x s ready
+        M tk = grow-ok (X G Z I) (A G Z (area G Z I) (p .numbers .levels) (al G Z I)) (placeAt (p .list)) g v x s (ready tk)
 
         pub carried : performAll G (mapWrites G (area G Z I) (pathOf G a) (p .list) g (frameWord b g k) t f (s - g)) (memory (p .words) (p .list)) ≡ memory (grown .m) (p .list)
         carried = ap (λ (w : ℕ). performAll G (mapWrites G (area G Z I) (pathOf G a) (p .list) g w t f (s - g)) (memory (p .words) (p .list)))
             (ap (λ (z : ℕ). frameWord z g k) (sym base-back) ∙ ap (frameWord (baseOf x) g) (sym attrs-back))
             ∙ map-carried G Z (area G Z I) (p .numbers .levels) (al G Z I) v (pathOf G a) (spot G Z (area G Z I) (p .numbers .levels) (al G Z I) (few G Z I) (p .words) (R G Z I) a) (p .list) g x (s - g) s (omega (arith, E .ends .target low)) s-low (p .words) (p .list) t f
 
-        may : mayTake (p .list) (n G Z I) (o .tables) f (s - g) ≡ true
-        may = may-take G Z (area G Z I) (p .numbers .levels) (al G Z I) (R G Z I) (p .list) (s - g) f (o .tables) (record {
-          each = I .inv .free .each;
-          once = I .inv .free .once;
-          unseen = λ i l m. ⊎-elim (λ z. I .inv .free .each i l .1 (p .numbers .levels) 0 (R G Z I .root) (R G Z I .root-at ∙ sym z))
-              (λ (j, c, d, e). I .inv .free .each i l .1 j (anc (entries G) j v) (tables-above G Z I g a o E j c d) e) (E .way .known (placeAt (p .list) i) m);
+        may : D → mayTake (p .list) (n G Z I) (o .tables) f (s - g) ≡ true
+        may spare = may-take G Z (area G Z I) (p .numbers .levels) (al G Z I) (R G Z I) (p .list) (s - g) f (o .tables) (record {
+          each = I .inv .spare spare .free .each;
+          once = I .inv .spare spare .free .once;
+          unseen = λ i l m. ⊎-elim (λ z. I .inv .spare spare .free .each i l .1 (p .numbers .levels) 0 (R G Z I .root) (R G Z I .root-at ∙ sym z))
+              (λ (j, q, d, e). I .inv .spare spare .free .each i l .1 j (anc (entries G) j v) (tables-above G Z I g a o E j q d) e) (E .way .known (placeAt (p .list) i) m);
         }) room
 
-        after : Sim G Z (written G p (mapWrites G (area G Z I) (pathOf G a) (p .list) g (frameWord b g k) t f (s - g)) (f - (s - g))) (withLive (own G Z I) (answers.mapping a b size k ∷ map (shown G Z) (I .L)))
-        after = rw carried (record {
-          good = regood (I .good) (length (grown .m)) (length (p .list)) (f - (s - g)) (M .ok) (I .good .numbers .places-are) (omega (arith, I .good .room));
+        pub map-after : Takes → SimIf G Z C D (written G p (mapWrites G (area G Z I) (pathOf G a) (p .list) g (frameWord b g k) t f (s - g)) (f - (s - g))) (withLive (own G Z I) (answers.mapping a b size k ∷ map (shown G Z) (I .L)))
+        map-after tk = rw carried (record {
+          good = regood (I .good) (length (grown .m)) (length (p .list)) (f - (s - g)) (M tk .ok) (I .good .numbers .places-are) (omega (arith, I .good .room));
           levels-are = refl;
           area-is = refl;
           L = mapping g r x ∷ I .L;
           live-is = ap (λ (m : answers.Mapping). m ∷ map (shown G Z) (I .L)) (sym new-shown);
           once = (λ m. none-meets (R G Z I) (I .inv .holds) (E .ends) low vacant (mapping g r x) m (ap (anc (entries G) (max g g)) (sym page-is)), I .once);
-          T = M .T;
-          S = M .S;
-          inv = subst₂ (λ (c d : ℕ). Inv (X G Z I) (readAt G (grown .m)) (placeAt (p .list)) c (M .T) (M .S) (mapping g d x ∷ I .L) (p .numbers .levels) 0) (omega (arith, M .count)) region-is (M .inv);
+          T = M tk .T;
+          S = M tk .S;
+          inv = subst₂ (λ (c d : ℕ). InvIf C D (X G Z I) (readAt G (grown .m)) (placeAt (p .list)) c (M tk .T) (M tk .S) (mapping g d x ∷ I .L) (p .numbers .levels) 0) (omega (arith, M tk .count)) region-is (M tk .inv);
         })
 
-    pub map-alike : (e : Entry) → o .entry ≡ e → Alike G Z (mapAt G p a b g k o e) ledgerSays
+    pub map-alike : C → D → (e : Entry) → o .entry ≡ e → AlikeIf C D G Z (mapAt G p a b g k o e) ledgerSays
     unfolding mapAt mapHere
-    map-alike e q = at e (ap readEntry (sym q) ∙ E .ends .says-is)
+    map-alike all spare e q = at e (ap readEntry (sym q) ∙ E .ends .says-is)
       where
         free : (vacant : I .S s (anc (entries G) s v) ≡ empty) (y : Bool) → ltb f (s - g) ≡ y
-            → Alike G Z
+            → AlikeIf C D G Z
             (cond y (refuse 7 p)
             (cond (mayTake (p .list) (n G Z I) (o .tables) f (s - g))
             (done (took (s - g)) (written G p (mapWrites G (area G Z I) (pathOf G a) (p .list) g (frameWord b g k) (atHeight (o .tables) s) f (s - g)) (f - (s - g))))
             (refuse 8 p)))
             (cond y (entered (refused 7) (own G Z I)) (entered (took (s - g)) (withLive (own G Z I) (answers.mapping a b size k ∷ map (shown G Z) (I .L)))))
         free vacant true e = record { answer = refl; sim = own-sim }
-        free vacant false e = let room = ltb-false f (s - g) e in rw (may vacant room) (record { answer = refl; sim = after vacant room })
+        free vacant false e = let room = ltb-false f (s - g) e in rw (may vacant room spare) (record { answer = refl; sim = map-after vacant room (free-taken (I .inv .spare spare .free)) })
 
-        at : (e : Entry) → readEntry e ≡ readOf (I .S s (anc (entries G) s v)) (I .T s (anc (entries G) s v)) → Alike G Z (mapAt G p a b g k o e) ledgerSays
-        at (Frame c d) z = six (to-met (frame-meets (R G Z I) (I .inv .holds) (E .ends) low (c + d) (entry-frame (I .S s (anc (entries G) s v)) (I .T s (anc (entries G) s v)) (c + d) z)))
-        at (Table c) z = six (to-met (table-meets (I .inv) (E .ends) (entry-table (I .S s (anc (entries G) s v)) (I .T s (anc (entries G) s v)) c z .0)))
+        at : (e : Entry) → readEntry e ≡ readOf (I .S s (anc (entries G) s v)) (I .T s (anc (entries G) s v)) → AlikeIf C D G Z (mapAt G p a b g k o e) ledgerSays
+        at (Frame c d) z = six (frame-meets (R G Z I) (I .inv .holds) (E .ends) low (c + d) (entry-frame (I .S s (anc (entries G) s v)) (I .T s (anc (entries G) s v)) (c + d) z))
+        at (Table c) z = six (table-meets (I .inv) all (E .ends) (entry-table (I .S s (anc (entries G) s v)) (I .T s (anc (entries G) s v)) c z .0))
         at Damaged z = absurd (never-bad (I .S s (anc (entries G) s v)) (I .T s (anc (entries G) s v)) z)
         at Empty z =
             let vacant = entry-empty (I .S s (anc (entries G) s v)) (I .T s (anc (entries G) s v)) z in
-            rw (none-overlap vacant, need-is vacant, free-is) (free vacant (ltb f (s - g)) refl)
+            rw (none-overlap vacant, need-is vacant all, free-is all spare) (free vacant (ltb f (s - g)) refl)

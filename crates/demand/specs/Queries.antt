@@ -1,4 +1,4 @@
--- A pool that holds a ledger: the walk from its root, and query.
+-- A pool whose words are a tree: the walk from its root, and query.
 use mathlib.Core.Path.{_≡_, refl, ap, sym, _∙_, subst}
 use mathlib.Core.Logic.{_≢_, _⊎_, inl, inr, ⊎-elim}
 use mathlib.Core.Bool.{Bool, true, false, cond}
@@ -28,13 +28,13 @@ use Rattle.model.specs.Ledger.{Ledger, ledger, coverOf, queryOf, queryL}
 use Rattle.tree.specs.Region.{anc}
 use Rattle.tree.specs.Tree.{Ent, empty, frame, table, table≢empty, readOf, rEmpty, rFrame, Geo, Rendered}
 use Rattle.tree.specs.Walk.{Rooted, rooted, chain, Ends}
-use Rattle.tree.specs.Inv.{Mapping, mapping, Inv}
+use Rattle.tree.specs.Inv.{Mapping, mapping}
 use Rattle.tree.specs.Ledger.{lookup, ended, query-none, query-some}
 use Rattle.demand.specs.Shown.{shown, pg, anc-size, cover-lookup, base-is, baseOf, attrsOf}
 use Rattle.demand.specs.Arm.{readEntry, geo, payload-base, payload-attrs}
 use Rattle.demand.specs.Memories.{readAt}
 use Rattle.demand.specs.Walks.{stopOf, Ended, Way, no-way, walk-ends, never-bad, entry-table}
-use Rattle.demand.specs.Sims.{Sim, root-height}
+use Rattle.demand.specs.Sims.{SimIf, root-height}
 
 -- an entry that reads as empty, and one that reads as a frame
 pub entry-empty : (s : Ent) (t : ℕ) → rEmpty ≡ readOf s t → s ≡ empty
@@ -47,7 +47,7 @@ entry-frame empty t x q = cc
 entry-frame (frame y) t x q = cc
 entry-frame table t x q = cc
 
-module _ (G : Granule) (Z : Sane G) {p : Pool} {A : Ledger} (I : Sim G Z p A) where
+module _ (G : Granule) (Z : Sane G) {C D : Type 0} {p : Pool} {A : Ledger} (I : SimIf G Z C D p A) where
   abbrev pub area : Area
   area = areaOf (p .numbers)
 

@@ -30,7 +30,7 @@ use Rattle.demand.specs.Shown.{shownRegion, needed-shown, pg, anc-size, 
 use Rattle.demand.specs.Arm.{readEntry}
 use Rattle.demand.specs.Walks.{Ended}
 use Rattle.demand.specs.Holds.{Holds}
-use Rattle.demand.specs.Sims.{Sim, sim-holds, reached-is}
+use Rattle.demand.specs.Sims.{SimIf, Sim, sim-holds, reached-is}
 use Rattle.demand.specs.Queries.{k₀, R, own, pool-good, root-at, space-is, walk-ended, tables-above}
 use Rattle.demand.specs.Maps.{own-sim, free-is}
 use Rattle.demand.specs.Others.{audit-own}
@@ -43,7 +43,7 @@ entry-is (Frame b k) c q = cc
 entry-is (Table d) c q = cc
 entry-is Damaged c q = cc
 
-module _ (G : Granule) (Z : Sane G) {p : Pool} {A : Ledger} (I : Sim G Z p A) where
+module _ (G : Granule) (Z : Sane G) {C D : Type 0} {p : Pool} {A : Ledger} (I : SimIf G Z C D p A) where
   abbrev k : ℕ
   k = k₀ G Z I
 
@@ -51,7 +51,7 @@ module _ (G : Granule) (Z : Sane G) {p : Pool} {A : Ledger} (I : Sim G Z p A) wh
   top = p .numbers .levels
 
   -- a table of the tree below the root stands for its region
-  table-stands : (h r : ℕ) → h ≤ k → I .S h r ≡ table → StandsFor G p h (r * sizeAt G h) (I .T h r)
+  pub table-stands : (h r : ℕ) → h ≤ k → I .S h r ≡ table → StandsFor G p h (r * sizeAt G h) (I .T h r)
   table-stands h r l s = (entry-is (o .entry) (I .T h r) entry, left)
     where
       a : ℕ
@@ -88,21 +88,22 @@ module _ (G : Granule) (Z : Sane G) {p : Pool} {A : Ledger} (I : Sim G Z p A) wh
       entry : readEntry (o .entry) ≡ rTable (I .T h r)
       entry = E .ends .says-is ∙ ap (λ (j : ℕ). readOf (I .S j (anc (entries G) j v)) (I .T j (anc (entries G) j v))) left ∙ ap (λ (e : Ent). readOf e (I .T h (anc (entries G) h v))) stands ∙ ap (λ (q : ℕ). rTable (I .T h q)) at-h
 
+module _ (G : Granule) (Z : Sane G) {p : Pool} {A : Ledger} (I : Sim G Z p A) where
   -- a region that the ledger needs is one of the tree
-  region-needed : (h a : ℕ) → NeededBy G (own G Z I) h a → (q : Reg) × List·Memᴰ q (needed (entries G) k (I .L)) × (q.h ≡ h) × (q.r * sizeAt G h ≡ a)
-  region-needed h a m = let (q, b, e) = Memᴰ·of-map (shownRegion G Z) (needed (entries G) k (I .L)) (subst (λ (l : List Region). List·Memᴰ (region (sizeAt G h) a) l) (needed-shown G Z k (I .L)) m) in
+  region-needed : (h a : ℕ) → NeededBy G (own G Z I) h a → (q : Reg) × List·Memᴰ q (needed (entries G) (k₀ G Z I) (I .L)) × (q.h ≡ h) × (q.r * sizeAt G h ≡ a)
+  region-needed h a m = let (q, b, e) = Memᴰ·of-map (shownRegion G Z) (needed (entries G) (k₀ G Z I) (I .L)) (subst (λ (l : List Region). List·Memᴰ (region (sizeAt G h) a) l) (needed-shown G Z (k₀ G Z I) (I .L)) m) in
       let u = size-injective G Z q.h h (ap (λ (z : Region). z .size) e) in
       (q, b, u, ap (λ (j : ℕ). q.r * sizeAt G j) (sym u) ∙ ap (λ (z : Region). z .first) e)
 
-  needed-region : (q : Reg) → List·Memᴰ q (needed (entries G) k (I .L)) → NeededBy G (own G Z I) q.h (q.r * sizeAt G q.h)
-  needed-region q m = subst (λ (l : List Region). List·Memᴰ (shownRegion G Z q) l) (sym (needed-shown G Z k (I .L))) (Memᴰ·map (shownRegion G Z) m)
+  needed-region : (q : Reg) → List·Memᴰ q (needed (entries G) (k₀ G Z I) (I .L)) → NeededBy G (own G Z I) q.h (q.r * sizeAt G q.h)
+  needed-region q m = subst (λ (l : List Region). List·Memᴰ (shownRegion G Z q) l) (sym (needed-shown G Z (k₀ G Z I) (I .L))) (Memᴰ·map (shownRegion G Z) m)
 
   -- its table
-  region-table : (h a : ℕ) → NeededBy G (own G Z I) h a → (r : ℕ) × (h ≤ k) × (r * sizeAt G h ≡ a) × (I .S h r ≡ table) × List·Memᴰ (I .T h r) (needed-tables (I .inv) k (root-at G Z I))
-  region-table h a m = let (q, b, e, f) = region-needed h a m in let (l, _) = needed-from (entries G) k (I .L) q b in
-      (q.r, omega arith, f, subst (λ (j : ℕ). I .S j q.r ≡ table) e (is-table (I .inv) k (root-at G Z I) q b), subst (λ (j : ℕ). List·Memᴰ (I .T j q.r) (needed-tables (I .inv) k (root-at G Z I))) e (Memᴰ·map (λ (z : Reg). I .T z.h z.r) b))
+  region-table : (h a : ℕ) → NeededBy G (own G Z I) h a → (r : ℕ) × (h ≤ (k₀ G Z I)) × (r * sizeAt G h ≡ a) × (I .S h r ≡ table) × List·Memᴰ (I .T h r) (needed-tables (I .inv) (k₀ G Z I) (root-at G Z I))
+  region-table h a m = let (q, b, e, f) = region-needed h a m in let (l, _) = needed-from (entries G) (k₀ G Z I) (I .L) q b in
+      (q.r, omega arith, f, subst (λ (j : ℕ). I .S j q.r ≡ table) e (is-table (I .inv) (k₀ G Z I) (root-at G Z I) q b), subst (λ (j : ℕ). List·Memᴰ (I .T j q.r) (needed-tables (I .inv) (k₀ G Z I) (root-at G Z I))) e (Memᴰ·map (λ (z : Reg). I .T z.h z.r) b))
 
-  in-reached : (t : ℕ) → List·Memᴰ t (0 ∷ tabs (Rattle.tree.specs.Visit.seen (Rattle.demand.specs.Sims.X G Z p (I .good)) (Rattle.demand.specs.Memories.readAt G (p .words)) k)) → List·Memᴰ t (reachedOf G p)
+  in-reached : (t : ℕ) → List·Memᴰ t (0 ∷ tabs (Rattle.tree.specs.Visit.seen (Rattle.demand.specs.Sims.X G Z p (I .good)) (Rattle.demand.specs.Memories.readAt G (p .words)) (k₀ G Z I))) → List·Memᴰ t (reachedOf G p)
   in-reached t m = subst (λ (l : List ℕ). List·Memᴰ t l) (sym (reached-is G Z p (I .good))) m
 
   H : Holds G p (own G Z I)
@@ -120,19 +121,19 @@ module _ (G : Granule) (Z : Sane G) {p : Pool} {A : Ledger} (I : Sim G Z p A) wh
   pub rests-own : Rests G p (own G Z I)
   rests-own = record {
     holds = H;
-    free-count = sym (free-is G Z I);
+    free-count = sym (free-is G Z I tt tt);
     once = all-distinct;
     all = λ t. (all-low t, λ l. has-all (p .numbers .tables) (reachedOf G p ++ freeOf p) all-distinct all-low (length-append (reachedOf G p) (freeOf p) ∙ omega (arith, H .sound .total, free-long)) t l);
-    reached-needed = λ t m. ⊎-elim (λ e. inl e) (λ n. let (q, b, e) = Memᴰ·of-map (λ (z : Reg). I .T z.h z.r) (needed (entries G) k (I .L)) (tabs-needed (I .inv) k (root-at G Z I) t n) in
-        let (l, _) = needed-from (entries G) k (I .L) q b in
-        inr (q.h, q.r * sizeAt G q.h, needed-region q b, subst (λ (u : ℕ). StandsFor G p q.h (q.r * sizeAt G q.h) u) e (table-stands q.h q.r l (is-table (I .inv) k (root-at G Z I) q b))))
+    reached-needed = λ t m. ⊎-elim (λ e. inl e) (λ n. let (q, b, e) = Memᴰ·of-map (λ (z : Reg). I .T z.h z.r) (needed (entries G) (k₀ G Z I) (I .L)) (tabs-needed (I .inv) (k₀ G Z I) (root-at G Z I) t n) in
+        let (l, _) = needed-from (entries G) (k₀ G Z I) (I .L) q b in
+        inr (q.h, q.r * sizeAt G q.h, needed-region q b, subst (λ (u : ℕ). StandsFor G p q.h (q.r * sizeAt G q.h) u) e (table-stands G Z I q.h q.r l (is-table (I .inv) (k₀ G Z I) (root-at G Z I) q b))))
         (List·Memᴰ·cases-cons (subst (λ (l : List ℕ). List·Memᴰ t l) (reached-is G Z p (I .good)) m));
     needed-reached = λ h a m. let (r, l, e, s, n) = region-table h a m in
-        (I .T h r, in-reached (I .T h r) (there (needed-tabs (I .inv) k (root-at G Z I) (I .T h r) n)), (λ z. omega (arith, nonzero (R G Z I) h r (omega (arith, root-at G Z I)) s)), subst (λ (u : ℕ). StandsFor G p h u (I .T h r)) e (table-stands h r l s));
+        (I .T h r, in-reached (I .T h r) (there (needed-tabs (I .inv) (k₀ G Z I) (root-at G Z I) (I .T h r) n)), (λ z. omega (arith, nonzero (R G Z I) h r (omega (arith, root-at G Z I)) s)), subst (λ (u : ℕ). StandsFor G p h u (I .T h r)) e (table-stands G Z I h r l s));
     one-region = λ h a h′ a′ t m m′ x y.
         let (r, l, e, s, _) = region-table h a m in let (r′, l′, e′, s′, _) = region-table h′ a′ m′ in
-        let u : Table (I .T h r) ≡ Table t = sym (subst (λ (w : ℕ). StandsFor G p h w (I .T h r)) e (table-stands h r l s) .0) ∙ x .0 in
-        let u′ : Table (I .T h′ r′) ≡ Table t = sym (subst (λ (w : ℕ). StandsFor G p h′ w (I .T h′ r′)) e′ (table-stands h′ r′ l′ s′) .0) ∙ y .0 in
+        let u : Table (I .T h r) ≡ Table t = sym (subst (λ (w : ℕ). StandsFor G p h w (I .T h r)) e (table-stands G Z I h r l s) .0) ∙ x .0 in
+        let u′ : Table (I .T h′ r′) ≡ Table t = sym (subst (λ (w : ℕ). StandsFor G p h′ w (I .T h′ r′)) e′ (table-stands G Z I h′ r′ l′ s′) .0) ∙ y .0 in
         let (c, d) = R G Z I .inj h r h′ r′ s s′ (cc) in
         (c, sym e ∙ (λ i. d i * sizeAt G (c i)) ∙ e′);
     audit = audit-own G Z I;

@@ -203,7 +203,7 @@ module _ (G : Granule) (Z : Sane G) where
   unfolding baseAt
   base-is a h = omega (arith, div-add-mod' a (sizeAt G h))
 
-  base-first : (m : Mapping) (h : ℕ) → baseAt G (m.r * sizeAt G m.h) h ≡ anc K h (page K m.h m.r) * sizeAt G h
+  pub base-first : (m : Mapping) (h : ℕ) → baseAt G (m.r * sizeAt G m.h) h ≡ anc K h (page K m.h m.r) * sizeAt G h
   base-first m h = base-is (m.r * sizeAt G m.h) h ∙ ap (λ (x : ℕ). x * sizeAt G h) (sym (first-in m.h h m.r))
 
   spine-none : (g v k : ℕ) → k ≤ g → spine K g v k ≡ []

@@ -1,4 +1,4 @@
--- A pool that holds a ledger is one of the tree's theory, and the other way round.
+-- A pool that holds a ledger is one of the tree's theory, and the other way round; and the same of a pool whose words are a tree, with no more known.
 use mathlib.Core.Path.{_≡_, refl, ap, sym, _∙_, subst}
 use mathlib.Core.Logic.{_≢_, _⊎_, inl, inr, ⊎-elim}
 use mathlib.Core.List.{List, [], _∷_, map, List·Memᴰ, List·Memᴰ·head as here, List·Memᴰ·tail as there, List·Memᴰ·not-nil, List·Memᴰ·cases-cons, Memᴰ·cast, Memᴰ·map, Memᴰ·of-map}
@@ -22,17 +22,17 @@ use Rattle.model.specs.Sound.{SoundPool, SoundEntry, SoundTable, wordAt, reache
 use Rattle.model.specs.Audit.{ofPool, ofTable, freeOf}
 use Rattle.model.specs.Ledger.{Ledger}
 use Rattle.tree.specs.Tree.{Ent, Geo}
-use Rattle.tree.specs.Inv.{Mapping, mapping, Inv}
+use Rattle.tree.specs.Inv.{Mapping, mapping, InvIf, Inv}
 use Rattle.tree.specs.Inv as inv
 use Rattle.tree.specs.Count.{Distinct, distinct-map}
 use Rattle.tree.specs.Visit.{seen}
-use Rattle.tree.specs.Reach.{tabs, maps, reached, maps-live, live-maps}
-use Rattle.tree.specs.Audit.{SoundE, SoundT, Accepts, accepted, accepts}
+use Rattle.tree.specs.Reach.{tabs, maps, reached, maps-distinct, maps-live, live-maps}
+use Rattle.tree.specs.Audit.{SoundE, SoundT, Accepts, IsTree, treeᵃ, treeᵃ-holds, kid, is-tree, tree-alive, accepted, accepts}
 use Rattle.demand.specs.Shown.{shown, baseOf, attrsOf}
 use Rattle.demand.specs.Arm.{readEntry, geo}
 use Rattle.demand.specs.Memories.{readAt, placeAt}
 use Rattle.demand.specs.Visits.{table-reached, table-mappings}
-use Rattle.demand.specs.Holds.{Holds}
+use Rattle.demand.specs.Holds.{WfTree, ledgerOf, Holds}
 
 -- the first f places of a list, by place
 place-mem : (f i : ℕ) (l : List ℕ) → f ≤ length l → i < f → List·Memᴰ (placeAt l i) (take f l)
@@ -66,8 +66,8 @@ module _ (G : Granule) (Z : Sane G) where
       x : a.x ≡ b.x
       x = omega (arith, ap (λ (m : answers.Mapping). m .frame) e, ap (λ (m : answers.Mapping). m .attributes) e)
 
-  -- a pool, the ledger it holds, and the tree between them
-  pub record Sim (p : Pool) (A : Ledger) : Type 0 where
+  -- a pool, the ledger of its mappings, and the tree between them; of entries and of the free list no more than C and D ask
+  pub record SimIf (C D : Type 0) (p : Pool) (A : Ledger) : Type 0 where
     pub good : GoodSetup G (p .numbers) (length (p .words)) (length (p .list))
     pub levels-are : p .numbers .levels ≡ A .levels
     pub area-is : areaOf (p .numbers) ≡ A .area
@@ -76,7 +76,11 @@ module _ (G : Granule) (Z : Sane G) where
     pub once : Distinct L
     pub T : ℕ → ℕ → ℕ
     pub S : ℕ → ℕ → Ent
-    pub inv : Inv (geo G Z (areaOf (p .numbers)) (p .numbers .levels) (good .numbers .placed)) (readAt G (p .words)) (placeAt (p .list)) (p .numbers .free) T S L (p .numbers .levels) 0
+    pub inv : InvIf C D (geo G Z (areaOf (p .numbers)) (p .numbers .levels) (good .numbers .placed)) (readAt G (p .words)) (placeAt (p .list)) (p .numbers .free) T S L (p .numbers .levels) 0
+
+  -- a pool and the ledger that it holds
+  abbrev pub Sim : Pool → Ledger → Type 0
+  Sim p A = SimIf (Unit {0}) (Unit {0}) p A
 
   module _ (p : Pool) (good : GoodSetup G (p .numbers) (length (p .words)) (length (p .list))) where
     abbrev area : Area
@@ -196,13 +200,13 @@ module _ (G : Granule) (Z : Sane G) where
   unshown (a ∷ L) d = (λ m. d .0 (Memᴰ·map (shown G Z) m), unshown L (d .1))
 
   -- the same invariant for a ledger with the same members
-  pub relist : {X : Geo} {W : ℕ → ℕ → ℕ} {P : ℕ → ℕ} {f : ℕ} {T : ℕ → ℕ → ℕ} {S : ℕ → ℕ → Ent} {L L′ : List Mapping} {h r : ℕ} → Inv X W P f T S L h r
-      → ((m : Mapping) → List·Memᴰ m L → List·Memᴰ m L′) → ((m : Mapping) → List·Memᴰ m L′ → List·Memᴰ m L) → Inv X W P f T S L′ h r
+  pub relist : {C D : Type 0} {X : Geo} {W : ℕ → ℕ → ℕ} {P : ℕ → ℕ} {f : ℕ} {T : ℕ → ℕ → ℕ} {S : ℕ → ℕ → Ent} {L L′ : List Mapping} {h r : ℕ} → InvIf C D X W P f T S L h r
+      → ((m : Mapping) → List·Memᴰ m L → List·Memᴰ m L′) → ((m : Mapping) → List·Memᴰ m L′ → List·Memᴰ m L) → InvIf C D X W P f T S L′ h r
   relist I f g = record {
     ren = I .ren;
-    dense = I .dense;
-    free = I .free;
     holds = record { listed = λ h r x q. f (mapping h r x) (I .holds .listed h r x q); live = λ m a. I .holds .live m (g m a) };
+    dense = I .dense;
+    spare = I .spare;
   }
 
   pub holds-sim : {p : Pool} {A : Ledger} → Holds G p A → Sim p A
@@ -239,24 +243,78 @@ module _ (G : Granule) (Z : Sane G) where
           let (c, d, e) = Memᴰ·of-map (shown G Z) (D .0) (subst (λ (l : List answers.Mapping). List·Memᴰ (shown G Z m) l) (D .1) b) in
           Memᴰ·cast (sym (shown-injective c m e)) d
 
-  pub sim-holds : {p : Pool} {A : Ledger} → Sim p A → Holds G p A
-  sim-holds {p} {A} I = record {
-    good = I .good;
-    levels-are = I .levels-are;
-    area-is = I .area-is;
-    sound = accepts-sound p (I .good) (accepts (I .inv) k₀ (root-height p (I .good)));
-    live = λ m a. let (b, c, e) = Memᴰ·of-map (shown G Z) (I .L) (subst (λ (l : List answers.Mapping). List·Memᴰ m l) (I .live-is) a) in
-        subst (λ (l : List answers.Mapping). List·Memᴰ m l) (sym (mappings-are p (I .good))) (Memᴰ·cast (sym e) (Memᴰ·map (shown G Z) (live-maps (I .inv) k₀ (root-height p (I .good)) b c)));
-    listed = λ m a. let (b, c, e) = Memᴰ·of-map (shown G Z) (maps (seen X₀ W₀ k₀)) (subst (λ (l : List answers.Mapping). List·Memᴰ m l) (mappings-are p (I .good)) a) in
-        subst (λ (l : List answers.Mapping). List·Memᴰ m l) (sym (I .live-is)) (Memᴰ·cast (sym e) (Memᴰ·map (shown G Z) (maps-live (I .inv) k₀ (root-height p (I .good)) b c)));
-    once = subst Distinct (sym (I .live-is)) (distinct-map (shown G Z) (I .L) (I .once) (λ a b _ _ e. shown-injective a b e));
+  -- a well-formed tree, with the mappings in its words; with entries in its tables where C holds
+  pub wf-sim : {C : Type 0} {p : Pool} → GoodSetup G (p .numbers) (length (p .words)) (length (p .list)) → WfTree G p
+      → (C → sound.Each (λ t. t ≢ 0 → sound.EmptyTable G (p .words) t → ⊥) (reachedOf G p)) → SimIf C ⊥ p (ledgerOf G p)
+  wf-sim {C} {p} good w alive = record {
+    good = good;
+    levels-are = refl;
+    area-is = refl;
+    L = maps (seen X₀ W₀ k₀);
+    live-is = mappings-are p good;
+    once = maps-distinct inv₀ k₀ top₀;
+    T = Rattle.tree.specs.Audit.Tᵃ X₀ W₀ k₀;
+    S = Rattle.tree.specs.Audit.Sᵃ X₀ W₀ k₀;
+    inv = inv₀;
   }
     where
       X₀ : Geo
-      X₀ = X p (I .good)
+      X₀ = X p good
 
       W₀ : ℕ → ℕ → ℕ
       W₀ = readAt G (p .words)
 
       k₀ : ℕ
       k₀ = p .numbers .levels - 1
+
+      top₀ : suc k₀ ≡ p .numbers .levels
+      top₀ = root-height p good
+
+      is : IsTree X₀ W₀ k₀
+      is = record { some-table = omega (arith, good .numbers .some-table); sound = table-to p good k₀ 0 (w .tree); distinct = subst Distinct (reached-is p good) (w .once) }
+
+      inv₀ : InvIf C ⊥ X₀ W₀ (placeAt (p .list)) (p .numbers .free) (Rattle.tree.specs.Audit.Tᵃ X₀ W₀ k₀) (Rattle.tree.specs.Audit.Sᵃ X₀ W₀ k₀) (maps (seen X₀ W₀ k₀)) (p .numbers .levels) 0
+      inv₀ = record { ren = treeᵃ top₀ is; holds = treeᵃ-holds top₀ is; dense = λ c h r q l _. kid top₀ is (λ t m z. alive c t (subst (λ (l : List ℕ). List·Memᴰ t l) (sym (reached-is p good)) (there m)) (λ e. is .distinct .0 (Memᴰ·cast (sym e) m)) z) h r q (omega arith); spare = λ d. absurd d }
+
+  module _ {C D : Type 0} {p : Pool} {A : Ledger} (I : SimIf C D p A) where
+    abbrev X₁ : Geo
+    X₁ = X p (I .good)
+
+    abbrev W₁ : ℕ → ℕ → ℕ
+    W₁ = readAt G (p .words)
+
+    abbrev k₁ : ℕ
+    k₁ = p .numbers .levels - 1
+
+    -- its words are a tree
+    pub sim-wf : WfTree G p
+    sim-wf = record {
+      tree = table-from p (I .good) k₁ 0 (is-tree (I .inv) k₁ (root-height p (I .good)) .sound);
+      once = subst Distinct (sym (reached-is p (I .good))) (is-tree (I .inv) k₁ (root-height p (I .good)) .distinct);
+    }
+
+    -- its tables but the root have entries
+    pub sim-used : C → sound.Each (λ t. t ≢ 0 → sound.EmptyTable G (p .words) t → ⊥) (reachedOf G p)
+    sim-used c t m ne z = ⊎-elim (λ e. ne e) (λ b. tree-alive (I .inv) c k₁ (root-height p (I .good)) t b z)
+        (List·Memᴰ·cases-cons (subst (λ (l : List ℕ). List·Memᴰ t l) (reached-is p (I .good)) m))
+
+    -- the ledger's mappings are in them
+    pub sim-live : (m : answers.Mapping) → List·Memᴰ m (A .live) → List·Memᴰ m (mappingsOf G p)
+    sim-live m a = let (b, c, e) = Memᴰ·of-map (shown G Z) (I .L) (subst (λ (l : List answers.Mapping). List·Memᴰ m l) (I .live-is) a) in
+        subst (λ (l : List answers.Mapping). List·Memᴰ m l) (sym (mappings-are p (I .good))) (Memᴰ·cast (sym e) (Memᴰ·map (shown G Z) (live-maps (I .inv) k₁ (root-height p (I .good)) b c)))
+
+    -- and no others
+    pub sim-listed : (m : answers.Mapping) → List·Memᴰ m (mappingsOf G p) → List·Memᴰ m (A .live)
+    sim-listed m a = let (b, c, e) = Memᴰ·of-map (shown G Z) (maps (seen X₁ W₁ k₁)) (subst (λ (l : List answers.Mapping). List·Memᴰ m l) (mappings-are p (I .good)) a) in
+        subst (λ (l : List answers.Mapping). List·Memᴰ m l) (sym (I .live-is)) (Memᴰ·cast (sym e) (Memᴰ·map (shown G Z) (maps-live (I .inv) k₁ (root-height p (I .good)) b c)))
+
+  pub sim-holds : {p : Pool} {A : Ledger} → Sim p A → Holds G p A
+  sim-holds {p} {A} I = record {
+    good = I .good;
+    levels-are = I .levels-are;
+    area-is = I .area-is;
+    sound = accepts-sound p (I .good) (accepts (I .inv) (p .numbers .levels - 1) (root-height p (I .good)));
+    live = sim-live I;
+    listed = sim-listed I;
+    once = subst Distinct (sym (I .live-is)) (distinct-map (shown G Z) (I .L) (I .once) (λ a b _ _ e. shown-injective a b e));
+  }

@@ -41,7 +41,7 @@ module _ (G : Granule) (Z : Sane G) where
         go : (y : Bool) → eqb no 0 ≡ y
             → Alike G Z (cond y (mapAt G p a b (heightOf G size) k (walkTo G p (heightOf G size) a) (walkTo G p (heightOf G size) a .entry)) (refuse no p))
             (cond y (ledgerMap G (own G Z I) a b size k) (entered (refused no) (own G Z I)))
-        go true e = map-alike G Z I a b size k (tests-fine G (p .numbers .levels) a b size k (eqb-true no 0 e)) (walkTo G p (heightOf G size) a .entry) refl
+        go true e = map-alike G Z I a b size k (tests-fine G (p .numbers .levels) a b size k (eqb-true no 0 e)) tt tt (walkTo G p (heightOf G size) a .entry) refl
         go false e = record { answer = refl; sim = own-sim G Z I }
 
     -- unmap's tests say that the address is in the space
@@ -63,7 +63,7 @@ module _ (G : Granule) (Z : Sane G) where
         go : (y : Bool) → eqb no 0 ≡ y
             → Alike G Z (cond y (unmapAt G p a (walkTo G p 0 a) (walkTo G p 0 a .entry)) (refuse no p))
             (cond y (unmapOf G (own G Z I) a (coverOf a (own G Z I .live))) (entered (refused no) (own G Z I)))
-        go true e = unmap-alike G Z I a (in-space a (eqb-true no 0 e)) (walkTo G p 0 a .entry) refl
+        go true e = unmap-alike G Z I a (in-space a (eqb-true no 0 e)) tt tt (walkTo G p 0 a .entry) refl
         go false e = record { answer = refl; sim = own-sim G Z I }
 
     format-step : (levels : ℕ) (area : Area) → Alike G Z (stepW G p (formatC levels area)) (formatL G (own G Z I) levels area)

@@ -1,4 +1,5 @@
--- Unmap on a pool that holds a ledger: the answer is the ledger's, and the pool after it holds the ledger after it.
+-- Unmap on a pool whose words are a tree: the pool after it has the mappings without the one at the address. On a pool that holds a ledger the answer
+-- is the ledger's, and the pool after it holds the ledger after it.
 use mathlib.Core.Path.{_≡_, refl, ap, sym, _∙_, subst, subst₂}
 use mathlib.Core.Logic.{_≢_, _⊎_, inl, inr, ⊎-elim}
 use mathlib.Core.Bool.{Bool, true, false, cond, false≢true}
@@ -30,9 +31,9 @@ use Rattle.model.specs.Ledger.{Ledger, ledger, withLive, coverOf, dropAt, freeT
 use Rattle.tree.specs.Region.{anc, page, Same, same?, upd, upd-other}
 use Rattle.tree.specs.Tree.{Ent, empty, frame, table, table≢empty, table≢frame, empty≢frame, readOf, Geo, Rendered}
 use Rattle.tree.specs.Walk.{chain, Ends, unmet}
-use Rattle.tree.specs.Inv.{Mapping, mapping, Inv, drop-if, without, without-gives, clear, reword}
+use Rattle.tree.specs.Inv.{Mapping, mapping, drop-if, without, without-gives, clear, reword}
 use Rattle.tree.specs.Prune as prunes
-use Rattle.tree.specs.Prune.{Loose, Pruned, prune, prune-ok}
+use Rattle.tree.specs.Prune.{LooseIf, PrunedIf, prune, prune-ok}
 use Rattle.tree.specs.Ledger.{lookup, ended, covers-at, query-none, query-some}
 use Rattle.tree.specs.Needed.{needed, pool-count}
 use Rattle.tree.specs.Count.{Distinct, free-room}
@@ -41,12 +42,12 @@ use Rattle.demand.specs.Arm.{readEntry, payload-base, payload-attrs}
 use Rattle.demand.specs.Memories.{readAt, placeAt, rd-wr}
 use Rattle.demand.specs.Walks.{Ended, spot, wayAt, never-bad, entry-table}
 use Rattle.demand.specs.Carried.{A, Cleared, clear-first, prune-carried}
-use Rattle.demand.specs.Sims.{Sim}
+use Rattle.demand.specs.Sims.{SimIf}
 use Rattle.demand.specs.Queries.{area, n, k₀, al, X, R, own, few, root-at, walk-ended, tables-above, entry-empty, entry-frame}
-use Rattle.demand.specs.Maps.{Alike, own-sim, free-is, regood}
+use Rattle.demand.specs.Maps.{AlikeIf, own-sim, free-is, regood}
 
 -- without one mapping nothing stands twice that did not before
-distinct-without : (h r : ℕ) (L : List Mapping) → Distinct L → Distinct (without h r L)
+pub distinct-without : (h r : ℕ) (L : List Mapping) → Distinct L → Distinct (without h r L)
 distinct-without h r [] d = tt
 distinct-without h r (m ∷ L) d = go (same? h r m.h m.r) (distinct-without h r L (d .1))
   where
@@ -54,7 +55,7 @@ distinct-without h r (m ∷ L) d = go (same? h r m.h m.r) (distinct-without h r 
     go (yes s) ih = ih
     go (no s) ih = (λ n. d .0 (without-gives h r m L n .0), ih)
 
-module _ (G : Granule) (Z : Sane G) {p : Pool} {B : Ledger} (I : Sim G Z p B) (a : ℕ) (in-space : a < spaceOf G (p .numbers .levels)) where
+module _ (G : Granule) (Z : Sane G) {C D : Type 0} {p : Pool} {B : Ledger} (I : SimIf G Z C D p B) (a : ℕ) (in-space : a < spaceOf G (p .numbers .levels)) where
   abbrev f : ℕ
   f = p .numbers .free
 
@@ -89,7 +90,7 @@ module _ (G : Granule) (Z : Sane G) {p : Pool} {B : Ledger} (I : Sim G Z p B) (a
   pub way-in : (j : ℕ) → h < j → j ≤ top → way j < n G Z I
   way-in j l m = subst (λ (t : ℕ). t < n G Z I) (sym (way-is j l m)) (R G Z I .range j (anc (entries G) j v) (tables-above G Z I 0 a o E j l m))
 
-  way-apart : (i j : ℕ) → h < i → i < j → j ≤ top → way i ≢ way j
+  pub way-apart : (i j : ℕ) → h < i → i < j → j ≤ top → way i ≢ way j
   way-apart i j l m q e = unmet (R G Z I) v i (tables-above G Z I 0 a o E i l (omega arith)) j m q (sym (way-is j (omega arith) q) ∙ sym e ∙ way-is i l (omega arith))
 
   -- a mapping that starts where this one does is this one
@@ -116,7 +117,7 @@ module _ (G : Granule) (Z : Sane G) {p : Pool} {B : Ledger} (I : Sim G Z p B) (a
     pub at-up : I .T (suc h) (r / entries G) ≡ way (suc h)
     at-up = sym (way-is (suc h) (omega arith) low)
 
-    unfoldable pub loose : Loose (X G Z I) (A G Z (area G Z I) top (al G Z I)) v way (without h r (I .L)) (k₀ G Z I - h) (suc h)
+    unfoldable pub loose : LooseIf (X G Z I) (A G Z (area G Z I) top (al G Z I)) v way C D (without h r (I .L)) (k₀ G Z I - h) (suc h)
     loose = record {
       m = words₁;
       q = p .list;
@@ -126,7 +127,7 @@ module _ (G : Granule) (Z : Sane G) {p : Pool} {B : Ledger} (I : Sim G Z p B) (a
       ok = length-set (p .words) (slot G (way (suc h)) (r % entries G)) 0 ∙ I .good .numbers .words-are;
       okᶠ = I .good .numbers .places-are;
       inv = reword (rw at-up at (clear h r x (I .inv) z))
-          (rd-wr G Z (area G Z I) top (al G Z I) (p .words) (way (suc h)) (r % entries G) 0 (I .good .numbers .words-are) (way-in (suc h) (omega arith) low) (mod-lt r (entries-pos G))) (λ i l. refl);
+          (rd-wr G Z (area G Z I) top (al G Z I) (p .words) (way (suc h)) (r % entries G) 0 (I .good .numbers .words-are) (way-in (suc h) (omega arith) low) (mod-lt r (entries-pos G))) (λ _ i l. refl);
       stands = upd-other (I .S) h r empty (suc h) (r / entries G) (λ q. omega (arith, q .0)) ∙ E .ends .parent;
       path = λ j l m. way-is j (omega arith) m ∙ sym (upd-other (I .T) h r 0 j (anc (entries G) j v) (λ q. omega (arith, q .0)));
       levels = omega (arith, E .ends .low, root-at G Z I);
@@ -136,11 +137,11 @@ module _ (G : Granule) (Z : Sane G) {p : Pool} {B : Ledger} (I : Sim G Z p B) (a
     abbrev pruned : prunes.Pool (A G Z (area G Z I) top (al G Z I))
     pruned = prune (X G Z I) (A G Z (area G Z I) top (al G Z I)) v way (k₀ G Z I - h) (suc h) words₁ (p .list) f
 
-    C : Pruned (X G Z I) (A G Z (area G Z I) top (al G Z I)) v way (without h r (I .L)) pruned
+    cut : PrunedIf (X G Z I) (A G Z (area G Z I) top (al G Z I)) v way C D (without h r (I .L)) pruned
     unfolding loose
-    C = prune-ok (X G Z I) (A G Z (area G Z I) top (al G Z I)) v way (k₀ G Z I - h) (suc h) loose
+    cut = prune-ok (X G Z I) (A G Z (area G Z I) top (al G Z I)) v way (k₀ G Z I - h) (suc h) loose
 
-    abbrev given : ℕ
+    abbrev pub given : ℕ
     given = freed G (p .words) (o .tables) (pathOf G a) h (k₀ G Z I - h)
 
     abbrev memory₁ : Memory
@@ -166,57 +167,57 @@ module _ (G : Granule) (Z : Sane G) {p : Pool} {B : Ledger} (I : Sim G Z p B) (a
     abbrev ledger₁ : Ledger
     ledger₁ = withLive (own G Z I) (dropAt a (map (shown G Z) (I .L)))
 
-    after : Sim G Z (written G p (unmapWrites G (o .tables) (pathOf G a) h f given) (f + given)) ledger₁
-    after = subst (λ (q : prunes.Pool (A G Z (area G Z I) top (al G Z I))). Sim G Z (back q) ledger₁) (sym carried) (record {
-      good = regood (I .good) (length (pruned .m)) (length (pruned .q)) (pruned .f) (C .ok) (C .okᶠ) (free-room (C .inv));
+    pub unmap-after : f + given < n G Z I → SimIf G Z C D (written G p (unmapWrites G (o .tables) (pathOf G a) h f given) (f + given)) ledger₁
+    unmap-after fits = subst (λ (q : prunes.Pool (A G Z (area G Z I) top (al G Z I))). SimIf G Z C D (back q) ledger₁) (sym carried) (record {
+      good = regood (I .good) (length (pruned .m)) (length (pruned .q)) (pruned .f) (cut .ok) (cut .okᶠ) (subst (λ (q : prunes.Pool (A G Z (area G Z I) top (al G Z I))). q .f < n G Z I) carried fits);
       levels-are = refl;
       area-is = refl;
       L = without h r (I .L);
       live-is = dropped;
       once = distinct-without h r (I .L) (I .once);
-      T = C .T;
-      S = C .S;
-      inv = C .inv;
+      T = cut .T;
+      S = cut .S;
+      inv = cut .inv;
     })
 
-    room : f + given < n G Z I
-    room = subst (λ (q : prunes.Pool (A G Z (area G Z I) top (al G Z I))). q .f < n G Z I) (sym carried) (free-room (C .inv))
+    room : D → f + given < n G Z I
+    room d = subst (λ (q : prunes.Pool (A G Z (area G Z I) top (al G Z I))). q .f < n G Z I) (sym carried) (free-room (cut .inv) d)
 
     -- as many tables come back as the ledger needs less
-    given-is : freeTables G ledger₁ - freeTables G (own G Z I) ≡ given
-    given-is = omega (arith, free-is G Z I, free-is G Z after, ap (freeTables G) (λ i. withLive (own G Z I) (same i)))
+    given-is : C → D → freeTables G ledger₁ - freeTables G (own G Z I) ≡ given
+    given-is c d = omega (arith, free-is G Z I c d, free-is G Z (unmap-after (room d)) c d, ap (freeTables G) (λ i. withLive (own G Z I) (same i)))
       where
-        same : dropAt a (map (shown G Z) (I .L)) ≡ map (shown G Z) (after .L)
-        same = after .live-is
+        same : dropAt a (map (shown G Z) (I .L)) ≡ map (shown G Z) (unmap-after (room d) .L)
+        same = unmap-after (room d) .live-is
 
   -- the ledger's answer once the tests are passed
   abbrev ledgerSays : Entered
   ledgerSays = unmapOf G (own G Z I) a (coverOf a (map (shown G Z) (I .L)))
 
-  pub unmap-alike : (e : Entry) → o .entry ≡ e → Alike G Z (unmapAt G p a o e) ledgerSays
+  pub unmap-alike : C → D → (e : Entry) → o .entry ≡ e → AlikeIf C D G Z (unmapAt G p a o e) ledgerSays
   unfolding unmapAt unmapHere unmapOf
-  unmap-alike e q = at e q (ap readEntry (sym q) ∙ E .ends .says-is)
+  unmap-alike all spare e q = at e q (ap readEntry (sym q) ∙ E .ends .says-is)
     where
       covered : (b k : ℕ) → I .S h r ≡ frame (b + k) → coverOf a (map (shown G Z) (I .L)) ≡ some (shown G Z (mapping h r (b + k)))
       covered b k z = cover-lookup G Z a (I .L) ∙ ap (Option·map (shown G Z)) (query-some (R G Z I) (I .inv .holds) (E .ends) (b + k) z)
 
       frees : (b k : ℕ) (z : I .S h r ≡ frame (b + k)) → o .entry ≡ Frame b k → (y : Bool) → eqb (a % sizeAt G h) 0 ≡ y
-          → Alike G Z (cond y (unmapHere G p a b k o (freed G (p .words) (o .tables) (pathOf G a) h (k₀ G Z I - h))) (refuse 10 p)) ledgerSays
+          → AlikeIf C D G Z (cond y (unmapHere G p a b k o (freed G (p .words) (o .tables) (pathOf G a) h (k₀ G Z I - h))) (refuse 10 p)) ledgerSays
       frees b k z q true e =
           let starts = eqb-true (a % sizeAt G h) 0 e in
           let F = E .framed b k q in
           let u = sym (payload-base G Z (area G Z I) top (al G Z I) b k (framed-paged Z F) (F .few)) in
           let w = sym (payload-attrs G Z (area G Z I) top (al G Z I) b k (framed-paged Z F) (F .few)) in
-          let c = sym (given-is b k z starts) in
-          let fits : f + given b k z starts ≤ n G Z I - 1 = omega (arith, room b k z starts) in
+          let c = sym (given-is b k z starts all spare) in
+          let fits : f + given b k z starts ≤ n G Z I - 1 = omega (arith, room b k z starts spare) in
           rw (covered b k z, eq-eqb _ _ (start-is b k z starts), le-ltb (n G Z I - 1) (f + given b k z starts) fits)
-          (record { answer = λ i. gave (u i) (sizeAt G h) (w i) (c i); sim = after b k z starts })
+          (record { answer = λ i. gave (u i) (sizeAt G h) (w i) (c i); sim = unmap-after b k z starts (room b k z starts spare) })
       frees b k z q false e =
           let no = eqb-false (a % sizeAt G h) 0 e in
           let away : r * sizeAt G h ≢ a = λ y. no (omega (arith, div-add-mod' a (sizeAt G h), ap (λ (t : ℕ). t * sizeAt G h) (anc-size G Z a h))) in
           rw (covered b k z, ne-eqb _ _ away) (record { answer = refl; sim = own-sim G Z I })
 
-      at : (e : Entry) → o .entry ≡ e → readEntry e ≡ readOf (I .S h r) (I .T h r) → Alike G Z (unmapAt G p a o e) ledgerSays
+      at : (e : Entry) → o .entry ≡ e → readEntry e ≡ readOf (I .S h r) (I .T h r) → AlikeIf C D G Z (unmapAt G p a o e) ledgerSays
       at Empty q z = rw (cover-lookup G Z a (I .L) ∙ ap (Option·map (shown G Z)) (query-none (R G Z I) (I .inv .holds) (E .ends) (entry-empty (I .S h r) (I .T h r) z))) (record { answer = refl; sim = own-sim G Z I })
       at (Frame b k) q z = frees b k (entry-frame (I .S h r) (I .T h r) (b + k) z) q (eqb (a % sizeAt G h) 0) refl
       at (Table c) q z = absurd (ended (R G Z I) (E .ends) (entry-table (I .S h r) (I .T h r) c z .0))

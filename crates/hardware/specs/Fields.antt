@@ -2,13 +2,13 @@
 -- word goes on to the table.
 use Prim.Native.Nat.{ℕ, zero, suc, _+_, _-_, _*_, _/_, _%_, _^_, _≤_, _<_}
 use mathlib.Core.Path.{_≡_, refl, ap, sym, _∙_}
-use mathlib.Core.Bool.{cond}
+use mathlib.Core.Bool.{Bool, true, false, cond}
 use native.Mathlib.Nat.{div-add-mod', mul-le-mul-left, mul-assoc, mul-suc, add-mul, add-mul-mod-self-left, lt-of-mul-lt-mul-right}
 use native.Mathlib.Omega.{arith}
 use lib.Arith.{digits-div, digits-mod}
 use lib.Pow.{pow-add, pow-mono}
 use lib.Dec.{eqb}
-use borrow.Author.Tests.{eq-eqb, ne-eqb, le-leb}
+use borrow.Author.Tests.{eq-eqb, ne-eqb, eqb-false, le-leb}
 use Rattle.path.specs.Geometry.{Granule, Sane, pageSize, sizeAt, physical}
 use Rattle.path.specs.Areas.{Area, areaOf, total, tableAt, GoodArea}
 use Rattle.path.specs.Laws.{page-pos}
@@ -17,7 +17,7 @@ use Rattle.entry.specs.Laws.{type-le, framed-paged, framed-below, table-low}
 use Rattle.model.specs.Answers.{mapping}
 use Rattle.hardware.specs.Machine.{validBit, tableBit, memLow, memHigh, readBit, writeBit, shareBits, accessFlag, neverLow, neverHigh}
 use Rattle.hardware.specs.Machine.{addressFrom, shift, outputOf, kindOf, sharedOf, outerShareable, innerShareable, deviceKind, normalKind}
-use Rattle.hardware.specs.Machine.{Translation, Step, fault, hit, next, leaf, valid, stepBy, saysOf}
+use Rattle.hardware.specs.Machine.{Translation, Step, fault, hit, next, leaf, largestBlock, valid, stepBy, saysOf}
 
 -- ---- addresses in words
 
@@ -105,6 +105,14 @@ executes : (e : ℕ) → e ≤ 1 → eqb (1 - e) 0 ≡ eqb e 1
 executes zero l = refl
 executes (suc zero) l = refl
 executes (suc (suc e)) l = absurd (omega arith)
+
+-- the architecture has a block for each height of frames
+has-blocks : (G : Granule) → Sane G → (h : ℕ) → h ≤ G .large → h ≤ largestBlock G
+has-blocks G Z h l = go (eqb (G .page) 12) refl
+  where
+    go : (b : Bool) → eqb (G .page) 12 ≡ b → h ≤ cond b 2 1
+    go true e = omega (arith, Z .blocks-low)
+    go false e = omega (arith, Z .blocks-large (eqb-false (G .page) 12 e))
 
 -- MemAttr of our words, d telling whether device is asked for: 1111 or 0001
 abbrev high₂ : ℕ → ℕ
@@ -211,7 +219,7 @@ module _ {G : Granule} (Z : Sane G) {h b k : ℕ} (F : Framed G h b k) (a : ℕ)
       at (suc j) e l q =
           let y : typeAt h ≡ 1 = ap typeAt e ∙ rw (ne-eqb (suc j) 0 (λ z. omega arith)) in
           let u : tableBit w ≡ 0 = table-is parts ∙ ap (λ (x : ℕ). x / 2) y in
-          is-valid (ap (λ (x : ℕ). x % 2) y) (suc j) e (rw (ne-eqb (tableBit w) 1 (λ z. omega (arith, u, z)), le-leb (suc j) (G .large) l) q)
+          is-valid (ap (λ (x : ℕ). x % 2) y) (suc j) e (rw (ne-eqb (tableBit w) 1 (λ z. omega (arith, u, z)), le-leb (suc j) (largestBlock G) (has-blocks G Z (suc j) l)) q)
 
 -- ---- the other words
 

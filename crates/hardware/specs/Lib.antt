@@ -9,4 +9,5 @@ pub mod Watch
 pub mod MapSeen
 pub mod UnmapSeen
 pub mod Theorem
+pub mod Meanings
 pub mod Examples

@@ -12,7 +12,7 @@
 use Prim.Native.Nat.{ℕ, zero, suc, _+_, _-_, _*_, _/_, _%_, _^_, _≤_, _<_}
 use mathlib.Core.Path.{_≡_}
 use mathlib.Core.Logic.{_⊎_}
-use mathlib.Core.Bool.{Bool, true, false, cond}
+use mathlib.Core.Bool.{Bool, true, false, cond, _&&_}
 use mathlib.Core.List.{List, [], _∷_, _++_}
 use mathlib.Core.Option.{Option, some, none, Option·map}
 use lib.Dec.{ltb, leb, eqb}
@@ -97,10 +97,17 @@ shareOf (suc zero) = unpredictable
 shareOf (suc (suc zero)) = outerShareable
 shareOf (suc (suc (suc n))) = innerShareable
 
--- Device memory is outer shareable whatever SH says
+-- whether caches do not keep it
+abbrev pub uncached : Cached → Bool
+uncached reserved = false
+uncached nonCacheable = true
+uncached writeThrough = false
+uncached writeBack = false
+
+-- Device memory is outer shareable whatever SH says, and so is Normal memory that neither the outer nor the inner caches keep
 abbrev pub sharedOf : Kind → ℕ → Shared
 sharedOf (device d) sh = outerShareable
-sharedOf (normal o i) sh = shareOf sh
+sharedOf (normal o i) sh = cond (uncached o && uncached i) outerShareable (shareOf sh)
 
 -- what a word makes of a walk: a fault, a translation, or the address of the table to go on to
 pub data Step : Type 0 where
@@ -177,11 +184,15 @@ leaf G a h w =
     }))
     fault
 
--- A valid word. At the last level it is a page or nothing; above it a table, or a block, and there is no block larger than 1 GiB (with 4 KiB).
+-- the greatest height of a block: with pages of 4 KiB that of level 1, 1 GiB; with larger ones that of level 2, 32 MiB for 16 KiB
+abbrev pub largestBlock : Granule → ℕ
+largestBlock G = cond (eqb (G .page) 12) 2 1
+
+-- A valid word. At the last level it is a page or nothing; above it a table, or a block where the architecture has blocks.
 abbrev pub valid : Granule → ℕ → ℕ → ℕ → Step
 valid G a zero w = cond (eqb (tableBit w) 1) (leaf G a zero w) fault
 valid G a (suc h) w =
-    cond (eqb (tableBit w) 1) (next (addressFrom (G .page) w)) (cond (leb (suc h) (G .large)) (leaf G a (suc h) w) fault)
+    cond (eqb (tableBit w) 1) (next (addressFrom (G .page) w)) (cond (leb (suc h) (largestBlock G)) (leaf G a (suc h) w) fault)
 
 abbrev pub stepBy : Granule → ℕ → ℕ → ℕ → Step
 stepBy G a h w = cond (eqb (validBit w) 1) (valid G a h w) fault

@@ -25,19 +25,20 @@ use Rattle.tree.specs.Region.{anc}
 use Rattle.tree.specs.Tree.{Ent, empty, frame, table, table≢empty, empty≢frame, table?, empty?, Rendered}
 use Rattle.tree.specs.Walk.{chain}
 use Rattle.tree.specs.Inv.{Mapping, mapping, Holds, Store}
-use Rattle.tree.specs.Ops.{grow}
+use Rattle.tree.specs.Ops.{grow, free-taken}
 use Rattle.demand.specs.Shown.{shown, pg, baseOf, attrsOf}
 use Rattle.demand.specs.Arm.{readEntry}
 use Rattle.demand.specs.Memories.{readAt, placeAt}
 use Rattle.demand.specs.Walks.{Ended, spot}
+use Rattle.model.specs.LeftLaws.{performed-length}
 use Rattle.demand.specs.Carried.{A}
 use Rattle.demand.specs.Sims.{Sim}
 use Rattle.demand.specs.Queries.{area, n, k₀, al, X, R, few, root-at, walk-ended, entry-empty}
-use Rattle.demand.specs.Maps.{Fine, tests-fine, new-shown, region-is, good-frame, low, s-low, ready, t-is, carried}
+use Rattle.demand.specs.Maps.{Fine, tests-fine, new-shown, region-is, good-frame, low, s-low, Takes, ready, t-is, carried}
 use Rattle.hardware.specs.Machine.{told, Stands, Reads, singles, wordsAfter}
 use Rattle.hardware.specs.Trees.{Within, new-zero, Grown, grown}
 use Rattle.hardware.specs.Mixed.{place}
-use Rattle.hardware.specs.Plans.{Each, each-take, performed-length, Sound, Leaves, left}
+use Rattle.hardware.specs.Plans.{Each, each-take, Sound, Leaves, left}
 use Rattle.hardware.specs.Links.{Taking, but-last, links, Last, last, map-sound, but-last-leaves}
 use Rattle.hardware.specs.Views.{Took, map-takes, map-carries}
 use Rattle.hardware.specs.Watch.{Seen, word-at, reads-rest, outside-map, overtaken-up, part-up, any-order-up}
@@ -107,10 +108,14 @@ module _ (G : Granule) (Z : Sane G) {p : Pool} {B : Ledger} (I : Sim G Z p B) (a
   abbrev Tables : Store (X G Z I)
   Tables = A G Z (area G Z I) top (al G Z I)
 
-  N : Grown (X G Z I) Tables (placeAt (p .list)) g v x (ready G Z I a b size k F vacant (Y .room))
+  -- the tables that it takes are free
+  takes : Takes G Z I a b size k F vacant (Y .room)
+  takes = free-taken (I .inv .spare tt .free)
+
+  N : Grown (X G Z I) Tables (placeAt (p .list)) g v x (ready G Z I a b size k F vacant (Y .room) takes)
       (grow (X G Z I) Tables (placeAt (p .list)) g v x s (p .words) t f)
   unfolding ready
-  N = grown (X G Z I) Tables (placeAt (p .list)) g v x s (ready G Z I a b size k F vacant (Y .room))
+  N = grown (X G Z I) Tables (placeAt (p .list)) g v x s (ready G Z I a b size k F vacant (Y .room) takes)
 
   abbrev T′ : ℕ → ℕ → ℕ
   T′ = N .mapped .T
@@ -153,10 +158,10 @@ module _ (G : Granule) (Z : Sane G) {p : Pool} {B : Ledger} (I : Sim G Z p B) (a
   W : Taking G Z I (pathOf G a) g (frameWord b g k) below (p .words) t f
   W = record {
     own = subst (λ (j : ℕ). j < n G Z I) (sym number) (R G Z I .range (suc s) (anc K (suc s) v) (E .ends .parent));
-    each = λ i l. I .inv .free .each i l .0;
-    apart = λ i l e. I .inv .free .each i l .1 (suc s) (anc K (suc s) v) (E .ends .parent) (sym number ∙ sym e);
-    once = I .inv .free .once;
-    bare = λ i j l c. R G Z I .zeros (placeAt (p .list) i) j (I .inv .free .each i l .0) c (I .inv .free .each i l .1);
+    each = λ i l. I .inv .spare tt .free .each i l .0;
+    apart = λ i l e. I .inv .spare tt .free .each i l .1 (suc s) (anc K (suc s) v) (E .ends .parent) (sym number ∙ sym e);
+    once = I .inv .spare tt .free .once;
+    bare = λ i j l c. I .inv .spare tt .zeros (placeAt (p .list) i) j (I .inv .spare tt .free .each i l .0) c (I .inv .spare tt .free .each i l .1);
   }
 
   long : length (p .words) ≡ K * n G Z I
@@ -201,7 +206,7 @@ module _ (G : Granule) (Z : Sane G) {p : Pool} {B : Ledger} (I : Sim G Z p B) (a
           ap (λ (c : ℕ). readAt G (p .words) c i) (Q .number (suc g) (anc K (suc g) v) e)
           ∙ R G Z I .words g (anc K g v) e
           ∙ ap (λ (e : Ent). X G Z I .enc g e (I .T g (anc K g v))) nothing
-      go (no d) = new-zero (R G Z I) R′ Q (suc g) (anc K (suc g) v) parent d i i-lt
+      go (no d) = new-zero (I .inv .spare tt .zeros) R′ Q (suc g) (anc K (suc g) v) parent d i i-lt
 
   -- and all writes but the last leave it so
   abbrev front : List Write

@@ -25,7 +25,7 @@ use Rattle.demand.specs.Sims.{Sim}
 use Rattle.demand.specs.Queries.{area, n, k₀, al, X, root-at}
 use Rattle.hardware.specs.Machine.{indexBits, inputEnd, Translation, Step, fault, hit, next, stepBy, onStep, walk, stage2, saysOf, told}
 use Rattle.hardware.specs.Fields.{step-frame, step-zero, step-table}
-use Rattle.hardware.specs.Trees.{Within, new-zero}
+use Rattle.hardware.specs.Trees.{Within, NewZero}
 
 -- pages of one region lie in one region of each greater height
 same-above : (K g v w : ℕ) → anc K g w ≡ anc K g v → (h : ℕ) → g ≤ h → anc K h w ≡ anc K h v
@@ -128,7 +128,8 @@ module _ (G : Granule) (Z : Sane G) {p : Pool} {A : Ledger} (I : Sim G Z p A) wh
       (h t i : ℕ) → t < n G Z I → i < K → (mem h (place t + 8 * i) ≡ W t i) ⊎ (mem h (place t + 8 * i) ≡ W′ t i)
 
   module _ {W T W′ T′ : ℕ → ℕ → ℕ} {S S′ : ℕ → ℕ → Ent} {L L′ : List Mapping} (R : Rendered (X G Z I) W T S) (H : Holds S L)
-      (R′ : Rendered (X G Z I) W′ T′ S′) (H′ : Holds S′ L′) (Q : Within T S T′ S′) (mem : ℕ → ℕ → ℕ) (mix : Mixture W W′ mem) where
+      (R′ : Rendered (X G Z I) W′ T′ S′) (H′ : Holds S′ L′) (Q : Within T S T′ S′)
+      (fresh : NewZero (X G Z I) W T S T′ S′) (mem : ℕ → ℕ → ℕ) (mix : Mixture W W′ mem) where
     -- a table that only the larger tree has lies where the smaller one has nothing
     nothing-yet : (a h : ℕ) → S′ (suc h) (anc K (suc h) (pg G Z a)) ≡ table → S (suc h) (anc K (suc h) (pg G Z a)) ≢ table → tells L a ≡ none
     nothing-yet a h q d = tells-none R H a (λ j x s. go j x s (decLt j (suc h)))
@@ -250,7 +251,7 @@ module _ (G : Granule) (Z : Sane G) {p : Pool} {A : Ledger} (I : Sim G Z p A) wh
         -- and where it is not
         unread : S (suc h) (r / K) ≢ table → w ≡ W t (r % K) → Either made
         unread d e =
-            let z : w ≡ 0 = e ∙ new-zero R R′ Q (suc h) (r / K) q d (r % K) (mod-lt r (entries-pos G)) in
+            let z : w ≡ 0 = e ∙ fresh (suc h) (r / K) q d (r % K) (mod-lt r (entries-pos G)) in
             inl (λ a i. ap (λ (x : ℕ). onStep (stepBy G a h x) (on a)) z
             ∙ sym (nothing-yet a h (ap (S′ (suc h)) (at-up a i) ∙ q) (λ s. d (ap (S (suc h)) (sym (at-up a i)) ∙ s))))
 

@@ -16,6 +16,7 @@ use Rattle.path.specs.Geometry.{Granule, entries}
 use Rattle.path.specs.Areas.{Area, areaOf, total, tableAt, GoodArea}
 use Rattle.model.specs.Walk.{slot}
 use Rattle.model.specs.Writes.{Write, store, wipe, give, Memory, memory, perform, performAll, mapWrites, mayTake, pruneWrites}
+use Rattle.model.specs.LeftLaws.{perform-length}
 use Rattle.demand.specs.Shown.{and-true}
 use Rattle.demand.specs.Memories.{table-ends}
 use Rattle.hardware.specs.Machine.{zerosFrom, placesFrom, single, singles, visible}
@@ -143,16 +144,6 @@ module _ (G : Granule) where
   perform-append [] ys m = refl
   perform-append (x ∷ xs) ys m = perform-append xs ys (perform G x m)
 
-  perform-length : (w : Write) (m : Memory) → length (perform G w m .words) ≡ length (m .words)
-  perform-length (store i x) m = length-set (m .words) i x
-  perform-length (wipe t) m = length-zeroed (m .words) (slot G t 0) (entries G)
-  perform-length (give i t) m = refl
-
-  pub performed-length : (ws : List Write) (m : Memory) → length (performAll G ws m .words) ≡ length (m .words)
-  unfolding performAll
-  performed-length [] m = refl
-  performed-length (w ∷ ws) m = performed-length ws (perform G w m) ∙ perform-length w m
-
   pub zeros-carried : (k i : ℕ) (ws l : List ℕ) → i + k ≤ length ws → performAll G (zerosFrom i k) (memory ws l) ≡ memory (zeroed ws i k) l
   unfolding performAll zerosFrom
   zeros-carried zero i ws l b = ap (λ (x : List ℕ). memory x l) (sym (zeroed-none ws i))
@@ -198,7 +189,7 @@ module _ (G : Granule) where
   singles-carried (w ∷ ws) m e =
       perform-append (single G w) (singles G ws) m
       ∙ ap (performAll G (singles G ws)) (one w (e .0))
-      ∙ singles-carried ws (perform G w m) (subst (λ (n : ℕ). Each (InRange n) ws) (sym (perform-length w m)) (e .1))
+      ∙ singles-carried ws (perform G w m) (subst (λ (n : ℕ). Each (InRange n) ws) (sym (perform-length G w m)) (e .1))
     where
       one : (w : Write) → InRange (length (m .words)) w → performAll G (single G w) m ≡ perform G w m
       one (store i x) r = refl

@@ -140,7 +140,7 @@ module _ (G : Granule) (Z : Sane G) {p : Pool} {A : Ledger} (I : Sim G Z p A) wh
     format-seen = record {
       each-write = λ z. absurd z;
       any-order = λ z. absurd z;
-      overtaken = overtaken-down G Z I zeros (bare .ren) (bare .holds) ws sound within;
+      overtaken = overtaken-down G Z I zeros (bare .ren) (bare .holds) ws sound within (bare .spare tt .zeros);
     }
 
   -- every call, by its answer

@@ -6,7 +6,7 @@ use Prim.Native.Nat.{ℕ, zero, suc, _-_, _%_, _<_}
 use native.Mathlib.Omega.{arith}
 use native.Mathlib.Decide.{ℕ-discrete}
 use Rattle.tree.specs.Region.{anc, Same, upd, upd-at, upd-other}
-use Rattle.tree.specs.Tree.{Ent, empty, frame, table, table≢empty, Geo, Rendered, Unused}
+use Rattle.tree.specs.Tree.{Ent, empty, frame, table, table≢empty, Geo, Rendered, Unused, Zeros}
 use Rattle.tree.specs.Inv.{Mapping, Store}
 use Rattle.tree.specs.Ops.{Mem, mem, grow, Ready, Mapped, last, more}
 use Rattle.tree.specs.Prune.{Bare, bare?, Pool, pool, prune, Loose, Pruned, off, kept, rested}
@@ -46,9 +46,11 @@ within-less {T} {S} h r c = record {
     away h′ r′ p s = p (upd-at S h r empty h′ r′ s)
 
 -- a table that only the larger tree has is zero in the words of the smaller one
-pub new-zero : {G : Geo} {W W′ T T′ : ℕ → ℕ → ℕ} {S S′ : ℕ → ℕ → Ent} → Rendered G W T S → Rendered G W′ T′ S′ → Within T S T′ S′
-    → (h r : ℕ) → S′ h r ≡ table → S h r ≢ table → (i : ℕ) → i < G.K → W (T′ h r) i ≡ 0
-new-zero {G} {T = T} {T′} {S} R R′ Q h r p d i l = R .zeros (T′ h r) i (R′ .range h r p) l unused
+abbrev pub NewZero : (G : Geo) → (W T : ℕ → ℕ → ℕ) → (ℕ → ℕ → Ent) → (ℕ → ℕ → ℕ) → (ℕ → ℕ → Ent) → Type 0
+NewZero G W T S T′ S′ = (h r : ℕ) → S′ h r ≡ table → S h r ≢ table → (i : ℕ) → i < G.K → W (T′ h r) i ≡ 0
+
+pub new-zero : {G : Geo} {W W′ T T′ : ℕ → ℕ → ℕ} {S S′ : ℕ → ℕ → Ent} → Zeros G W T S → Rendered G W′ T′ S′ → Within T S T′ S′ → NewZero G W T S T′ S′
+new-zero {G} {T = T} {T′} {S} blank R′ Q h r p d i l = blank (T′ h r) i (R′ .range h r p) l unused
   where
     unused : Unused T S (T′ h r)
     unused h₁ r₁ s e =

@@ -22,7 +22,7 @@ use Rattle.model.specs.Writes.{Write, Memory, memory, performAll, pruneWrites, 
 use Rattle.model.specs.Calls.{walkTo}
 use Rattle.model.specs.Ledger.{Ledger, coverOf, dropAt}
 use Rattle.tree.specs.Region.{anc}
-use Rattle.tree.specs.Tree.{Ent, frame, Rendered}
+use Rattle.tree.specs.Tree.{Ent, frame, Rendered, Zeros}
 use Rattle.tree.specs.Inv.{Mapping, mapping, Holds, Store, without}
 use Rattle.tree.specs.Prune as prunes
 use Rattle.tree.specs.Ledger.{query-some}
@@ -30,6 +30,7 @@ use Rattle.demand.specs.Shown.{shown, pg, cover-lookup, covers-holds, baseOf, a
 use Rattle.demand.specs.Arm.{readEntry}
 use Rattle.demand.specs.Memories.{readAt}
 use Rattle.demand.specs.Walks.{Ended, spot, wayAt}
+use Rattle.model.specs.LeftLaws.{performed-length}
 use Rattle.demand.specs.Carried.{A}
 use Rattle.demand.specs.Sims.{Sim}
 use Rattle.demand.specs.Queries.{area, n, k₀, al, X, R, few, walk-ended, entry-frame}
@@ -38,7 +39,7 @@ use Rattle.demand.specs.Theorem.{in-space}
 use Rattle.hardware.specs.Machine.{told, heldBy, Stands, Reads, singles, wordsAfter}
 use Rattle.hardware.specs.Trees.{Within, within-both, within-less, Cut, cut}
 use Rattle.hardware.specs.Mixed.{place}
-use Rattle.hardware.specs.Plans.{Each, each-take, performed-length, Sound, Clears, cleared, clears-sound, prune-clears}
+use Rattle.hardware.specs.Plans.{Each, each-take, Sound, Clears, cleared, clears-sound, prune-clears}
 use Rattle.hardware.specs.Views.{given, Gave, unmap-gives, unmap-carries}
 use Rattle.hardware.specs.Watch.{Seen, word-at, at-rest, outside-unmap, overtaken-down, part-down, any-order-down}
 
@@ -127,6 +128,12 @@ module _ (G : Granule) (Z : Sane G) {p : Pool} {B : Ledger} (I : Sim G Z p B) (a
       subst (λ (q : prunes.Pool Tables). Rendered (X G Z I) (readAt G (q .m)) T′ S′) (sym (carried G Z I a here b k more (Y .starts)))
       (N .pruned .inv .ren)
 
+  Zs : Zeros (X G Z I) (readAt G new) T′ S′
+  unfolding loose
+  Zs =
+      subst (λ (q : prunes.Pool Tables). Zeros (X G Z I) (readAt G (q .m)) T′ S′) (sym (carried G Z I a here b k more (Y .starts)))
+      (N .pruned .inv .spare tt .zeros)
+
   H′ : Holds S′ L′
   H′ = N .pruned .inv .holds
 
@@ -196,7 +203,7 @@ module _ (G : Granule) (Z : Sane G) {p : Pool} {B : Ledger} (I : Sim G Z p B) (a
   since zero l mem S = absurd (omega arith)
   since (suc j) l mem S =
       ⊎-elim (λ q. q) (λ q. absurd (clash (q .1)))
-      (part-down G Z I new R′ H′ ws sound Q h v x more others (take (suc j) ws) (each-take (Sound (p .words) new) (suc j) ws sound) mem S)
+      (part-down G Z I new R′ H′ ws sound Q Zs h v x more others (take (suc j) ws) (each-take (Sound (p .words) new) (suc j) ws sound) mem S)
     where
       in-pool : u < n G Z I
       in-pool = R G Z I .range (suc h) (anc K (suc h) v) (E .ends .parent)
@@ -216,8 +223,8 @@ module _ (G : Granule) (Z : Sane G) {p : Pool} {B : Ledger} (I : Sim G Z p B) (a
       subst (λ (L : List answers.Mapping). Seen G p live L ws One) after
       (record {
         each-write = λ _. record { at = 0; old = λ j l. until j (omega arith); new = λ j l. since j (omega arith) };
-        any-order = λ _. any-order-down G Z I new R′ H′ ws sound Q h v x more others;
-        overtaken = overtaken-down G Z I new R′ H′ ws sound Q;
+        any-order = λ _. any-order-down G Z I new R′ H′ ws sound Q Zs h v x more others;
+        overtaken = overtaken-down G Z I new R′ H′ ws sound Q Zs;
       })
 
   -- ---- outside the mapping that goes

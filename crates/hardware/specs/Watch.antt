@@ -18,17 +18,18 @@ use Rattle.model.specs.Walk.{slot}
 use Rattle.model.specs.Writes.{Write, memory}
 use Rattle.model.specs.Ledger.{Ledger}
 use Rattle.tree.specs.Region.{anc, Same, same?}
-use Rattle.tree.specs.Tree.{Ent, frame, Rendered}
+use Rattle.tree.specs.Tree.{Ent, frame, Rendered, Zeros}
 use Rattle.tree.specs.Inv.{Mapping, mapping, Holds, without, drop-if}
 use Rattle.tree.specs.Ledger.{lookup}
 use Rattle.demand.specs.Shown.{shown, pg, cover-lookup}
 use Rattle.demand.specs.Memories.{readAt, in-table}
+use Rattle.model.specs.LeftLaws.{performed-length}
 use Rattle.demand.specs.Sims.{Sim}
 use Rattle.demand.specs.Queries.{area, n, X, R}
 use Rattle.hardware.specs.Machine.{Translation, saysOf, told, Stands, Reads, wordsAfter, visible, Switch, AnyOrder, Overtaken}
-use Rattle.hardware.specs.Trees.{Within, within-same}
+use Rattle.hardware.specs.Trees.{Within, within-same, NewZero, new-zero}
 use Rattle.hardware.specs.Mixed.{place, Mixture, each-address, all-addresses}
-use Rattle.hardware.specs.Plans.{Each, each-visible, performed-length, Sound, between}
+use Rattle.hardware.specs.Plans.{Each, each-visible, Sound, between}
 
 -- what is promised of single writes ws that take the live mappings of the pool p from L to L′; `One` where all addresses change at once
 pub record Seen (G : Granule) (p : Pool) (L L′ : List answers.Mapping) (ws : List Write) (One : Type 0) : Type 0 where
@@ -88,7 +89,7 @@ module _ (G : Granule) (Z : Sane G) where
         → (mem : ℕ → ℕ) → Stands G (area G Z I) ws mem → Reads G (p .numbers) (λ _. mem) (map (shown G Z) L)
     reads-rest ws k R₁ H₁ mem S a =
         ⊎-elim (λ e. e) (λ e. e)
-        (each-address G Z I R₁ H₁ R₁ H₁ within-same (λ _. mem) (λ h t i l b. inl (word-at ws k mem S t i l b)) a)
+        (each-address G Z I R₁ H₁ R₁ H₁ within-same (λ h r p d. absurd (d p)) (λ _. mem) (λ h t i l b. inl (word-at ws k mem S t i l b)) a)
 
     pub at-rest : (mem : ℕ → ℕ) → Stands G (area G Z I) old mem → Reads G (p .numbers) (λ _. mem) live
     at-rest mem S = reads-rest old refl (R G Z I) (I .inv .holds) mem S
@@ -116,8 +117,11 @@ module _ (G : Granule) (Z : Sane G) where
 
       -- the tree grows: map
       module _ (Q : Within (I .T) (I .S) T′ S′) where
+        fresh : NewZero (X G Z I) (readAt G old) (I .T) (I .S) T′ S′
+        fresh = new-zero (I .inv .spare tt .zeros) R′ Q
+
         pub overtaken-up : Overtaken G p live live′ ws
-        overtaken-up seen mem S a = each-address G Z I (R G Z I) (I .inv .holds) R′ H′ Q mem (mixed-visible seen mem S) a
+        overtaken-up seen mem S a = each-address G Z I (R G Z I) (I .inv .holds) R′ H′ Q fresh mem (mixed-visible seen mem S) a
 
         -- by one frame
         module _ (g v x : ℕ) (more : S′ g (anc K g v) ≡ frame x)
@@ -129,18 +133,21 @@ module _ (G : Granule) (Z : Sane G) where
               × (let t = T′ (suc g) (anc K (suc g) v) in mem (place G Z I t + 8 * (anc K g v % K)) ≡ readAt G new t (anc K g v % K)))
           part-up xs e mem S =
               ⊎-elim (λ q. inl q) (λ q. inr (q .0, q .1 x more))
-              (all-addresses G Z I (R G Z I) (I .inv .holds) R′ H′ Q (λ _. mem) (mixed (λ _. xs) (λ _. e) (λ _. mem) (λ _. S)) g v x more others)
+              (all-addresses G Z I (R G Z I) (I .inv .holds) R′ H′ Q fresh (λ _. mem) (mixed (λ _. xs) (λ _. e) (λ _. mem) (λ _. S)) g v x more others)
 
           pub any-order-up : AnyOrder G p live live′ ws
           any-order-up seen mem S =
               ⊎-elim (λ q. inl q) (λ q. inr (q .0)) (part-up (visible seen ws) (each-visible (Sound old new) seen ws sound) mem S)
 
       -- the tree shrinks: unmap and format
-      module _ (Q : Within T′ S′ (I .T) (I .S)) where
+      module _ (Q : Within T′ S′ (I .T) (I .S)) (blank : Zeros (X G Z I) (readAt G new) T′ S′) where
+        gone : NewZero (X G Z I) (readAt G new) T′ S′ (I .T) (I .S)
+        gone = new-zero blank (R G Z I) Q
+
         pub overtaken-down : Overtaken G p live live′ ws
         overtaken-down seen mem S a =
             ⊎-elim (λ e. inr e) (λ e. inl e)
-            (each-address G Z I R′ H′ (R G Z I) (I .inv .holds) Q mem (turned mem (mixed-visible seen mem S)) a)
+            (each-address G Z I R′ H′ (R G Z I) (I .inv .holds) Q gone mem (turned mem (mixed-visible seen mem S)) a)
 
         -- by one frame
         module _ (g v x : ℕ) (more : I .S g (anc K g v) ≡ frame x)
@@ -152,7 +159,7 @@ module _ (G : Granule) (Z : Sane G) where
               × (let t = I .T (suc g) (anc K (suc g) v) in mem (place G Z I t + 8 * (anc K g v % K)) ≡ readAt G old t (anc K g v % K)))
           part-down xs e mem S =
               ⊎-elim (λ q. inl q) (λ q. inr (q .0, q .1 x more))
-              (all-addresses G Z I R′ H′ (R G Z I) (I .inv .holds) Q (λ _. mem) (turned (λ _. mem) (mixed (λ _. xs) (λ _. e) (λ _. mem) (λ _. S))) g v x more others)
+              (all-addresses G Z I R′ H′ (R G Z I) (I .inv .holds) Q gone (λ _. mem) (turned (λ _. mem) (mixed (λ _. xs) (λ _. e) (λ _. mem) (λ _. S))) g v x more others)
 
           pub any-order-down : AnyOrder G p live live′ ws
           any-order-down seen mem S =

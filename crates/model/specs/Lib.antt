@@ -10,3 +10,8 @@ pub mod Cases
 pub mod Sound
 pub mod AuditLaws
 pub mod MappingLaws
+pub mod Descent
+pub mod DescentLaws
+pub mod Refusals
+pub mod RefusalLaws
+pub mod LeftLaws

@@ -25,6 +25,9 @@ pub record Sane (G : Granule) : Type 0 where
   -- every tree has entries of the greatest frame's height
   pub large-below : G .large < G .fewest
   pub few-most : G .fewest ≤ G .most
+  -- the architecture has blocks of height 2 with 4 KiB pages, and with larger pages of height 1 alone
+  pub blocks-low : G .large ≤ 2
+  pub blocks-large : (G .page ≡ 12 → ⊥) → G .large ≤ 1
   -- a path's four places are enough, and no space is larger than the physical one
   pub most-four : G .most ≤ 4
   pub space-fits : G .page + G .index * G .most ≤ 48

@@ -72,10 +72,16 @@ module _ (G : Granule) where
       → startOf G p h + sizeAt G h ≤ startOf G q k
   prefix-order P Q b h k e = gap b h k P (omega (arith, P .places, Q .places))
 
-  -- upstream lemma_nonprefix_implies_vaddr_inequality
-  pub prefix-differ : {n m : ℕ} {p q : List ℕ} → IsPath G n p → IsPath G m q → Before p q → (h k : ℕ) → n + h ≡ m + k
-      → startOf G p h ≢ startOf G q k
-  prefix-differ P Q b h k e z = omega (arith, prefix-order P Q b h k e, size-pos G h)
+  -- upstream lemma_nonprefix_implies_vaddr_inequality: neither is a prefix of the other
+  pub prefix-differ : {n m : ℕ} {p q : List ℕ} → IsPath G n p → IsPath G m q
+      → ((t : List ℕ) → p ++ t ≡ q → ⊥) → ((t : List ℕ) → q ++ t ≡ p → ⊥) → (h k : ℕ) → n + h ≡ m + k → startOf G p h ≢ startOf G q k
+  prefix-differ {p = p} {q = q} P Q no-longer no-shorter h k e z = go (compare-paths p q)
+    where
+      go : Compared p q → ⊥
+      go (before b) = omega (arith, prefix-order P Q b h k e, size-pos G h)
+      go (after b) = omega (arith, prefix-order Q P b k h (sym e), size-pos G k)
+      go (shorter t y) = no-longer t y
+      go (longer t y) = no-shorter t y
 
   -- pages are ordered as their paths are
   pub address-order : {n : ℕ} {p q : List ℕ} → IsPath G n p → IsPath G n q → Before p q → addressOf G p + pageSize G ≤ addressOf G q

@@ -12,7 +12,7 @@ use Rattle.path.specs.Geometry.{Granule, pageSize, entries, sizeAt}
 use Rattle.path.specs.Paths.{indexAt, baseAt, indices, addressOf, startOf, IsPath}
 use Rattle.path.specs.Laws.{size-zero}
 use Rattle.path.specs.PathLaws.{region-index, same-indices, indices-same, indices-length, indices-path, address-rest, address-append}
-use Rattle.path.specs.RegionLaws.{base-rest, region-base, base-region, region-above}
+use Rattle.path.specs.RegionLaws.{base-rest, aligned-base, region-base, base-region, region-above}
 
 module _ (G : Granule) where
   -- ---- a prefix by its indices
@@ -74,6 +74,10 @@ module _ (G : Granule) where
   -- with base-le and base-end: upstream lemma_vaddr_within_path_range and lemma_vaddr_within_prefix_range
   pub prefix-start : (a k h : ℕ) → a < sizeAt G (k + h) → startOf G (take k (indices G a (k + h))) h ≡ baseAt G a h
   prefix-start a k h l = omega (arith, prefix-rest a k h, mod-eq-of-lt l, base-rest G a h)
+
+  -- upstream lemma_to_vaddr_inverts_from_vaddr: the first k places of an address that is a multiple of the region's size lead back to it
+  pub prefix-exact : (a k h : ℕ) → a < sizeAt G (k + h) → a % sizeAt G h ≡ 0 → startOf G (take k (indices G a (k + h))) h ≡ a
+  prefix-exact a k h l e = prefix-start a k h l ∙ aligned-base G a h e
 
   first-same : (a b k h : ℕ) → a / sizeAt G h ≡ b / sizeAt G h → take k (indices G a (k + h)) ≡ take k (indices G b (k + h))
   unfolding indices

@@ -13,9 +13,9 @@ use native.Mathlib.Decide.{ℕ-discrete, decLe}
 use lib.Arith.{digits-div}
 use lib.ListN.{length, length-append}
 use Rattle.tree.specs.Region.{Same}
-use Rattle.tree.specs.Tree.{Ent, empty, frame, table, table≢empty, table≢frame, empty≢frame, read-empty, Read, rEmpty, rFrame, rTable, rBad, readOf, Geo, Unused}
+use Rattle.tree.specs.Tree.{Ent, empty, frame, table, table≢empty, table≢frame, empty≢frame, read-empty, Read, rEmpty, rFrame, rTable, rBad, readOf, Geo, Unused, Rendered}
 use Rattle.tree.specs.Walk.{Shape, Rooted, shape, rooted, nonzero}
-use Rattle.tree.specs.Inv.{Mapping, mapping, Holds, Inv}
+use Rattle.tree.specs.Inv.{Mapping, mapping, Holds, InvIf, Inv}
 use Rattle.tree.specs.Count.{Distinct, has-all, distinct-append, places, places-length, places-distinct, places-from}
 use Rattle.tree.specs.Prune.{Bare, some-word}
 use Rattle.tree.specs.Visit.{Item, item, seen, seen-from, seen-has, read-at}
@@ -215,7 +215,14 @@ module _ (G : Geo) (W : ℕ → ℕ → ℕ) (k : ℕ) where
           ∙ ap (under G W h (r % G.K)) (table-back (readAt G W k (suc h) (r / G.K)) p));
     }
 
-module _ {G : Geo} {W : ℕ → ℕ → ℕ} {P : ℕ → ℕ} {f k : ℕ} (top : suc k ≡ G.top) (A : Accepts G W P f k) where
+-- words that are a tree, with entries of the root of height k: the root's table is sound, and no table is reached twice
+pub record IsTree (G : Geo) (W : ℕ → ℕ → ℕ) (k : ℕ) : Type 0 where
+  pub some-table : zero < G.n
+  pub sound : SoundT G W k 0
+  pub distinct : Distinct (reached G W k)
+
+-- they can be read as one
+module _ {G : Geo} {W : ℕ → ℕ → ℕ} {k : ℕ} (top : suc k ≡ G.top) (A : IsTree G W k) where
   -- the tree
   abbrev S : ℕ → ℕ → Ent
   S = Sᵃ G W k
@@ -278,37 +285,7 @@ module _ {G : Geo} {W : ℕ → ℕ → ℕ} {P : ℕ → ℕ} {f k : ℕ} (top 
   child h r l p = let (w, e) = read-of h r l (table≢empty p) in G .dec-child h w (T h r) (e ∙ table-back (readAt G W k h r) p)
 
   range : (h r : ℕ) → S h r ≡ table → T h r < G.n
-  range h r p = ⊎-elim (λ z. omega (arith, z .2, A .total)) (λ z. child h r (z .0) p .2) (tab-found h r p)
-
-  -- every number of the pool is reached or free
-  every : (t : ℕ) → t < G.n → List·Memᴰ t (places P f) ⊎ List·Memᴰ t (reached G W k)
-  every t l = List·Memᴰ·append-cases (places P f) (has-all G.n (places P f ++ reached G W k) once low count t l)
-    where
-      once : Distinct (places P f ++ reached G W k)
-      once = distinct-append (places P f) (reached G W k) (places-distinct P f (A .once)) (A .distinct)
-          (λ b m n. let (i, a, e) = places-from P f b m in A .apart i a (Memᴰ·cast e n))
-
-      reached-low : (b : ℕ) → (b ≡ 0) ⊎ List·Memᴰ b (tabs (seen G W k)) → b < G.n
-      reached-low b (inl e) = omega (arith, A .total)
-      reached-low b (inr m) = let (a, s, e) = tab-from b m in omega (arith, e, range a.h a.r s)
-
-      low : (b : ℕ) → List·Memᴰ b (places P f ++ reached G W k) → b < G.n
-      low b m = ⊎-elim (λ n. let (i, a, e) = places-from P f b n in omega (arith, e, A .range i a))
-          (λ n. reached-low b (List·Memᴰ·cases-cons n)) (List·Memᴰ·append-cases (places P f) m)
-
-      count : length (places P f ++ reached G W k) ≡ G.n
-      count = length-append (places P f) (reached G W k) ∙ omega (arith, A .total, places-length P f)
-
-  unused-free : (t : ℕ) → t < G.n → Unused T S t → (i : ℕ) × (i < f) × (P i ≡ t)
-  unused-free t l u = ⊎-elim (places-from P f t) (λ m. absurd (used (List·Memᴰ·cases-cons m))) (every t l)
-    where
-      used : (t ≡ 0) ⊎ List·Memᴰ t (tabs (seen G W k)) → ⊥
-      used (inl e) = u (suc k) 0 (Z .stands) (Z .number ∙ sym e)
-      used (inr m) = let (a, s, e) = tab-from t m in u a.h a.r s e
-
-  free-unused : (i : ℕ) → i < f → Unused T S (P i)
-  free-unused i l h r p e =
-      A .apart i l (⊎-elim (λ z. here (sym e ∙ z .2)) (λ z. there (Memᴰ·cast (sym e) (z .1))) (tab-found h r p))
+  range h r p = ⊎-elim (λ z. omega (arith, z .2, A .some-table)) (λ z. child h r (z .0) p .2) (tab-found h r p)
 
   frame-in : (h r x : ℕ) → S h r ≡ frame x → h ≤ k
   frame-in h r x p = go (decLe h k)
@@ -324,15 +301,26 @@ module _ {G : Geo} {W : ℕ → ℕ → ℕ} {P : ℕ → ℕ} {f k : ℕ} (top 
   good h r x p = let (w, e) = read-of h r (frame-in h r x p) (λ z. empty≢frame z p) in
       G .dec-good h w x (e ∙ frame-back (readAt G W k h r) x p)
 
-  -- a table below the root has an entry
-  kid : (h r : ℕ) → S (suc h) r ≡ table → suc h ≤ k → (r′ : ℕ) × (r′ / G.K ≡ r) × (S h r′ ≢ empty)
-  kid h r p l = (r * G.K + i, digits-div r a, λ z. b (zero-word z))
+  pub treeᵃ-holds : Holds (Sᵃ G W k) (maps (seen G W k))
+  treeᵃ-holds = record {
+    listed = λ h r x p. pick-has itemMap (seen G W k) (item h r (readOf (S h r) (T h r))) (mapping h r x)
+        (seen-has C Z h r (frame-in h r x p) (λ z. empty≢frame z p)) (ap (λ (z : Ent). mapOf h r (readOf z (T h r))) p);
+    live = λ m n.
+        let (a, b, q) = pick-from itemMap (seen G W k) m n in
+        let z = map-is a.h a.r (T a.h a.r) (S a.h a.r) m (ap (mapOf a.h a.r) (sym (seen-from C Z a b .says)) ∙ q) in
+        ap (λ (y : Mapping). S y.h y.r) (z .1) ∙ z .0;
+  }
+
+  -- where no table reached but the root is all zero, a table below the root has an entry
+  pub kid : ((c : ℕ) → List·Memᴰ c (tabs (seen G W k)) → Bare W c G.K → ⊥)
+      → (h r : ℕ) → S (suc h) r ≡ table → suc h ≤ k → (r′ : ℕ) × (r′ / G.K ≡ r) × (S h r′ ≢ empty)
+  kid alive h r p l = (r * G.K + i, digits-div r a, λ z. b (zero-word z))
     where
       named : List·Memᴰ (T (suc h) r) (tabs (seen G W k))
       named = ⊎-elim (λ z. absurd (omega (arith, z .0))) (λ z. z .1) (tab-found (suc h) r p)
 
       word : (i : ℕ) × (i < G.K) × (W (T (suc h) r) i ≢ 0)
-      word = some-word W (T (suc h) r) G.K (A .alive (T (suc h) r) named)
+      word = some-word W (T (suc h) r) G.K (alive (T (suc h) r) named)
 
       i : ℕ
       i = word .0
@@ -347,39 +335,75 @@ module _ {G : Geo} {W : ℕ → ℕ → ℕ} {P : ℕ → ℕ} {f k : ℕ} (top 
       zero-word z = G .enc-dec h (W (T (suc h) r) i) 0 empty
           (read-at C h r i p a ∙ ap (λ (v : Ent). readOf v (T h (r * G.K + i))) z) ∙ G .enc-empty h 0
 
-  holds : Holds S (maps (seen G W k))
-  holds = record {
-    listed = λ h r x p. pick-has itemMap (seen G W k) (item h r (readOf (S h r) (T h r))) (mapping h r x)
-        (seen-has C Z h r (frame-in h r x p) (λ z. empty≢frame z p)) (ap (λ (z : Ent). mapOf h r (readOf z (T h r))) p);
-    live = λ m n.
-        let (a, b, q) = pick-from itemMap (seen G W k) m n in
-        let z = map-is a.h a.r (T a.h a.r) (S a.h a.r) m (ap (mapOf a.h a.r) (sym (seen-from C Z a b .says)) ∙ q) in
-        ap (λ (y : Mapping). S y.h y.r) (z .1) ∙ z .0;
+  pub treeᵃ : Rendered G W (Tᵃ G W k) (Sᵃ G W k)
+  treeᵃ = record {
+    root = subst (λ (h : ℕ). S h 0 ≡ table) top (Z .stands);
+    root-at = subst (λ (h : ℕ). T h 0 ≡ 0) top (Z .number);
+    bound = C .bound;
+    only = λ r p. top-only G W k G.top r (sym top) (full-at G W k G.top r p) .0;
+    good = good;
+    leaf = λ r p. omega (arith, child 0 r (omega arith) p .0);
+    up = C .up;
+    range = range;
+    inj = inj;
+    words = λ h r p. G .enc-dec h _ (T h r) (S h r) (C .reads h r p);
   }
+
+module _ {G : Geo} {W : ℕ → ℕ → ℕ} {P : ℕ → ℕ} {f k : ℕ} (top : suc k ≡ G.top) (A : Accepts G W P f k) where
+  own-tree : IsTree G W k
+  own-tree = record { some-table = omega (arith, A .total); sound = A .sound; distinct = A .distinct }
+
+  -- the tree, and its table numbers
+  abbrev Sᶜ : ℕ → ℕ → Ent
+  Sᶜ = Sᵃ G W k
+
+  abbrev Tᶜ : ℕ → ℕ → ℕ
+  Tᶜ = Tᵃ G W k
+
+  -- every number of the pool is reached or free
+  every : (t : ℕ) → t < G.n → List·Memᴰ t (places P f) ⊎ List·Memᴰ t (reached G W k)
+  every t l = List·Memᴰ·append-cases (places P f) (has-all G.n (places P f ++ reached G W k) once low count t l)
+    where
+      once : Distinct (places P f ++ reached G W k)
+      once = distinct-append (places P f) (reached G W k) (places-distinct P f (A .once)) (A .distinct)
+          (λ b m n. let (i, a, e) = places-from P f b m in A .apart i a (Memᴰ·cast e n))
+
+      reached-low : (b : ℕ) → (b ≡ 0) ⊎ List·Memᴰ b (tabs (seen G W k)) → b < G.n
+      reached-low b (inl e) = omega (arith, A .total)
+      reached-low b (inr m) = let (a, s, e) = tab-from top own-tree b m in omega (arith, e, treeᵃ top own-tree .range a.h a.r s)
+
+      low : (b : ℕ) → List·Memᴰ b (places P f ++ reached G W k) → b < G.n
+      low b m = ⊎-elim (λ n. let (i, a, e) = places-from P f b n in omega (arith, e, A .range i a))
+          (λ n. reached-low b (List·Memᴰ·cases-cons n)) (List·Memᴰ·append-cases (places P f) m)
+
+      count : length (places P f ++ reached G W k) ≡ G.n
+      count = length-append (places P f) (reached G W k) ∙ omega (arith, A .total, places-length P f)
+
+  unused-free : (t : ℕ) → t < G.n → Unused Tᶜ Sᶜ t → (i : ℕ) × (i < f) × (P i ≡ t)
+  unused-free t l u = ⊎-elim (places-from P f t) (λ m. absurd (used (List·Memᴰ·cases-cons m))) (every t l)
+    where
+      used : (t ≡ 0) ⊎ List·Memᴰ t (tabs (seen G W k)) → ⊥
+      used (inl e) = u (suc k) 0 (rootedᵃ G W k top .stands) (rootedᵃ G W k top .number ∙ sym e)
+      used (inr m) = let (a, s, e) = tab-from top own-tree t m in u a.h a.r s e
+
+  free-unused : (i : ℕ) → i < f → Unused Tᶜ Sᶜ (P i)
+  free-unused i l h r p e =
+      A .apart i l (⊎-elim (λ z. here (sym e ∙ z .2)) (λ z. there (Memᴰ·cast (sym e) (z .1))) (tab-found top own-tree h r p))
 
   -- what the audit accepts is a pool at rest, whose ledger is the mappings met
   pub accepted : Inv G W P f (Tᵃ G W k) (Sᵃ G W k) (maps (seen G W k)) G.top 0
   accepted = record {
-    ren = record {
-      root = subst (λ (h : ℕ). S h 0 ≡ table) top (Z .stands);
-      root-at = subst (λ (h : ℕ). T h 0 ≡ 0) top (Z .number);
-      bound = C .bound;
-      only = λ r p. top-only G W k G.top r (sym top) (full-at G W k G.top r p) .0;
-      good = good;
-      leaf = λ r p. omega (arith, child 0 r (omega arith) p .0);
-      up = C .up;
-      range = range;
-      inj = inj;
-      words = λ h r p. G .enc-dec h _ (T h r) (S h r) (C .reads h r p);
+    ren = treeᵃ top own-tree;
+    holds = treeᵃ-holds top own-tree;
+    dense = λ _ h r p l _. kid top own-tree (A .alive) h r p (omega arith);
+    spare = λ _. record {
+      free = record { each = λ i l. (A .range i l, free-unused i l); once = A .once; all = unused-free };
       zeros = λ t j l m u. let (i, a, e) = unused-free t l u in subst (λ (x : ℕ). W x j ≡ 0) e (A .zeros i a j m);
     };
-    dense = λ h r p l _. kid h r p (omega arith);
-    free = record { each = λ i l. (A .range i l, free-unused i l); once = A .once; all = unused-free };
-    holds = holds;
   }
 
-module _ {G : Geo} {W : ℕ → ℕ → ℕ} {P : ℕ → ℕ} {f : ℕ} {T : ℕ → ℕ → ℕ} {S : ℕ → ℕ → Ent} {L : List Mapping}
-    (I : Inv G W P f T S L G.top 0) (k : ℕ) (top : suc k ≡ G.top) where
+module _ {C D : Type 0} {G : Geo} {W : ℕ → ℕ → ℕ} {P : ℕ → ℕ} {f : ℕ} {T : ℕ → ℕ → ℕ} {S : ℕ → ℕ → Ent} {L : List Mapping} {h₀ r₀ : ℕ}
+    (I : InvIf C D G W P f T S L h₀ r₀) (k : ℕ) (top : suc k ≡ G.top) where
   sound-entry : (h w : ℕ) (below : ℕ → Type 0) → (S h w ≡ table → below (T h w)) → SoundE (readOf (S h w) (T h w)) below
   sound-entry h w below f = go (S h w) refl
     where
@@ -396,33 +420,50 @@ module _ {G : Geo} {W : ℕ → ℕ → ℕ} {P : ℕ → ℕ} {f : ℕ} {T : �
       (sound-entry (suc h) (r * G.K + i) (λ c. SoundT G W h c) (λ q. all-sound h (r * G.K + i) q))
 
   -- a table that the traversal names is one of the tree, below the root
-  named : (c : ℕ) → List·Memᴰ c (tabs (seen G W k)) → (a : Item) × (a.h ≤ k) × (S a.h a.r ≡ table) × (T a.h a.r ≡ c)
+  pub named : (c : ℕ) → List·Memᴰ c (tabs (seen G W k)) → (a : Item) × (a.h ≤ k) × (S a.h a.r ≡ table) × (T a.h a.r ≡ c)
   named c m = let (a, n, q) = pick-from itemTab (seen G W k) c m in let (l, s, t) = tab-at I k top a c n q in (a, l, s, t)
 
-  -- a table of the tree below the root is not all zero
-  not-bare : (h r : ℕ) → h ≤ k → S h r ≡ table → Bare W (T h r) G.K → ⊥
-  not-bare zero r l s z = I .ren .leaf r s
-  not-bare (suc h) r l s z =
-      let (r′, d, n) = I .dense h r s (omega arith) (λ z. omega (arith, z .0)) in
-      let q : S (suc h) (r′ / G.K) ≡ table = ap (S (suc h)) d ∙ s in
-      let y : W (T (suc h) (r′ / G.K)) (r′ % G.K) ≡ 0 = rw d (z (r′ % G.K) (mod-lt r′ (G .K-pos))) in
-      n (read-empty _ (T h r′) (sym (shape (I .ren) .reads h r′ q) ∙ ap (G .dec h) y ∙ G .dec-empty h))
-
-  -- a pool at rest is what the audit accepts
-  pub accepts : Accepts G W P f k
-  accepts = record {
+  -- words that render a tree are one
+  pub is-tree : IsTree G W k
+  is-tree = record {
+    some-table = omega (arith, I .ren .root-at, I .ren .range G.top 0 (I .ren .root));
     sound = rw (rooted (I .ren) top .number) at (all-sound k 0 (rooted (I .ren) top .stands));
     distinct = (
       λ m. let (a, l, s, t) = named 0 m in omega (arith, t, nonzero (I .ren) a.h a.r (omega arith) s),
       tabs-distinct I k top,
     );
-    alive = λ c m z. let (a, l, s, t) = named c m in not-bare a.h a.r l s (rw t z);
-    range = λ i l. I .free .each i l .0;
-    once = I .free .once;
-    apart = λ i l m. ⊎-elim
-        (λ e. I .free .each i l .1 G.top 0 (I .ren .root) (I .ren .root-at ∙ sym e))
-        (λ n. let (a, _, s, t) = named (P i) n in I .free .each i l .1 a.h a.r s t)
-        (List·Memᴰ·cases-cons m);
-    zeros = λ i l j b. I .ren .zeros (P i) j (I .free .each i l .0) b (I .free .each i l .1);
+  }
+
+  -- a table that is not used is not reached
+  pub unused-unreached : (c : ℕ) → Unused T S c → List·Memᴰ c (reached G W k) → ⊥
+  unused-unreached c u m = ⊎-elim (λ e. u G.top 0 (I .ren .root) (I .ren .root-at ∙ sym e)) (λ n. let (a, _, s, t) = named c n in u a.h a.r s t) (List·Memᴰ·cases-cons m)
+
+module _ {C D : Type 0} {G : Geo} {W : ℕ → ℕ → ℕ} {P : ℕ → ℕ} {f : ℕ} {T : ℕ → ℕ → ℕ} {S : ℕ → ℕ → Ent} {L : List Mapping}
+    (I : InvIf C D G W P f T S L G.top 0) (all : C) (k : ℕ) (top : suc k ≡ G.top) where
+  -- a table of the tree below the root is not all zero
+  not-bare : (h r : ℕ) → h ≤ k → S h r ≡ table → Bare W (T h r) G.K → ⊥
+  not-bare zero r l s z = I .ren .leaf r s
+  not-bare (suc h) r l s z =
+      let (r′, d, n) = I .dense all h r s (omega arith) (λ z. omega (arith, z .0)) in
+      let q : S (suc h) (r′ / G.K) ≡ table = ap (S (suc h)) d ∙ s in
+      let y : W (T (suc h) (r′ / G.K)) (r′ % G.K) ≡ 0 = rw d (z (r′ % G.K) (mod-lt r′ (G .K-pos))) in
+      n (read-empty _ (T h r′) (sym (shape (I .ren) .reads h r′ q) ∙ ap (G .dec h) y ∙ G .dec-empty h))
+
+  -- nor is one that the traversal names
+  pub tree-alive : (c : ℕ) → List·Memᴰ c (tabs (seen G W k)) → Bare W c G.K → ⊥
+  tree-alive c m z = let (a, l, s, t) = named I k top c m in not-bare a.h a.r l s (rw t z)
+
+module _ {G : Geo} {W : ℕ → ℕ → ℕ} {P : ℕ → ℕ} {f : ℕ} {T : ℕ → ℕ → ℕ} {S : ℕ → ℕ → Ent} {L : List Mapping}
+    (I : Inv G W P f T S L G.top 0) (k : ℕ) (top : suc k ≡ G.top) where
+  -- a pool at rest is what the audit accepts
+  pub accepts : Accepts G W P f k
+  accepts = record {
+    sound = is-tree I k top .sound;
+    distinct = is-tree I k top .distinct;
+    alive = tree-alive I tt k top;
+    range = λ i l. I .spare tt .free .each i l .0;
+    once = I .spare tt .free .once;
+    apart = λ i l. unused-unreached I k top (P i) (I .spare tt .free .each i l .1);
+    zeros = λ i l j b. I .spare tt .zeros (P i) j (I .spare tt .free .each i l .0) b (I .spare tt .free .each i l .1);
     total = omega (arith, all-tables I k top);
   }

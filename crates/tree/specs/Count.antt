@@ -10,7 +10,7 @@ use native.Mathlib.Omega.{arith}
 use native.Mathlib.Decide.{ℕ-discrete}
 use lib.ListN.{length, length-map}
 use Rattle.tree.specs.Tree.{Ent, Geo}
-use Rattle.tree.specs.Inv.{Mapping, Inv}
+use Rattle.tree.specs.Inv.{Mapping, InvIf}
 pub use Rattle.laws.specs.Lists.{Distinct}
 
 module _ {A : Type 0} where
@@ -123,26 +123,26 @@ places-distinct P f once = distinct-map P (below f) (below-distinct f) (λ i j a
 pub places-from : (P : ℕ → ℕ) (f t : ℕ) → List·Memᴰ t (places P f) → (i : ℕ) × (i < f) × (P i ≡ t)
 places-from P f t m = let (i, a, e) = Memᴰ·of-map P (below f) m in (i, below-lt f i a, e)
 
-module _ {G : Geo} {W : ℕ → ℕ → ℕ} {P : ℕ → ℕ} {f : ℕ} {T : ℕ → ℕ → ℕ} {S : ℕ → ℕ → Ent} {L : List Mapping} {h r : ℕ}
-    (I : Inv G W P f T S L h r) where
+module _ {C D : Type 0} {G : Geo} {W : ℕ → ℕ → ℕ} {P : ℕ → ℕ} {f : ℕ} {T : ℕ → ℕ → ℕ} {S : ℕ → ℕ → Ent} {L : List Mapping} {h r : ℕ}
+    (I : InvIf C D G W P f T S L h r) (d : D) where
   -- the root is table 0 of the pool
   pub root-low : zero < G.n
   root-low = omega (arith, I .ren .root-at, I .ren .range G.top 0 (I .ren .root))
 
   -- no free table is the root
   pub free-not-root : List·Memᴰ 0 (places P f) → ⊥
-  free-not-root m = let (i, l, e) = places-from P f 0 m in I .free .each i l .1 G.top 0 (I .ren .root) (I .ren .root-at ∙ sym e)
+  free-not-root m = let (i, l, e) = places-from P f 0 m in I .spare d .free .each i l .1 G.top 0 (I .ren .root) (I .ren .root-at ∙ sym e)
 
   -- free tables are in the pool
   pub free-low : (t : ℕ) → List·Memᴰ t (places P f) → t < G.n
-  free-low t m = let (i, l, e) = places-from P f t m in omega (arith, e, I .free .each i l .0)
+  free-low t m = let (i, l, e) = places-from P f t m in omega (arith, e, I .spare d .free .each i l .0)
 
   -- with the root they are at most n: the free list has a place for one more
   pub free-room : f < G.n
   free-room = omega (arith, length-within (0 ∷ places P f) (below G.n) once low, below-length G.n, places-length P f)
     where
       once : Distinct (0 ∷ places P f)
-      once = (free-not-root, places-distinct P f (I .free .once))
+      once = (free-not-root, places-distinct P f (I .spare d .free .once))
 
       low : (t : ℕ) → List·Memᴰ t (0 ∷ places P f) → List·Memᴰ t (below G.n)
       low t m = below-has G.n t (⊎-elim (λ e. omega (arith, root-low)) (free-low t) (List·Memᴰ·cases-cons m))

@@ -60,14 +60,16 @@ module _ (G : Geo) (k : ℕ) (top : suc k ≡ G.top) (some : zero < G.n) where
           let u = only-root h r (table≢empty p) in
           let u′ = only-root h′ r′ (table≢empty p′) in (u .0 ∙ sym (u′ .0), u .1 ∙ sym (u′ .1));
       words = λ h r p. z 0 (r % G.K) ∙ sym (ap (λ (e : Ent). G .enc h e 0) (bare h r p) ∙ G .enc-empty h 0);
-      zeros = λ t i _ _ _. z t i;
-    };
-    dense = λ h r p c d. absurd (omega (arith, only-root (suc h) r (table≢empty p) .0));
-    free = record {
-      each = λ i c. (omega (arith, l i c), λ h r p e. omega (arith, l i c));
-      once = λ i j c d e. omega (arith, l i c, l j d);
-      all = λ t c u.
-          (G.n - 1 - t, not-zero t c u, l (G.n - 1 - t) (not-zero t c u) ∙ omega (arith, not-zero t c u));
     };
     holds = record { listed = λ h r x p. absurd (no-frame h r x p); live = λ m c. absurd (List·Memᴰ·not-nil c) };
+    dense = λ _ h r p c d. absurd (omega (arith, only-root (suc h) r (table≢empty p) .0));
+    spare = λ _. record {
+      free = record {
+        each = λ i c. (omega (arith, l i c), λ h r p e. omega (arith, l i c));
+        once = λ i j c d e. omega (arith, l i c, l j d);
+        all = λ t c u.
+            (G.n - 1 - t, not-zero t c u, l (G.n - 1 - t) (not-zero t c u) ∙ omega (arith, not-zero t c u));
+      };
+      zeros = λ t i _ _ _. z t i;
+    };
   }

@@ -1,7 +1,9 @@
 -- The invariant between words, free list and ledger, and the four steps that keep it.
--- A ledger is a list of mappings. `Inv G W P f T S L h₀ r₀` says: the words W are those of the tree S, T (`Rendered`); every
--- table has an entry, but for the root and the one at (h₀, r₀) (`Dense`); the first f places of P are the unused tables
--- (`Free`); the frames of the tree are the ledger L (`Holds`). At rest the exception is the root itself, (top, 0), which needs
+-- A ledger is a list of mappings. `Inv G W P f T S L h₀ r₀` says: the words W are those of the tree S, T (`Rendered`); the
+-- frames of the tree are the ledger L (`Holds`); every table has an entry, but for the root and the one at (h₀, r₀) (`Dense`);
+-- the first f places of P are the unused tables (`Free`), and those are zero (`Zeros`). `InvIf C D` asks for entries only where
+-- C holds, and for the free list only where D does. The steps are proved of it, so that they serve a pool that the audit
+-- accepts, and words of which no more is known than that they are a tree. At rest the exception is the root itself, (top, 0), which needs
 -- none; in the middle of a call it is the table just linked, or the one that just lost an entry. The steps: `link` a new
 -- empty table, `put` a frame, `clear` one, `unlink` an empty table; `excuse` and `settle` go between a call and rest.
 -- `Store` is the memory that a call runs on, of which only reading what was written is known; `reword` passes to it.
@@ -13,7 +15,7 @@ use native.Mathlib.Nat.{mod-lt}
 use native.Mathlib.Omega.{arith}
 use native.Mathlib.Decide.{ℕ-discrete}
 use Rattle.tree.specs.Region.{Same, same?, upd, upd-at, upd-other, put1, put1-at, put1-other}
-use Rattle.tree.specs.Tree.{Ent, empty, frame, table, table≢empty, table≢frame, empty≢frame, empty?, Geo, Unused, Rendered, Edit, S⁺, T⁺, Tab, new, old, tab, change}
+use Rattle.tree.specs.Tree.{Ent, empty, frame, table, table≢empty, table≢frame, empty≢frame, empty?, Geo, Unused, Rendered, Zeros, Edit, S⁺, T⁺, Tab, new, old, tab, change, zeros-change}
 
 -- a mapping: a frame of height h at region r, with payload x (base and attributes as one number)
 pub record Mapping : Type 0 where
@@ -44,13 +46,28 @@ pub record Holds (S : ℕ → ℕ → Ent) (L : List Mapping) : Type 0 where
   pub listed : (h r x : ℕ) → S h r ≡ frame x → List·Memᴰ (mapping h r x) L
   pub live : (m : Mapping) → List·Memᴰ m L → S m.h m.r ≡ frame m.x
 
--- words W, free list P with f tables, ledger L: all of the tree S, T, with an exception at (h₀, r₀)
-pub record Inv (G : Geo) (W : ℕ → ℕ → ℕ) (P : ℕ → ℕ) (f : ℕ)
+-- the free list: the first f places of P are the unused tables, and those are zero
+pub record Spare (G : Geo) (W : ℕ → ℕ → ℕ) (P : ℕ → ℕ) (f : ℕ) (T : ℕ → ℕ → ℕ) (S : ℕ → ℕ → Ent) : Type 0 where
+  pub free : Free G T S P f
+  pub zeros : Zeros G W T S
+
+-- words W, free list P with f tables, ledger L: all of the tree S, T, with an exception at (h₀, r₀); of entries and of the free
+-- list no more than C and D ask
+pub record InvIf (C D : Type 0) (G : Geo) (W : ℕ → ℕ → ℕ) (P : ℕ → ℕ) (f : ℕ)
     (T : ℕ → ℕ → ℕ) (S : ℕ → ℕ → Ent) (L : List Mapping) (h₀ r₀ : ℕ) : Type 0 where
   pub ren : Rendered G W T S
-  pub dense : Dense G S h₀ r₀
-  pub free : Free G T S P f
   pub holds : Holds S L
+  pub dense : C → Dense G S h₀ r₀
+  pub spare : D → Spare G W P f T S
+
+-- all of it
+abbrev pub Inv : (G : Geo) → (ℕ → ℕ → ℕ) → (ℕ → ℕ) → ℕ → (ℕ → ℕ → ℕ) → (ℕ → ℕ → Ent) → List Mapping → ℕ → ℕ → Type 0
+Inv G W P f T S L h₀ r₀ = InvIf (Unit {0}) (Unit {0}) G W P f T S L h₀ r₀
+
+-- where both hold, all of it
+pub whole : {C D : Type 0} {G : Geo} {W : ℕ → ℕ → ℕ} {P : ℕ → ℕ} {f : ℕ} {T : ℕ → ℕ → ℕ} {S : ℕ → ℕ → Ent} {L : List Mapping} {h₀ r₀ : ℕ}
+    → InvIf C D G W P f T S L h₀ r₀ → C → D → Inv G W P f T S L h₀ r₀
+whole I c d = record { ren = I .ren; holds = I .holds; dense = λ _. I .dense c; spare = λ _. I .spare d }
 
 -- the list with its head kept or not, by a test
 abbrev pub drop-if : {A : Type 0} {B : Type 0} → Dec A → B → List B → List B
@@ -189,16 +206,17 @@ module _ {S : ℕ → ℕ → Ent} {L : List Mapping} (H : Holds S L) (h r : ℕ
       live : (m : Mapping) → List·Memᴰ m L × (Same h r m.h m.r → ⊥) → upd S h r empty m.h m.r ≡ frame m.x
       live m (a, d) = upd-other S h r empty m.h m.r d ∙ H .live m a
 
+-- a table unused before a change stays so, if it is not taken
+pub still : {T : ℕ → ℕ → ℕ} {S : ℕ → ℕ → Ent} (h r c : ℕ) (e : Ent) (t : ℕ) → (e ≡ table → c ≢ t) → Unused T S t
+    → Unused (upd T h r c) (upd S h r e) t
+still {T} {S} h r c e t n u h′ r′ p q = go (same? h r h′ r′)
+  where
+    go : Dec (Same h r h′ r′) → ⊥
+    go (yes s) = n (sym (upd-at S h r e h′ r′ s) ∙ p) (sym (upd-at T h r c h′ r′ s) ∙ q)
+    go (no d) = u h′ r′ (sym (upd-other S h r e h′ r′ d) ∙ p) (sym (upd-other T h r c h′ r′ d) ∙ q)
+
 -- `Free` through a change
 module _ {G : Geo} {W T : ℕ → ℕ → ℕ} {S : ℕ → ℕ → Ent} {h r c : ℕ} {e : Ent} (E : Edit G W T S h r c e) where
-  -- a table unused before stays so, if it is not taken
-  still : (t : ℕ) → (e ≡ table → c ≢ t) → Unused T S t → Unused (T⁺ E) (S⁺ E) t
-  still t n u h′ r′ p q = go (tab E h′ r′ p)
-    where
-      go : Tab E h′ r′ → ⊥
-      go (new a b w z) = n w (sym z ∙ q)
-      go (old d w z) = u h′ r′ w (sym z ∙ q)
-
   -- a table unused after was so before, if it is not given back
   before : (t : ℕ) → (S h r ≡ table → T h r ≢ t) → Unused (T⁺ E) (S⁺ E) t → Unused T S t
   before t n u h′ r′ p q = go (same? h r h′ r′)
@@ -210,7 +228,7 @@ module _ {G : Geo} {W T : ℕ → ℕ → ℕ} {S : ℕ → ℕ → Ent} {h r c 
   -- no table comes or goes
   free-keep : {P : ℕ → ℕ} {f : ℕ} → S h r ≢ table → e ≢ table → Free G T S P f → Free G (T⁺ E) (S⁺ E) P f
   free-keep {P} was is F = record {
-    each = λ i l. (F .each i l .0, still (P i) (λ z. absurd (is z)) (F .each i l .1));
+    each = λ i l. (F .each i l .0, still h r c e (P i) (λ z. absurd (is z)) (F .each i l .1));
     once = F .once;
     all = λ t l u. F .all t l (before t (λ z. absurd (was z)) u);
   }
@@ -218,7 +236,7 @@ module _ {G : Geo} {W T : ℕ → ℕ → ℕ} {S : ℕ → ℕ → Ent} {h r c 
   -- the last free table is taken
   free-take : {P : ℕ → ℕ} {f : ℕ} → S h r ≢ table → e ≡ table → c ≡ P f → Free G T S P (suc f) → Free G (T⁺ E) (S⁺ E) P f
   free-take {P} {f} was is at F = record {
-    each = λ i l. (F .each i (omega arith) .0, still (P i) (λ _ z. not-last i l (sym z ∙ at)) (F .each i (omega arith) .1));
+    each = λ i l. (F .each i (omega arith) .0, still h r c e (P i) (λ _ z. not-last i l (sym z ∙ at)) (F .each i (omega arith) .1));
     once = λ i j a b. F .once i j (omega arith) (omega arith);
     all = λ t l u. let (i, a, b) = F .all t l (before t (λ z. absurd (was z)) u) in (i, omega (arith, not-f t u i b), b);
   }
@@ -252,7 +270,7 @@ module _ {G : Geo} {W T : ℕ → ℕ → ℕ} {S : ℕ → ℕ → Ent} {h r c 
       each : (i : ℕ) → i < suc f → Dec (i ≡ f) → (P⁺ i < G.n) × Unused (T⁺ E) (S⁺ E) (P⁺ i)
       each i l (yes z) = rw (z, put1-at P f (T h r)) (E .R .range h r was, λ h′ r′ p q. gone h′ r′ q (tab E h′ r′ p))
       each i l (no z) = let k = F .each i (omega arith) in
-          rw (put1-other P f (T h r) i z) (k .0, still (P i) (λ w. absurd (is w)) (k .1))
+          rw (put1-other P f (T h r) i z) (k .0, still h r c e (P i) (λ w. absurd (is w)) (k .1))
 
       once : (i j : ℕ) → i < suc f → j < suc f → Dec (i ≡ f) → Dec (j ≡ f) → P⁺ i ≡ P⁺ j → i ≡ j
       once i j a b (yes y) (yes z) q = y ∙ sym z
@@ -266,37 +284,41 @@ module _ {G : Geo} {W T : ℕ → ℕ → ℕ} {S : ℕ → ℕ → Ent} {h r c 
       all t l u (no z) = let (i, a, b) = F .all t l (before t (λ _. z) u) in
           (i, omega arith, put1-other P f (T h r) i (λ y. omega arith) ∙ b)
 
-module _ {G : Geo} {W : ℕ → ℕ → ℕ} {P : ℕ → ℕ} {f : ℕ} {T : ℕ → ℕ → ℕ} {S : ℕ → ℕ → Ent} {L : List Mapping} where
+module _ {C D : Type 0} {G : Geo} {W : ℕ → ℕ → ℕ} {P : ℕ → ℕ} {f : ℕ} {T : ℕ → ℕ → ℕ} {S : ℕ → ℕ → Ent} {L : List Mapping} where
   -- at rest, any table may be the exception
-  pub excuse : {h r : ℕ} → Inv G W P f T S L G.top 0 → Inv G W P f T S L h r
+  pub excuse : {h r : ℕ} → InvIf C D G W P f T S L G.top 0 → InvIf C D G W P f T S L h r
   excuse I = record {
     ren = I .ren;
-    dense = λ h r p l d. I .dense h r p l (λ s. omega (arith, s .0));
-    free = I .free;
     holds = I .holds;
+    dense = λ c h r p l d. I .dense c h r p l (λ s. omega (arith, s .0));
+    spare = I .spare;
   }
 
   -- the exception has an entry after all: rest
-  pub settle : (h r r′ : ℕ) → Inv G W P f T S L (suc h) r → r′ / G.K ≡ r → S h r′ ≢ empty → Inv G W P f T S L G.top 0
+  pub settle : (h r r′ : ℕ) → InvIf C D G W P f T S L (suc h) r → r′ / G.K ≡ r → S h r′ ≢ empty → InvIf C D G W P f T S L G.top 0
   settle h r r′ I a b = record {
     ren = I .ren;
-    dense = λ h₁ r₁ p l d. go h₁ r₁ p l (same? (suc h) r (suc h₁) r₁);
-    free = I .free;
     holds = I .holds;
+    dense = λ c h₁ r₁ p l d. go (I .dense c) h₁ r₁ p l (same? (suc h) r (suc h₁) r₁);
+    spare = I .spare;
   }
     where
-      go : (h₁ r₁ : ℕ) → S (suc h₁) r₁ ≡ table → suc h₁ < G.top → Dec (Same (suc h) r (suc h₁) r₁) → HasEntry G S h₁ r₁
-      go h₁ r₁ p l (yes s) = (r′, a ∙ sym (s .1), λ z. b (let y : h₁ ≡ h = omega (arith, s .0) in cc))
-      go h₁ r₁ p l (no d) = I .dense h₁ r₁ p l d
+      go : Dense G S (suc h) r → (h₁ r₁ : ℕ) → S (suc h₁) r₁ ≡ table → suc h₁ < G.top → Dec (Same (suc h) r (suc h₁) r₁) → HasEntry G S h₁ r₁
+      go K h₁ r₁ p l (yes s) = (r′, a ∙ sym (s .1), λ z. b (let y : h₁ ≡ h = omega (arith, s .0) in cc))
+      go K h₁ r₁ p l (no d) = K h₁ r₁ p l d
 
   -- a new empty table at (h, r), from the end of the free list
-  pub link : (h r : ℕ) → Inv G W P (suc f) T S L (suc h) (r / G.K) → S (suc h) (r / G.K) ≡ table → S h r ≡ empty → zero < h
-      → Inv G (upd W (T (suc h) (r / G.K)) (r % G.K) (G .enc h table (P f))) P f (upd T h r (P f)) (upd S h r table) L h r
-  link h r I p q pos = record {
+  pub link : (h r : ℕ) → InvIf C D G W P (suc f) T S L (suc h) (r / G.K) → S (suc h) (r / G.K) ≡ table → S h r ≡ empty → zero < h
+      → (P f < G.n) × Unused T S (P f) → ((i : ℕ) → i < G.K → W (P f) i ≡ 0)
+      → InvIf C D G (upd W (T (suc h) (r / G.K)) (r % G.K) (G .enc h table (P f))) P f (upd T h r (P f)) (upd S h r table) L h r
+  link h r I p q pos own clean = record {
     ren = change E;
-    dense = dense-more E (table≢empty refl) (I .dense);
-    free = free-take E (λ z. table≢empty z q) refl refl (I .free);
     holds = holds-keep (I .holds) h r (λ x z. empty≢frame q z) (λ x z. table≢frame refl z);
+    dense = λ c. dense-more E (table≢empty refl) (I .dense c);
+    spare = λ d. let K = I .spare d in record {
+      free = free-take E (λ z. table≢empty z q) refl refl (K .free);
+      zeros = zeros-change E (K .zeros);
+    };
   }
     where
       E : Edit G W T S h r (P f) table
@@ -304,20 +326,24 @@ module _ {G : Geo} {W : ℕ → ℕ → ℕ} {P : ℕ → ℕ} {f : ℕ} {T : �
         R = I .ren;
         parent = p;
         kids = no-kids (I .ren) h r (omega (arith, I .ren .bound (suc h) (r / G.K) (table≢empty p))) (λ z. table≢empty z q);
-        fresh = λ _. (pos, I .free .each f (omega arith) .0, I .free .each f (omega arith) .1);
+        fresh = λ _. (pos, own .0, own .1);
+        clean = λ _. clean;
         ok = λ x z. absurd (table≢frame refl z);
       }
 
   -- a frame at (h, r), which was empty
-  pub put : (h r x : ℕ) → Inv G W P f T S L (suc h) (r / G.K) → S (suc h) (r / G.K) ≡ table → S h r ≡ empty → G .Good h x
-      → Inv G (upd W (T (suc h) (r / G.K)) (r % G.K) (G .enc h (frame x) 0)) P f (upd T h r 0) (upd S h r (frame x))
+  pub put : (h r x : ℕ) → InvIf C D G W P f T S L (suc h) (r / G.K) → S (suc h) (r / G.K) ≡ table → S h r ≡ empty → G .Good h x
+      → InvIf C D G (upd W (T (suc h) (r / G.K)) (r % G.K) (G .enc h (frame x) 0)) P f (upd T h r 0) (upd S h r (frame x))
       (mapping h r x ∷ L) G.top 0
   put h r x I p q ok = record {
     ren = change E;
-    dense = λ h′ r′ t l d. dense-more E (λ z. empty≢frame z refl) (I .dense) h′ r′ t l
-        (λ s. table≢frame t (upd-at S h r (frame x) (suc h′) r′ s));
-    free = free-keep E (λ z. table≢empty z q) (λ z. table≢frame z refl) (I .free);
     holds = holds-add (I .holds) h r x q;
+    dense = λ c h′ r′ t l d. dense-more E (λ z. empty≢frame z refl) (I .dense c) h′ r′ t l
+        (λ s. table≢frame t (upd-at S h r (frame x) (suc h′) r′ s));
+    spare = λ d. let K = I .spare d in record {
+      free = free-keep E (λ z. table≢empty z q) (λ z. table≢frame z refl) (K .free);
+      zeros = zeros-change E (K .zeros);
+    };
   }
     where
       E : Edit G W T S h r 0 (frame x)
@@ -326,18 +352,22 @@ module _ {G : Geo} {W : ℕ → ℕ → ℕ} {P : ℕ → ℕ} {f : ℕ} {T : �
         parent = p;
         kids = no-kids (I .ren) h r (omega (arith, I .ren .bound (suc h) (r / G.K) (table≢empty p))) (λ z. table≢empty z q);
         fresh = λ z. absurd (table≢frame z refl);
+        clean = λ z. absurd (table≢frame z refl);
         ok = λ y z. let e : x ≡ y = cc in subst (λ (k : ℕ). G .Good h k) e ok;
       }
 
   -- no frame at (h, r) any more
-  pub clear : (h r x : ℕ) → Inv G W P f T S L G.top 0 → S h r ≡ frame x
-      → Inv G (upd W (T (suc h) (r / G.K)) (r % G.K) (G .enc h empty 0)) P f (upd T h r 0) (upd S h r empty)
+  pub clear : (h r x : ℕ) → InvIf C D G W P f T S L G.top 0 → S h r ≡ frame x
+      → InvIf C D G (upd W (T (suc h) (r / G.K)) (r % G.K) (G .enc h empty 0)) P f (upd T h r 0) (upd S h r empty)
       (without h r L) (suc h) (r / G.K)
   clear h r x I p = record {
     ren = change E;
-    dense = dense-less E refl (excuse {h = h} {r = r} I .dense);
-    free = free-keep E (λ z. table≢frame z p) (λ z. table≢empty z refl) (I .free);
     holds = holds-drop (I .holds) h r;
+    dense = λ c. dense-less E refl (excuse {h = h} {r = r} I .dense c);
+    spare = λ d. let K = I .spare d in record {
+      free = free-keep E (λ z. table≢frame z p) (λ z. table≢empty z refl) (K .free);
+      zeros = zeros-change E (K .zeros);
+    };
   }
     where
       l : h < G.top
@@ -349,19 +379,23 @@ module _ {G : Geo} {W : ℕ → ℕ → ℕ} {P : ℕ → ℕ} {f : ℕ} {T : �
         parent = I .ren .up h r l (λ z. empty≢frame z p);
         kids = no-kids (I .ren) h r (omega (arith, l)) (λ z. table≢frame z p);
         fresh = λ z. absurd (table≢empty z refl);
+        clean = λ z. absurd (table≢empty z refl);
         ok = λ y z. absurd (empty≢frame refl z);
       }
 
   -- no table at (h, r) any more, which was empty: it goes to the end of the free list
-  pub unlink : (h r : ℕ) → Inv G W P f T S L h r → S h r ≡ table → h < G.top
+  pub unlink : (h r : ℕ) → InvIf C D G W P f T S L h r → S h r ≡ table → h < G.top
       → ((h′ r′ : ℕ) → suc h′ ≡ h → r′ / G.K ≡ r → S h′ r′ ≡ empty)
-      → Inv G (upd W (T (suc h) (r / G.K)) (r % G.K) (G .enc h empty 0)) (put1 P f (T h r)) (suc f) (upd T h r 0)
+      → InvIf C D G (upd W (T (suc h) (r / G.K)) (r % G.K) (G .enc h empty 0)) (put1 P f (T h r)) (suc f) (upd T h r 0)
       (upd S h r empty) L (suc h) (r / G.K)
   unlink h r I p l kids = record {
     ren = change E;
-    dense = dense-less E refl (I .dense);
-    free = free-give E p (λ z. table≢empty z refl) (I .free);
     holds = holds-keep (I .holds) h r (λ x z. table≢frame p z) (λ x z. empty≢frame refl z);
+    dense = λ c. dense-less E refl (I .dense c);
+    spare = λ d. let K = I .spare d in record {
+      free = free-give E p (λ z. table≢empty z refl) (K .free);
+      zeros = zeros-change E (K .zeros);
+    };
   }
     where
       E : Edit G W T S h r 0 empty
@@ -370,12 +404,13 @@ module _ {G : Geo} {W : ℕ → ℕ → ℕ} {P : ℕ → ℕ} {f : ℕ} {T : �
         parent = I .ren .up h r l (table≢empty p);
         kids = kids;
         fresh = λ z. absurd (table≢empty z refl);
+        clean = λ z. absurd (table≢empty z refl);
         ok = λ y z. absurd (empty≢frame refl z);
       }
 
--- words that agree render the same tree
+-- words whose tables agree render the same tree
 pub same-words : {G : Geo} {W W′ T : ℕ → ℕ → ℕ} {S : ℕ → ℕ → Ent} → Rendered G W T S
-    → ((t i : ℕ) → i < G.K → W′ t i ≡ W t i) → Rendered G W′ T S
+    → ((h r i : ℕ) → S h r ≡ table → i < G.K → W′ (T h r) i ≡ W (T h r) i) → Rendered G W′ T S
 same-words {G} R q = record {
   root = R .root;
   root-at = R .root-at;
@@ -386,23 +421,40 @@ same-words {G} R q = record {
   up = R .up;
   range = R .range;
   inj = R .inj;
-  words = λ h r p. q _ (r % G.K) (mod-lt r (G .K-pos)) ∙ R .words h r p;
-  zeros = λ t i l m u. q t i m ∙ R .zeros t i l m u;
+  words = λ h r p. q (suc h) (r / G.K) (r % G.K) p (mod-lt r (G .K-pos)) ∙ R .words h r p;
 }
 
--- words and free places that agree keep the invariant
-pub reword : {G : Geo} {W W′ : ℕ → ℕ → ℕ} {P P′ : ℕ → ℕ} {f : ℕ} {T : ℕ → ℕ → ℕ} {S : ℕ → ℕ → Ent} {L : List Mapping} {h r : ℕ}
-    → Inv G W P f T S L h r → ((t i : ℕ) → i < G.K → W′ t i ≡ W t i) → ((i : ℕ) → i < f → P′ i ≡ P i) → Inv G W′ P′ f T S L h r
-reword I q z = record {
-  ren = same-words (I .ren) q;
-  dense = I .dense;
-  free = record {
-    each = λ i l. rw (z i l) (I .free .each i l);
-    once = λ i j a b e. I .free .once i j a b (sym (z i a) ∙ e ∙ z j b);
-    all = λ t l u. let (i, a, b) = I .free .all t l u in (i, a, z i a ∙ b);
-  };
+module _ {C D : Type 0} {G : Geo} {W W′ : ℕ → ℕ → ℕ} {P P′ : ℕ → ℕ} {f : ℕ} {T : ℕ → ℕ → ℕ} {S : ℕ → ℕ → Ent} {L : List Mapping} {h r : ℕ} where
+  -- words and free places that agree keep the invariant
+  pub reword : InvIf C D G W P f T S L h r → ((t i : ℕ) → i < G.K → W′ t i ≡ W t i) → (D → (i : ℕ) → i < f → P′ i ≡ P i) → InvIf C D G W′ P′ f T S L h r
+  reword I q z = record {
+    ren = same-words (I .ren) (λ h r i _ l. q (T h r) i l);
+    holds = I .holds;
+    dense = I .dense;
+    spare = λ c. let K = I .spare c in record {
+      free = record {
+        each = λ i l. rw (z c i l) (K .free .each i l);
+        once = λ i j a b e. K .free .once i j a b (sym (z c i a) ∙ e ∙ z c j b);
+        all = λ t l u. let (i, a, b) = K .free .all t l u in (i, a, z c i a ∙ b);
+      };
+      zeros = λ t i l m u. q t i m ∙ K .zeros t i l m u;
+    };
+  }
+
+-- an unused table may be filled with zeros
+pub scrub : {C D : Type 0} {G : Geo} {W W′ : ℕ → ℕ → ℕ} {P : ℕ → ℕ} {f : ℕ} {T : ℕ → ℕ → ℕ} {S : ℕ → ℕ → Ent} {L : List Mapping} {h r : ℕ}
+    → InvIf C D G W P f T S L h r → (c : ℕ) → Unused T S c → ((t i : ℕ) → i < G.K → t ≢ c → W′ t i ≡ W t i) → ((i : ℕ) → i < G.K → W′ c i ≡ 0)
+    → InvIf C D G W′ P f T S L h r
+scrub {G = G} {W} {W′} {T = T} {S} I c u q z = record {
+  ren = same-words (I .ren) (λ h r i p l. q (T h r) i l (u h r p));
   holds = I .holds;
+  dense = I .dense;
+  spare = λ d. let K = I .spare d in record { free = K .free; zeros = λ t i l m v. go (K .zeros) t i l m v (ℕ-discrete t c) };
 }
+  where
+    go : Zeros G W T S → (t i : ℕ) → t < G.n → i < G.K → Unused T S t → Dec (t ≡ c) → W′ t i ≡ 0
+    go K t i l m v (yes e) = rw e (z i m)
+    go K t i l m v (no d) = q t i m d ∙ K t i l m v
 
 -- memory: M holds the words, Q the free list; of a call's writes only what is read afterwards is known
 pub record Store (G : Geo) : Type 1 where

@@ -13,7 +13,7 @@ use native.Mathlib.Decide.{ℕ-discrete, decLt, decLe}
 use Rattle.tree.specs.Region.{anc, page, anc-page}
 use Rattle.tree.specs.Tree.{Ent, empty, frame, table, table≢empty, table≢frame, empty≢frame, Geo, Rendered}
 use Rattle.tree.specs.Walk.{chain, Stop, Ends}
-use Rattle.tree.specs.Inv.{Mapping, mapping, Holds, Inv, frame-low}
+use Rattle.tree.specs.Inv.{Mapping, mapping, Holds, InvIf, frame-low}
 use Rattle.tree.specs.Count.{any?}
 
 module _ {A : Type 0} {Q : A → Type 0} (q? : (a : A) → Dec (Q a)) where
@@ -152,6 +152,20 @@ module _ {G : Geo} {W T : ℕ → ℕ → ℕ} {S : ℕ → ℕ → Ent} (R : Re
           meets : Meets G.K g v (mapping s r x)
           meets = subst (λ (j : ℕ). anc G.K j v ≡ anc G.K j (page G.K s r)) k (sym (anc-page G.K s r (G .K-pos)))
 
+    -- a walk to a mapping's height or below, for a page that the mapping holds, ends at its frame
+    pub covers-from : {g v h : ℕ} {o : Stop} → Ends G T S g v h o → (m : Mapping) → List·Memᴰ m L → Covers G.K v m → g ≤ m.h → m.h ≡ o .height
+    covers-from {g} {v} {o = o} E m a c l = frame-at v (o .height) m.h m.x (E .parent) no-table there
+      where
+        there : S m.h (anc G.K m.h v) ≡ frame m.x
+        there = ap (S m.h) c ∙ H .live m a
+
+        no-table : S (o .height) (anc G.K (o .height) v) ≢ table
+        no-table t = ⊎-elim (λ n. n t) (λ z. go z (ℕ-discrete m.h (o .height))) (E .done)
+          where
+            go : o .height ≡ g → Dec (m.h ≡ o .height) → ⊥
+            go z (yes e) = table≢frame t (ap (λ (j : ℕ). S j (anc G.K j v)) (sym e) ∙ there)
+            go z (no d) = table≢frame (chain R v (o .height) (table≢empty t) m.h (omega arith) (R .bound m.h (anc G.K m.h v) (λ q. empty≢frame q there))) there
+
     -- where a query's walk ended
     module _ {v h : ℕ} {o : Stop} (E : Ends G T S 0 v h o) where
       -- the height of the entry
@@ -160,7 +174,7 @@ module _ {G : Geo} {W T : ℕ → ℕ → ℕ} {S : ℕ → ℕ → Ent} (R : Re
 
       -- a mapping that holds the page has the entry's height
       pub covers-at : (m : Mapping) → List·Memᴰ m L → Covers G.K v m → m.h ≡ s₀
-      covers-at m a c = frame-at v s₀ m.h m.x (E .parent) (ended E) (ap (S m.h) c ∙ H .live m a)
+      covers-at m a c = covers-from E m a c (omega arith)
 
       -- at an empty entry: the ledger has nothing at the page
       pub query-none : S s₀ (anc G.K s₀ v) ≡ empty → lookup G.K v L ≡ none
@@ -180,13 +194,13 @@ module _ {G : Geo} {W T : ℕ → ℕ → ℕ} {S : ℕ → ℕ → Ent} (R : Re
               let y : m.x ≡ x = cc in
               λ i. mapping (p i) (q i) (y i)
 
-module _ {G : Geo} {W : ℕ → ℕ → ℕ} {P : ℕ → ℕ} {f : ℕ} {T : ℕ → ℕ → ℕ} {S : ℕ → ℕ → Ent} {L : List Mapping}
-    (I : Inv G W P f T S L G.top 0) where
+module _ {C D : Type 0} {G : Geo} {W : ℕ → ℕ → ℕ} {P : ℕ → ℕ} {f : ℕ} {T : ℕ → ℕ → ℕ} {S : ℕ → ℕ → Ent} {L : List Mapping}
+    (I : InvIf C D G W P f T S L G.top 0) (all : C) where
   -- a region below the root that has a table needs it
   pub table-inside : (k r : ℕ) → k < G.top → S k r ≡ table → Needs G.K L k r
   table-inside zero r l p = absurd (I .ren .leaf r p)
   table-inside (suc k) r l p =
-      let (r′, a, b) = I .dense k r p l (λ s. omega (arith, s .0)) in
+      let (r′, a, b) = I .dense all k r p l (λ s. omega (arith, s .0)) in
       go r′ a b (S k r′) refl (λ q. table-inside k r′ (omega arith) q)
     where
       go : (r′ : ℕ) → r′ / G.K ≡ r → S k r′ ≢ empty → (e : Ent) → S k r′ ≡ e → (S k r′ ≡ table → Needs G.K L k r′)

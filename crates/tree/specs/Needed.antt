@@ -162,8 +162,8 @@ module _ {G : Geo} {W : ℕ → ℕ → ℕ} {P : ℕ → ℕ} {f : ℕ} {T : �
 
   tables-distinct : Distinct tables
   tables-distinct = (
-    λ m. ⊎-elim (free-not-root I) not-root (List·Memᴰ·append-cases (places P f) m),
-    distinct-append (places P f) needed-tables (places-distinct P f (I .free .once)) needed-tables-distinct apart,
+    λ m. ⊎-elim (free-not-root I tt) not-root (List·Memᴰ·append-cases (places P f) m),
+    distinct-append (places P f) needed-tables (places-distinct P f (I .spare tt .free .once)) needed-tables-distinct apart,
   )
     where
       not-root : List·Memᴰ 0 needed-tables → ⊥
@@ -171,11 +171,11 @@ module _ {G : Geo} {W : ℕ → ℕ → ℕ} {P : ℕ → ℕ} {f : ℕ} {T : �
 
       apart : (t : ℕ) → List·Memᴰ t (places P f) → List·Memᴰ t needed-tables → ⊥
       apart t m n = let (i, l, e) = places-from P f t m in let (a, _, s, d) = from t n in
-          I .free .each i l .1 a.h a.r s (d ∙ sym e)
+          I .spare tt .free .each i l .1 a.h a.r s (d ∙ sym e)
 
   tables-low : (t : ℕ) → List·Memᴰ t tables → t < G.n
-  tables-low t m = ⊎-elim (λ e. omega (arith, root-low I))
-      (λ n. ⊎-elim (free-low I t) low (List·Memᴰ·append-cases (places P f) n)) (List·Memᴰ·cases-cons m)
+  tables-low t m = ⊎-elim (λ e. omega (arith, root-low I tt))
+      (λ n. ⊎-elim (free-low I tt t) low (List·Memᴰ·append-cases (places P f) n)) (List·Memᴰ·cases-cons m)
     where
       low : List·Memᴰ t needed-tables → t < G.n
       low n = let (a, _, s, e) = from t n in omega (arith, e, I .ren .range a.h a.r s)
@@ -188,7 +188,7 @@ module _ {G : Geo} {W : ℕ → ℕ → ℕ} {P : ℕ → ℕ} {f : ℕ} {T : �
       unused z n h r p q = more (decLt h G.top)
         where
           more : Dec (h < G.top) → ⊥
-          more (yes b) = n (reg h r, needed-has G.K k L (reg h r) (omega arith) (table-inside I h r b p), q)
+          more (yes b) = n (reg h r, needed-has G.K k L (reg h r) (omega arith) (table-inside I tt h r b p), q)
           more (no b) =
               let e : h ≡ G.top = omega (arith, I .ren .bound h r (table≢empty p)) in
               let y : r ≡ 0 = I .ren .only r (λ w. table≢empty p (cc)) in
@@ -197,7 +197,7 @@ module _ {G : Geo} {W : ℕ → ℕ → ℕ} {P : ℕ → ℕ} {f : ℕ} {T : �
       go : Dec (t ≡ 0) → Dec ((a : Reg) × List·Memᴰ a N × (T a.h a.r ≡ t)) → List·Memᴰ t tables
       go (yes z) d = here z
       go (no z) (yes (a, m, e)) = there (Memᴰ·append-right (places P f) (Memᴰ·cast (sym e) (Memᴰ·map (λ (a : Reg). T a.h a.r) m)))
-      go (no z) (no n) = let (i, a, e) = I .free .all t l (unused z n) in
+      go (no z) (no n) = let (i, a, e) = I .spare tt .free .all t l (unused z n) in
           there (Memᴰ·append-left needed-tables (Memᴰ·cast (sym e) (Memᴰ·map P (below-has f i a))))
 
   -- free + needed + the root = all

@@ -1,7 +1,8 @@
 -- Map, from the entry where its walk stopped: new tables down to the target, then the frame.
 -- `grow` is what the call does to a memory `Store`. `Ready` is what holds before each of its writes, `Mapped` what holds
 -- after the last. The steps have names of their own, for what is said of every write and not of the whole call: `more` links
--- one table, `last` puts the frame. `grow-ok` goes from `Ready` to `Mapped`, and tells how many tables were taken.
+-- one table, `last` puts the frame. `grow-ok` goes from `Ready` to `Mapped`, and tells how many tables were taken. Of the free
+-- list no more is asked than that the tables to be taken are unused and none stands twice; C and D are those of `InvIf`.
 use mathlib.Core.Path.{_≡_, refl, ap, sym, _∙_, subst}
 use mathlib.Core.Logic.{_≢_, ite}
 use mathlib.Core.List.{List, _∷_}
@@ -11,7 +12,7 @@ use native.Mathlib.Omega.{arith}
 use native.Mathlib.Decide.{ℕ-discrete}
 use Rattle.tree.specs.Region.{anc, upd, upd-at, upd-other}
 use Rattle.tree.specs.Tree.{Ent, empty, frame, table, table≢empty, Geo, Unused, Rendered}
-use Rattle.tree.specs.Inv.{Mapping, mapping, Inv, no-kids, link, put, reword, Store}
+use Rattle.tree.specs.Inv.{Mapping, mapping, InvIf, Free, still, no-kids, link, put, reword, scrub, Store}
 
 -- the words' memory and how many tables are free
 pub record Mem {G : Geo} (A : Store G) : Type 0 where
@@ -21,6 +22,15 @@ pub record Mem {G : Geo} (A : Store G) : Type 0 where
 -- a `Mem` from its parts
 abbrev pub mem : {G : Geo} {A : Store G} → A.M → ℕ → Mem A
 mem m f = record { m = m; f = f }
+
+-- the last `need` of the first f places of P: unused tables of the pool, none twice
+pub record Taken (G : Geo) (P : ℕ → ℕ) (T : ℕ → ℕ → ℕ) (S : ℕ → ℕ → Ent) (f need : ℕ) : Type 0 where
+  pub each : (i : ℕ) → i < f → f ≤ i + need → (P i < G.n) × Unused T S (P i)
+  pub once : (i j : ℕ) → i < f → f ≤ i + need → j < f → f ≤ j + need → P i ≡ P j → i ≡ j
+
+-- of a free list all are such
+pub free-taken : {G : Geo} {P : ℕ → ℕ} {T : ℕ → ℕ → ℕ} {S : ℕ → ℕ → Ent} {f need : ℕ} → Free G T S P f → Taken G P T S f need
+free-taken F = record { each = λ i l _. F .each i l; once = λ i j a _ b _. F .once i j a b }
 
 -- P the free list, g the target height, v the page, x the payload
 module _ (G : Geo) (A : Store G) (P : ℕ → ℕ) (g v x : ℕ) where
@@ -32,31 +42,39 @@ module _ (G : Geo) (A : Store G) (P : ℕ → ℕ) (g v x : ℕ) where
       (grow h (A .wr (A .wipe m (P (f - 1))) t (anc G.K (suc h) v % G.K) (G .enc (suc h) table (P (f - 1)))) (P (f - 1)) (f - 1))
 
   -- what a map comes to: the ledger has the mapping, and `need` of f free tables are taken
-  pub record Mapped (L : List Mapping) (f need : ℕ) (o : Mem A) : Type 0 where
+  pub record MappedIf (C D : Type 0) (L : List Mapping) (f need : ℕ) (o : Mem A) : Type 0 where
     pub T : ℕ → ℕ → ℕ
     pub S : ℕ → ℕ → Ent
     pub ok : A .Ok (o .m)
-    pub inv : Inv G (A .rd (o .m)) P (o .f) T S (mapping g (anc G.K g v) x ∷ L) G.top 0
+    pub inv : InvIf C D G (A .rd (o .m)) P (o .f) T S (mapping g (anc G.K g v) x ∷ L) G.top 0
     pub count : o .f + need ≡ f
 
   -- before a write: table t stands around v at height h + 1, its entry for v is empty and not below the target, and there is
   -- room for what is missing
-  pub record Ready (L : List Mapping) (h : ℕ) : Type 0 where
+  pub record ReadyIf (C D : Type 0) (L : List Mapping) (h : ℕ) : Type 0 where
     pub m : A.M
     pub t : ℕ
     pub f : ℕ
     pub T : ℕ → ℕ → ℕ
     pub S : ℕ → ℕ → Ent
     pub ok : A .Ok m
-    pub inv : Inv G (A .rd m) P f T S L (suc h) (anc G.K (suc h) v)
+    pub inv : InvIf C D G (A .rd m) P f T S L (suc h) (anc G.K (suc h) v)
     pub stands : S (suc h) (anc G.K (suc h) v) ≡ table
     pub t-is : t ≡ T (suc h) (anc G.K (suc h) v)
     pub vacant : S h (anc G.K h v) ≡ empty
     pub above : g ≤ h
     pub room : h - g ≤ f
     pub good : G .Good g x
+    pub taken : Taken G P T S f (h - g)
 
-  module _ {L : List Mapping} {h : ℕ} (o : Ready L h) where
+  -- with all of the invariant
+  abbrev pub Mapped : List Mapping → ℕ → ℕ → Mem A → Type 0
+  Mapped L f need o = MappedIf (Unit {0}) (Unit {0}) L f need o
+
+  abbrev pub Ready : List Mapping → ℕ → Type 0
+  Ready L h = ReadyIf (Unit {0}) (Unit {0}) L h
+
+  module _ {C D : Type 0} {L : List Mapping} {h : ℕ} (o : ReadyIf C D L h) where
     -- the region of the entry
     abbrev r : ℕ
     r = anc G.K h v
@@ -70,25 +88,16 @@ module _ (G : Geo) (A : Store G) (P : ℕ → ℕ) (g v x : ℕ) where
         low : o .t < G.n
         low = omega (arith, o .t-is, o .inv .ren .range (suc h) (r / G.K) (o .stands))
 
-    -- a free table is zero already: to wipe it changes no word
-    pub wiped : (c : ℕ) → (c < G.n) × Unused (o .T) (o .S) c
-        → (t i : ℕ) → i < G.K → A .rd (A .wipe (o .m) c) t i ≡ A .rd (o .m) t i
-    wiped c u t i l = go (ℕ-discrete t c)
-      where
-        go : Dec (t ≡ c) → A .rd (A .wipe (o .m) c) t i ≡ A .rd (o .m) t i
-        go (yes y) = rw y (A .rd-wiped (o .m) c (o .ok) (u .0) i l ∙ sym (o .inv .ren .zeros c i (u .0) l (u .1)))
-        go (no y) = A .rd-kept (o .m) c (o .ok) (u .0) t i l y
-
   -- at the target: the frame is written, and the map is done
-  unfoldable pub last : {L : List Mapping} {h : ℕ} (o : Ready L h) → h ≡ g
-      → Mapped L (o .f) (h - g) (mem (A .wr (o .m) (o .t) (anc G.K h v % G.K) (G .enc h (frame x) 0)) (o .f))
-  last {L} {h} o z = record {
+  unfoldable pub last : {C D : Type 0} {L : List Mapping} {h : ℕ} (o : ReadyIf C D L h) → h ≡ g
+      → MappedIf C D L (o .f) (h - g) (mem (A .wr (o .m) (o .t) (anc G.K h v % G.K) (G .enc h (frame x) 0)) (o .f))
+  last {C} {D} {L} {h} o z = record {
     T = T₁;
     S = S₁;
     ok = A .wr-ok _ _ _ _ (o .ok);
-    inv = subst (λ (k : ℕ). Inv G (A .rd m₁) P (o .f) T₁ S₁ (mapping k (anc G.K k v) x ∷ L) G.top 0) z
+    inv = subst (λ (k : ℕ). InvIf C D G (A .rd m₁) P (o .f) T₁ S₁ (mapping k (anc G.K k v) x ∷ L) G.top 0) z
         (reword (put h (r o) x (o .inv) (o .stands) (o .vacant) (subst (λ (k : ℕ). G .Good k x) (sym z) (o .good)))
-        (wrote o (o .m) (o .ok) (G .enc h (frame x) 0)) (λ i l. refl));
+        (wrote o (o .m) (o .ok) (G .enc h (frame x) 0)) (λ _ i l. refl));
     count = omega arith;
   }
     where
@@ -102,53 +111,61 @@ module _ (G : Geo) (A : Store G) (P : ℕ → ℕ) (g v x : ℕ) where
       m₁ = A .wr (o .m) (o .t) (r o % G.K) (G .enc h (frame x) 0)
 
   -- above the target: the last free table is wiped and linked, and the map is ready one height below
-  unfoldable pub more : {L : List Mapping} {h : ℕ} (o : Ready L (suc h)) → suc h ≢ g → (f : ℕ) → o .f ≡ suc f → Ready L h
-  more {L} {h} o z f e = record {
+  unfoldable pub more : {C D : Type 0} {L : List Mapping} {h : ℕ} (o : ReadyIf C D L (suc h)) → suc h ≢ g → (f : ℕ) → o .f ≡ suc f → ReadyIf C D L h
+  more {C} {D} {L} {h} o z f e = record {
     m = A .wr (A .wipe (o .m) (P f)) (o .t) (r o % G.K) (G .enc (suc h) table (P f));
     t = P f;
     f = f;
     T = upd (o .T) (suc h) (r o) (P f);
     S = upd (o .S) (suc h) (r o) table;
     ok = A .wr-ok _ _ _ _ wiped-ok;
-    inv = reword (link (suc h) (r o) I (o .stands) (o .vacant) (omega arith))
-        (wrote o (A .wipe (o .m) (P f)) wiped-ok (G .enc (suc h) table (P f))) (λ i l. refl);
+    inv = reword (link (suc h) (r o) I (o .stands) (o .vacant) (omega arith) own (A .rd-wiped (o .m) (P f) (o .ok) (own .0)))
+        (wrote o (A .wipe (o .m) (P f)) wiped-ok (G .enc (suc h) table (P f))) (λ _ i l. refl);
     stands = upd-at (o .S) (suc h) (r o) table (suc h) (r o) (refl, refl);
     t-is = sym (upd-at (o .T) (suc h) (r o) (P f) (suc h) (r o) (refl, refl));
     vacant = upd-other (o .S) (suc h) (r o) table h (anc G.K h v) (λ s. omega (arith, s .0)) ∙ nothing-below;
     above = omega arith;
     room = omega arith;
     good = o .good;
+    taken = record {
+      each = λ i l m. let k = o .taken .each i (omega arith) (omega arith) in
+          (k .0, still (suc h) (r o) (P f) table (P i) (λ _ q. omega (arith, o .taken .once f i (omega arith) (omega arith) (omega arith) (omega arith) q)) (k .1));
+      once = λ i j a b c d. o .taken .once i j (omega arith) (omega arith) (omega arith) (omega arith);
+    };
   }
     where
+      own : (P f < G.n) × Unused (o .T) (o .S) (P f)
+      own = o .taken .each f (omega arith) (omega arith)
+
       R : Rendered G (A .rd (o .m)) (o .T) (o .S)
       R = o .inv .ren
 
       wiped-ok : A .Ok (A .wipe (o .m) (P f))
       wiped-ok = A .wipe-ok _ _ (o .ok)
 
-      I : Inv G (A .rd (A .wipe (o .m) (P f))) P (suc f) (o .T) (o .S) L (suc (suc h)) (r o / G.K)
-      I = reword (subst (λ (k : ℕ). Inv G (A .rd (o .m)) P k (o .T) (o .S) L (suc (suc h)) (r o / G.K)) e (o .inv))
-          (wiped o (P f) (o .inv .free .each f (omega arith))) (λ i l. refl)
+      I : InvIf C D G (A .rd (A .wipe (o .m) (P f))) P (suc f) (o .T) (o .S) L (suc (suc h)) (r o / G.K)
+      I = scrub (subst (λ (k : ℕ). InvIf C D G (A .rd (o .m)) P k (o .T) (o .S) L (suc (suc h)) (r o / G.K)) e (o .inv)) (P f) (own .1)
+          (λ t i l d. A .rd-kept (o .m) (P f) (o .ok) (own .0) t i l d) (A .rd-wiped (o .m) (P f) (o .ok) (own .0))
 
       nothing-below : o .S h (anc G.K h v) ≡ empty
       nothing-below = no-kids R (suc h) (r o) (omega (arith, R .bound (suc (suc h)) (r o / G.K) (table≢empty (o .stands))))
           (λ w. table≢empty w (o .vacant)) h (anc G.K h v) refl refl
 
   -- what `grow` does from where it is ready
-  abbrev Grown : List Mapping → ℕ → Type 0
-  Grown L h = (o : Ready L h) → Mapped L (o .f) (h - g) (grow h (o .m) (o .t) (o .f))
+  abbrev Grown : Type 0 → Type 0 → List Mapping → ℕ → Type 0
+  Grown C D L h = (o : ReadyIf C D L h) → MappedIf C D L (o .f) (h - g) (grow h (o .m) (o .t) (o .f))
 
   -- a map from where it is ready takes as many tables as lie between the entry and the target, and keeps the invariant
-  pub grow-ok : {L : List Mapping} (h : ℕ) (o : Ready L h) → Mapped L (o .f) (h - g) (grow h (o .m) (o .t) (o .f))
+  pub grow-ok : {C D : Type 0} {L : List Mapping} (h : ℕ) (o : ReadyIf C D L h) → MappedIf C D L (o .f) (h - g) (grow h (o .m) (o .t) (o .f))
   unfolding grow more
   grow-ok zero o = last o (omega arith)
-  grow-ok {L} (suc h) o = go (ℕ-discrete (suc h) g) (λ o. grow-ok h o)
+  grow-ok {C} {D} {L} (suc h) o = go (ℕ-discrete (suc h) g) (λ o. grow-ok h o)
     where
       c : ℕ
       c = P (o .f - 1)
 
-      go : (d : Dec (suc h ≡ g)) → Grown L h
-          → Mapped L (o .f) (suc h - g) (ite d (mem (A .wr (o .m) (o .t) (r o % G.K) (G .enc (suc h) (frame x) 0)) (o .f))
+      go : (d : Dec (suc h ≡ g)) → Grown C D L h
+          → MappedIf C D L (o .f) (suc h - g) (ite d (mem (A .wr (o .m) (o .t) (r o % G.K) (G .enc (suc h) (frame x) 0)) (o .f))
           (grow h (A .wr (A .wipe (o .m) c) (o .t) (r o % G.K) (G .enc (suc h) table c)) c (o .f - 1)))
       go (yes z) ih = last o z
       go (no z) ih =

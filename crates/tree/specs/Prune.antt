@@ -1,7 +1,7 @@
 -- Unmap, after its frame is cleared: from the deepest table of the path upward, tables without an entry go back.
 -- `prune` is what the call does to a memory `Store`. `Loose` is what holds before it looks at a table of the path: that table
 -- may be without an entry. `off` is the step that gives such a table back; `kept` is rest again, where it has one. `prune-ok`
--- goes from `Loose` to `Pruned`, the invariant at rest. How many tables come back is what `Needed.pool-count` tells.
+-- goes from `Loose` to `Pruned`, the invariant at rest; C and D are those of `InvIf`. How many tables come back is what `Needed.pool-count` tells.
 use mathlib.Core.Path.{_≡_, refl, ap, sym, _∙_, subst, subst₂}
 use mathlib.Core.Logic.{_≢_, ite}
 use mathlib.Core.List.{List}
@@ -13,7 +13,7 @@ use lib.Arith.{digits-div, digits-mod}
 use Rattle.tree.specs.Region.{anc, upd, upd-other}
 use Rattle.tree.specs.Tree.{Ent, empty, table, table≢empty, read-empty, Geo, Rendered}
 use Rattle.tree.specs.Walk.{read-is}
-use Rattle.tree.specs.Inv.{Mapping, Inv, settle, unlink, reword, Store}
+use Rattle.tree.specs.Inv.{Mapping, InvIf, settle, unlink, reword, Store}
 use Rattle.tree.specs.Count.{free-room}
 
 -- the first k words of table t are zero
@@ -74,15 +74,15 @@ module _ (G : Geo) (A : Store G) (v : ℕ) (tb : ℕ → ℕ) where
       (pool m q f)
 
   -- what pruning comes to: the invariant at rest
-  pub record Pruned (L : List Mapping) (o : Pool A) : Type 0 where
+  pub record PrunedIf (C D : Type 0) (L : List Mapping) (o : Pool A) : Type 0 where
     pub T : ℕ → ℕ → ℕ
     pub S : ℕ → ℕ → Ent
     pub ok : A .Ok (o .m)
     pub okᶠ : A .Okᶠ (o .q)
-    pub inv : Inv G (A .rd (o .m)) (A .pl (o .q)) (o .f) T S L G.top 0
+    pub inv : InvIf C D G (A .rd (o .m)) (A .pl (o .q)) (o .f) T S L G.top 0
 
   -- before a table is looked at: the one around v at height h may be without an entry, and tb names the tables from there up
-  pub record Loose (L : List Mapping) (d h : ℕ) : Type 0 where
+  pub record LooseIf (C D : Type 0) (L : List Mapping) (d h : ℕ) : Type 0 where
     pub m : A.M
     pub q : A.Q
     pub f : ℕ
@@ -90,14 +90,21 @@ module _ (G : Geo) (A : Store G) (v : ℕ) (tb : ℕ → ℕ) where
     pub S : ℕ → ℕ → Ent
     pub ok : A .Ok m
     pub okᶠ : A .Okᶠ q
-    pub inv : Inv G (A .rd m) (A .pl q) f T S L h (anc G.K h v)
+    pub inv : InvIf C D G (A .rd m) (A .pl q) f T S L h (anc G.K h v)
     pub stands : S h (anc G.K h v) ≡ table
     pub path : (k : ℕ) → h ≤ k → k ≤ G.top → tb k ≡ T k (anc G.K k v)
     pub levels : h + d ≡ G.top
 
+  -- with all of the invariant
+  abbrev pub Pruned : List Mapping → Pool A → Type 0
+  Pruned L o = PrunedIf (Unit {0}) (Unit {0}) L o
+
+  abbrev pub Loose : List Mapping → ℕ → ℕ → Type 0
+  Loose L d h = LooseIf (Unit {0}) (Unit {0}) L d h
+
   -- the table is all zero: it is unlinked and given back, and the table above it may be without an entry
-  unfoldable pub off : {L : List Mapping} {d h : ℕ} (o : Loose L (suc d) h) → Bare (A .rd (o .m)) (tb h) G.K → Loose L d (suc h)
-  off {L} {d} {h} o z = record {
+  unfoldable pub off : {C D : Type 0} {L : List Mapping} {d h : ℕ} (o : LooseIf C D L (suc d) h) → Bare (A .rd (o .m)) (tb h) G.K → LooseIf C D L d (suc h)
+  off {C} {D} {L} {d} {h} o z = record {
     m = A .wr (o .m) (tb (suc h)) (r % G.K) 0;
     q = A .push (o .q) (o .f) (tb h);
     f = suc (o .f);
@@ -107,7 +114,7 @@ module _ (G : Geo) (A : Store G) (v : ℕ) (tb : ℕ → ℕ) where
     okᶠ = A .push-ok _ _ _ (o .okᶠ);
     inv = reword (rw (at-h, at-up, G .enc-empty h 0) at (unlink h r (o .inv) (o .stands) low kids))
         (A .rd-wr (o .m) (tb (suc h)) (r % G.K) 0 (o .ok) (rw at-up at (R .range (suc h) (r / G.K) parent)) (mod-lt r (G .K-pos)))
-        (λ i _. A .pl-push (o .q) (o .f) (tb h) (o .okᶠ) (free-room (o .inv)) i);
+        (λ c i _. A .pl-push (o .q) (o .f) (tb h) (o .okᶠ) (free-room (o .inv) c) i);
     stands = upd-other (o .S) h r empty (suc h) (r / G.K) (λ s. omega (arith, s .0)) ∙ parent;
     path = λ k a b. o .path k (omega arith) b ∙ sym (upd-other (o .T) h r 0 k (anc G.K k v) (λ s. omega (arith, s .0)));
     levels = omega arith;
@@ -139,9 +146,9 @@ module _ (G : Geo) (A : Store G) (v : ℕ) (tb : ℕ → ℕ) where
           read-empty _ _ (sym (read-is R h′ r′ p) ∙ ap (G .dec h′) y ∙ G .dec-empty h′)
 
   -- the table is not all zero: it has an entry, and that is rest
-  pub kept : {L : List Mapping} {d h : ℕ} (o : Loose L (suc d) h) → (Bare (A .rd (o .m)) (tb h) G.K → ⊥)
-      → Inv G (A .rd (o .m)) (A .pl (o .q)) (o .f) (o .T) (o .S) L G.top 0
-  kept {L} {d} {h} o n = let (i, l, z) = some-word (A .rd (o .m)) (tb h) G.K n in go i l z h refl
+  pub kept : {C D : Type 0} {L : List Mapping} {d h : ℕ} (o : LooseIf C D L (suc d) h) → (Bare (A .rd (o .m)) (tb h) G.K → ⊥)
+      → InvIf C D G (A .rd (o .m)) (A .pl (o .q)) (o .f) (o .T) (o .S) L G.top 0
+  kept {C} {D} {L} {d} {h} o n = let (i, l, z) = some-word (A .rd (o .m)) (tb h) G.K n in go i l z h refl
     where
       r : ℕ
       r = anc G.K h v
@@ -156,18 +163,18 @@ module _ (G : Geo) (A : Store G) (v : ℕ) (tb : ℕ → ℕ) where
           let w = o .inv .ren .words h′ (r * G.K + i) p in
           cc (G .enc-empty h′ (o .T h′ (r * G.K + i))))
 
-      I : (h′ : ℕ) → h ≡ h′ → Inv G (A .rd (o .m)) (A .pl (o .q)) (o .f) (o .T) (o .S) L h′ r
-      I h′ e = subst (λ (j : ℕ). Inv G (A .rd (o .m)) (A .pl (o .q)) (o .f) (o .T) (o .S) L j r) e (o .inv)
+      I : (h′ : ℕ) → h ≡ h′ → InvIf C D G (A .rd (o .m)) (A .pl (o .q)) (o .f) (o .T) (o .S) L h′ r
+      I h′ e = subst (λ (j : ℕ). InvIf C D G (A .rd (o .m)) (A .pl (o .q)) (o .f) (o .T) (o .S) L j r) e (o .inv)
 
       go : (i : ℕ) → i < G.K → A .rd (o .m) (tb h) i ≢ 0 → (h′ : ℕ) → h ≡ h′
-          → Inv G (A .rd (o .m)) (A .pl (o .q)) (o .f) (o .T) (o .S) L G.top 0
+          → InvIf C D G (A .rd (o .m)) (A .pl (o .q)) (o .f) (o .T) (o .S) L G.top 0
       go i l z zero e = absurd (o .inv .ren .leaf r (ap (λ (k : ℕ). o .S k r) (sym e) ∙ o .stands))
       go i l z (suc h′) e = settle h′ r (r * G.K + i) (I (suc h′) e) (digits-div r l) (full i l z h′ e)
 
   -- at the root's height nothing is left to look at, and that is rest
-  pub rested : {L : List Mapping} {h : ℕ} (o : Loose L zero h)
-      → Inv G (A .rd (o .m)) (A .pl (o .q)) (o .f) (o .T) (o .S) L G.top 0
-  rested {L} {h} o = subst₂ (λ (a b : ℕ). Inv G (A .rd (o .m)) (A .pl (o .q)) (o .f) (o .T) (o .S) L a b) e z (o .inv)
+  pub rested : {C D : Type 0} {L : List Mapping} {h : ℕ} (o : LooseIf C D L zero h)
+      → InvIf C D G (A .rd (o .m)) (A .pl (o .q)) (o .f) (o .T) (o .S) L G.top 0
+  rested {C} {D} {L} {h} o = subst₂ (λ (a b : ℕ). InvIf C D G (A .rd (o .m)) (A .pl (o .q)) (o .f) (o .T) (o .S) L a b) e z (o .inv)
     where
       e : h ≡ G.top
       e = omega arith
@@ -176,17 +183,17 @@ module _ (G : Geo) (A : Store G) (v : ℕ) (tb : ℕ → ℕ) where
       z = o .inv .ren .only (anc G.K h v) (λ q. table≢empty (o .stands) (ap (λ (k : ℕ). o .S k (anc G.K h v)) e ∙ q))
 
   -- what `prune` does from where it is loose
-  abbrev Prunes : List Mapping → ℕ → ℕ → Type 0
-  Prunes L d h = (o : Loose L d h) → Pruned L (prune d h (o .m) (o .q) (o .f))
+  abbrev Prunes : Type 0 → Type 0 → List Mapping → ℕ → ℕ → Type 0
+  Prunes C D L d h = (o : LooseIf C D L d h) → PrunedIf C D L (prune d h (o .m) (o .q) (o .f))
 
   -- pruning keeps the ledger and comes to rest
-  pub prune-ok : {L : List Mapping} (d h : ℕ) (o : Loose L d h) → Pruned L (prune d h (o .m) (o .q) (o .f))
+  pub prune-ok : {C D : Type 0} {L : List Mapping} (d h : ℕ) (o : LooseIf C D L d h) → PrunedIf C D L (prune d h (o .m) (o .q) (o .f))
   unfolding prune off
   prune-ok zero h o = record { T = o .T; S = o .S; ok = o .ok; okᶠ = o .okᶠ; inv = rested o }
-  prune-ok {L} (suc d) h o = go (bare? (A .rd (o .m)) (tb h) G.K) (λ o. prune-ok d (suc h) o)
+  prune-ok {C} {D} {L} (suc d) h o = go (bare? (A .rd (o .m)) (tb h) G.K) (λ o. prune-ok d (suc h) o)
     where
-      go : (b : Dec (Bare (A .rd (o .m)) (tb h) G.K)) → Prunes L d (suc h)
-          → Pruned L (ite b
+      go : (b : Dec (Bare (A .rd (o .m)) (tb h) G.K)) → Prunes C D L d (suc h)
+          → PrunedIf C D L (ite b
           (prune d (suc h) (A .wr (o .m) (tb (suc h)) (anc G.K h v % G.K) 0) (A .push (o .q) (o .f) (tb h)) (suc (o .f)))
           (pool (o .m) (o .q) (o .f)))
       go (yes a) ih = ih (off o a)

@@ -9,10 +9,11 @@ use mathlib.Core.List.{List, [], _∷_, List·Memᴰ, List·Memᴰ·head as here
 use mathlib.Core.Option.{Option, some, none}
 use Prim.Native.Nat.{ℕ, suc, _+_, _≤_}
 use native.Mathlib.Omega.{arith}
+use native.Mathlib.Decide.{decLe}
 use lib.ListN.{length, length-map}
 use Rattle.tree.specs.Tree.{Ent, empty, frame, table, table≢empty, empty≢frame, Read, rEmpty, rFrame, rTable, rBad, readOf, Geo}
 use Rattle.tree.specs.Walk.{shape, Rooted, rooted}
-use Rattle.tree.specs.Inv.{Mapping, mapping, Inv, frame-low}
+use Rattle.tree.specs.Inv.{Mapping, mapping, InvIf, Inv, frame-low}
 use Rattle.tree.specs.Ledger.{table-inside}
 use Rattle.tree.specs.Count.{Distinct, length-within}
 use Rattle.tree.specs.Needed.{Reg, reg, needed, needed-distinct, needed-has, needed-from, needed-tables, is-table, needed-tables-distinct, pool-count}
@@ -140,8 +141,8 @@ map-item h r (rFrame x) m q = let e : mapping h r x ≡ m = cc in ap (λ (z : Ma
 map-item h r (rTable c) m q = cc
 map-item h r rBad m q = cc
 
-module _ {G : Geo} {W : ℕ → ℕ → ℕ} {P : ℕ → ℕ} {f : ℕ} {T : ℕ → ℕ → ℕ} {S : ℕ → ℕ → Ent} {L : List Mapping}
-    (I : Inv G W P f T S L G.top 0) (k : ℕ) (top : suc k ≡ G.top) where
+module _ {C D : Type 0} {G : Geo} {W : ℕ → ℕ → ℕ} {P : ℕ → ℕ} {f : ℕ} {T : ℕ → ℕ → ℕ} {S : ℕ → ℕ → Ent} {L : List Mapping} {h₀ r₀ : ℕ}
+    (I : InvIf C D G W P f T S L h₀ r₀) (k : ℕ) (top : suc k ≡ G.top) where
   -- the tree's root
   abbrev Z : Rooted G T S k
   Z = rooted (I .ren) top
@@ -153,6 +154,19 @@ module _ {G : Geo} {W : ℕ → ℕ → ℕ} {P : ℕ → ℕ} {f : ℕ} {T : �
       let b = seen-from (shape (I .ren)) Z a m in
       let z = tab-is (S a.h a.r) (T a.h a.r) c (ap tabOf (sym (b .says)) ∙ q) in
       (b .low, z .0, z .1)
+
+  -- a table of the tree is reached
+  pub table-reached : (h r : ℕ) → S h r ≡ table → List·Memᴰ (T h r) (reached G W k)
+  table-reached h r p = go (decLe h k)
+    where
+      go : Dec (h ≤ k) → List·Memᴰ (T h r) (reached G W k)
+      go (yes l) = there (pick-has itemTab (seen G W k) (item h r (readOf (S h r) (T h r))) (T h r)
+          (seen-has (shape (I .ren)) Z h r l (table≢empty p)) (ap (λ (z : Ent). tabOf (readOf z (T h r))) p))
+      go (no l) =
+          let e : h ≡ G.top = omega (arith, I .ren .bound h r (table≢empty p)) in
+          let y : r ≡ 0 = I .ren .only r (λ w. table≢empty p (cc)) in
+          let z : T h r ≡ 0 = (let ra = I .ren .root-at in cc) in
+          here z
 
   -- no mapping is met twice
   pub maps-distinct : Distinct (maps (seen G W k))
@@ -170,36 +184,6 @@ module _ {G : Geo} {W : ℕ → ℕ → ℕ} {P : ℕ → ℕ} {f : ℕ} {T : �
       let z : a.e ≡ b.e = cc in
       λ i. item (x i) (y i) (z i))
 
-  -- the tables reached are those of the needed regions
-  pub tabs-needed : (c : ℕ) → List·Memᴰ c (tabs (seen G W k)) → List·Memᴰ c (needed-tables I k top)
-  tabs-needed c m =
-      let (a, n, q) = pick-from itemTab (seen G W k) c m in
-      let (l, s, t) = tab-at a c n q in
-      let d = needed-has G.K k L (reg a.h a.r) l (table-inside I a.h a.r (omega arith) s) in
-      Memᴰ·cast (sym t) (Memᴰ·map (λ (a : Reg). T a.h a.r) d)
-
-  -- and all of them
-  pub needed-tabs : (c : ℕ) → List·Memᴰ c (needed-tables I k top) → List·Memᴰ c (tabs (seen G W k))
-  needed-tabs c m =
-      let (a, n, q) = Memᴰ·of-map (λ (a : Reg). T a.h a.r) (needed G.K k L) m in
-      let l = needed-from G.K k L a n .0 in
-      let s = is-table I k top a n in
-      pick-has itemTab (seen G W k) (item a.h a.r (readOf (S a.h a.r) (T a.h a.r))) c
-      (seen-has (shape (I .ren)) Z a.h a.r l (table≢empty s)) (ap (λ (z : Ent). tabOf (readOf z (T a.h a.r))) s ∙ ap some q)
-
-  -- as many tables are reached as the ledger needs
-  pub tabs-count : length (tabs (seen G W k)) ≡ length (needed G.K k L)
-  tabs-count = omega (
-    arith,
-    length-within (tabs (seen G W k)) (needed-tables I k top) tabs-distinct tabs-needed,
-    length-within (needed-tables I k top) (tabs (seen G W k)) (needed-tables-distinct I k top) needed-tabs,
-    length-map (needed G.K k L) (λ (a : Reg). T a.h a.r),
-  )
-
-  -- with the free ones and the root they are all
-  pub all-tables : suc (f + length (tabs (seen G W k))) ≡ G.n
-  all-tables = omega (arith, tabs-count, pool-count I k top)
-
   -- the mappings met are live
   pub maps-live : (m : Mapping) → List·Memᴰ m (maps (seen G W k)) → List·Memᴰ m L
   maps-live m n =
@@ -215,6 +199,38 @@ module _ {G : Geo} {W : ℕ → ℕ → ℕ} {P : ℕ → ℕ} {f : ℕ} {T : �
       let l : m.h ≤ k = omega (arith, frame-low (I .ren) m.h m.r m.x s) in
       pick-has itemMap (seen G W k) (item m.h m.r (readOf (S m.h m.r) (T m.h m.r))) m
       (seen-has (shape (I .ren)) Z m.h m.r l (λ z. empty≢frame z s)) (ap (λ (z : Ent). mapOf m.h m.r (readOf z (T m.h m.r))) s)
+
+module _ {G : Geo} {W : ℕ → ℕ → ℕ} {P : ℕ → ℕ} {f : ℕ} {T : ℕ → ℕ → ℕ} {S : ℕ → ℕ → Ent} {L : List Mapping}
+    (I : Inv G W P f T S L G.top 0) (k : ℕ) (top : suc k ≡ G.top) where
+  -- the tables reached are those of the needed regions
+  pub tabs-needed : (c : ℕ) → List·Memᴰ c (tabs (seen G W k)) → List·Memᴰ c (needed-tables I k top)
+  tabs-needed c m =
+      let (a, n, q) = pick-from itemTab (seen G W k) c m in
+      let (l, s, t) = tab-at I k top a c n q in
+      let d = needed-has G.K k L (reg a.h a.r) l (table-inside I tt a.h a.r (omega arith) s) in
+      Memᴰ·cast (sym t) (Memᴰ·map (λ (a : Reg). T a.h a.r) d)
+
+  -- and all of them
+  pub needed-tabs : (c : ℕ) → List·Memᴰ c (needed-tables I k top) → List·Memᴰ c (tabs (seen G W k))
+  needed-tabs c m =
+      let (a, n, q) = Memᴰ·of-map (λ (a : Reg). T a.h a.r) (needed G.K k L) m in
+      let l = needed-from G.K k L a n .0 in
+      let s = is-table I k top a n in
+      pick-has itemTab (seen G W k) (item a.h a.r (readOf (S a.h a.r) (T a.h a.r))) c
+      (seen-has (shape (I .ren)) (rooted (I .ren) top) a.h a.r l (table≢empty s)) (ap (λ (z : Ent). tabOf (readOf z (T a.h a.r))) s ∙ ap some q)
+
+  -- as many tables are reached as the ledger needs
+  pub tabs-count : length (tabs (seen G W k)) ≡ length (needed G.K k L)
+  tabs-count = omega (
+    arith,
+    length-within (tabs (seen G W k)) (needed-tables I k top) (tabs-distinct I k top) tabs-needed,
+    length-within (needed-tables I k top) (tabs (seen G W k)) (needed-tables-distinct I k top) needed-tabs,
+    length-map (needed G.K k L) (λ (a : Reg). T a.h a.r),
+  )
+
+  -- with the free ones and the root they are all
+  pub all-tables : suc (f + length (tabs (seen G W k))) ≡ G.n
+  all-tables = omega (arith, tabs-count, pool-count I k top)
 
 -- ledgers with the same mappings, in whatever order, need as many tables
 pub needed-same : (K k : ℕ) (L L′ : List Mapping) → ((m : Mapping) → List·Memᴰ m L → List·Memᴰ m L′)

@@ -106,22 +106,27 @@ pub record Rendered (G : Geo) (W T : ℕ → ℕ → ℕ) (S : ℕ → ℕ → E
   -- tables have numbers of the pool, each its own
   pub range : (h r : ℕ) → S h r ≡ table → T h r < G.n
   pub inj : (h r h′ r′ : ℕ) → S h r ≡ table → S h′ r′ ≡ table → T h r ≡ T h′ r′ → Same h′ r′ h r
-  -- each table has the words of its entries, and a table that is not used has only zeros
+  -- each table has the words of its entries
   pub words : (h r : ℕ) → S (suc h) (r / G.K) ≡ table
       → W (T (suc h) (r / G.K)) (r % G.K) ≡ G .enc h (S h r) (T h r)
-  pub zeros : (t i : ℕ) → t < G.n → i < G.K → Unused T S t → W t i ≡ 0
+
+-- a table that is not used has only zeros
+abbrev pub Zeros : (G : Geo) → (W T : ℕ → ℕ → ℕ) → (ℕ → ℕ → Ent) → Type 0
+Zeros G W T S = (t i : ℕ) → t < G.n → i < G.K → Unused T S t → W t i ≡ 0
 
 -- what `change` asks for: at region (h, r) the entry e is to stand, with table number c if it is a table.
--- The region's own table stands, nothing is below (h, r), a new table's number is unused, a new frame's payload is good.
+-- The region's own table stands, nothing is below (h, r), a new table's number is unused and its words are zero, a new frame's
+-- payload is good.
 pub record Edit (G : Geo) (W T : ℕ → ℕ → ℕ) (S : ℕ → ℕ → Ent) (h r c : ℕ) (e : Ent) : Type 0 where
   pub R : Rendered G W T S
   pub parent : S (suc h) (r / G.K) ≡ table
   pub kids : (h′ r′ : ℕ) → suc h′ ≡ h → r′ / G.K ≡ r → S h′ r′ ≡ empty
   pub fresh : e ≡ table → (zero < h) × (c < G.n) × Unused T S c
+  pub clean : e ≡ table → (i : ℕ) → i < G.K → W c i ≡ 0
   pub ok : (x : ℕ) → e ≡ frame x → G .Good h x
 
 module _ {G : Geo} {W T : ℕ → ℕ → ℕ} {S : ℕ → ℕ → Ent} {h r c : ℕ} {e : Ent} (E : Edit G W T S h r c e) where
-  open Edit E using (R, parent, kids, fresh, ok)
+  open Edit E using (R, parent, kids, fresh, clean, ok)
 
   -- the tree after the change
   abbrev pub S⁺ : ℕ → ℕ → Ent
@@ -222,7 +227,7 @@ module _ {G : Geo} {W T : ℕ → ℕ → ℕ} {S : ℕ → ℕ → Ent} {h r c 
           let f = fresh q in
           let not-at : Same at (r % G.K) c (r′ % G.K) → ⊥ = (λ s. f .2 (suc h) (r / G.K) parent (sym (s .0))) in
           let unchanged = upd-other W at (r % G.K) (G .enc h e c) c (r′ % G.K) not-at in
-          let zero-there = R .zeros c (r′ % G.K) (f .1) (mod-lt r′ (G .K-pos)) (f .2) in
+          let zero-there = clean q (r′ % G.K) (mod-lt r′ (G .K-pos)) in
           let none = kids h′ r′ a b in
           let keeps = keep-S h′ r′ (λ s. omega (arith, s .0)) in
           cc (G .enc-empty h′ (T⁺ h′ r′))
@@ -248,14 +253,14 @@ module _ {G : Geo} {W T : ℕ → ℕ → ℕ} {S : ℕ → ℕ → Ent} {h r c 
       cc (G .enc-empty h′ (T h′ k))
 
   -- a table that is not used after the change is zero: it was unused before, or it stood at (h, r)
-  zeros⁺ : (t i : ℕ) → t < G.n → i < G.K → Unused T⁺ S⁺ t → W⁺ t i ≡ 0
-  zeros⁺ t i b l u = upd-other W at (r % G.K) (G .enc h e c) t i not-at ∙ go (table? (S h r)) (ℕ-discrete (T h r) t)
+  pub zeros-change : Zeros G W T S → Zeros G W⁺ T⁺ S⁺
+  zeros-change blank t i b l u = upd-other W at (r % G.K) (G .enc h e c) t i not-at ∙ go (table? (S h r)) (ℕ-discrete (T h r) t)
     where
       not-at : Same at (r % G.K) t i → ⊥
       not-at s = u (suc h) (r / G.K) (keep-S (suc h) (r / G.K) above ∙ parent) (keep-T (suc h) (r / G.K) above ∙ sym (s .0))
 
       rest : (S h r ≡ table → T h r ≡ t → ⊥) → W t i ≡ 0
-      rest f = R .zeros t i b l (λ h′ r′ p q. other h′ r′ p q (same? h r h′ r′))
+      rest f = blank t i b l (λ h′ r′ p q. other h′ r′ p q (same? h r h′ r′))
         where
           other : (h′ r′ : ℕ) → S h′ r′ ≡ table → T h′ r′ ≡ t → Dec (Same h r h′ r′) → ⊥
           other h′ r′ p q (yes s) = let a = s .0 in let b = s .1 in f (cc) (cc)
@@ -279,5 +284,4 @@ module _ {G : Geo} {W T : ℕ → ℕ → ℕ} {S : ℕ → ℕ → Ent} {h r c 
     range = λ h′ r′ p. range⁺ h′ r′ (tab h′ r′ p);
     inj = λ h₁ r₁ h₂ r₂ p₁ p₂. inj⁺ h₁ r₁ h₂ r₂ (tab h₁ r₁ p₁) (tab h₂ r₂ p₂);
     words = words⁺;
-    zeros = zeros⁺;
   }

@@ -116,6 +116,76 @@ module _ (G : Granule) (p : Pool) where
       go true true Damaged q = inl (8, refl)
       go true true (Frame b x) q = at b x q (eqb (a % sizeAt G (o .left)) 0) refl (ltb (total (areaOf (p .numbers)) - 1) (p .numbers .free + giving G p a))
 
+  -- a map that succeeds passed its tests: good numbers, 2 to 5, and the tables that it takes
+  pub took-passed : (a b size k t : ℕ) → mapW G p a b size k .answer ≡ took t
+      → (goodPool G p ≡ true) × (mapTests G (p .numbers .levels) a b size k ≡ 0)
+      × (mayTake (p .list) (total (areaOf (p .numbers))) (walkTo G p (heightOf G size) a .tables) (p .numbers .free) (lacking G p a size) ≡ true)
+  unfolding mapW mapAt mapHere
+  took-passed a b size k t = go (goodPool G p) (eqb no 0) (o .entry) refl refl
+    where
+      o : Walked
+      o = walkTo G p (heightOf G size) a
+
+      no : ℕ
+      no = mapTests G (p .numbers .levels) a b size k
+
+      need : ℕ
+      need = lacking G p a size
+
+      may : Bool
+      may = mayTake (p .list) (total (areaOf (p .numbers))) (o .tables) (p .numbers .free) need
+
+      done₁ : Done
+      done₁ = done (took need) (written G p (writesOfMap G p a b size k) (p .numbers .free - need))
+
+      Passed : Type 0
+      Passed = (goodPool G p ≡ true) × (no ≡ 0) × (may ≡ true)
+
+      at : goodPool G p ≡ true → no ≡ 0 → (x y : Bool) → may ≡ y → cond x (refuse 7 p) (cond y done₁ (refuse 8 p)) .answer ≡ took t → Passed
+      at q r true y s e = absurd (took-not (sym e))
+      at q r false true s e = (q, r, s)
+      at q r false false s e = absurd (took-not (sym e))
+
+      go : (x y : Bool) (n : Entry) → goodPool G p ≡ x → eqb no 0 ≡ y → cond x (cond y (mapAt G p a b (heightOf G size) k o n) (refuse no p)) (refuse 1 p) .answer ≡ took t → Passed
+      go false y n q r e = absurd (took-not (sym e))
+      go true false n q r e = absurd (took-not (sym e))
+      go true true (Frame _ _) q r e = absurd (took-not (sym e))
+      go true true (Table _) q r e = absurd (took-not (sym e))
+      go true true Damaged q r e = absurd (took-not (sym e))
+      go true true Empty q r e = at q (eqb-true no 0 r) (ltb (p .numbers .free) need) may refl e
+
+  -- an unmap that succeeds passed its tests: good numbers, 4 and 5, and a place on the free list for each table that it gives back
+  pub gave-passed : (a b s x t : ℕ) → unmapW G p a .answer ≡ gave b s x t
+      → (goodPool G p ≡ true) × (unmapTests G (p .numbers .levels) a ≡ 0) × (p .numbers .free + giving G p a ≤ total (areaOf (p .numbers)) - 1)
+  unfolding unmapW unmapAt unmapHere
+  gave-passed a b s x t = go (goodPool G p) (eqb no 0) (o .entry) refl refl
+    where
+      o : Walked
+      o = walkTo G p 0 a
+
+      no : ℕ
+      no = unmapTests G (p .numbers .levels) a
+
+      Passed : Type 0
+      Passed = (goodPool G p ≡ true) × (no ≡ 0) × (p .numbers .free + giving G p a ≤ total (areaOf (p .numbers)) - 1)
+
+      gone : ℕ → ℕ → Done
+      gone c y = done (gave c (sizeAt G (o .left)) y (giving G p a)) (written G p (writesOfUnmap G p a) (p .numbers .free + giving G p a))
+
+      at : goodPool G p ≡ true → no ≡ 0 → (c y : ℕ) (u v : Bool) → ltb (total (areaOf (p .numbers)) - 1) (p .numbers .free + giving G p a) ≡ v
+          → cond u (cond v (refuse 8 p) (gone c y)) (refuse 10 p) .answer ≡ gave b s x t → Passed
+      at q r c y false v w e = absurd (gave-not (sym e))
+      at q r c y true true w e = absurd (gave-not (sym e))
+      at q r c y true false w e = (q, r, ltb-false _ _ w)
+
+      go : (u v : Bool) (n : Entry) → goodPool G p ≡ u → eqb no 0 ≡ v → cond u (cond v (unmapAt G p a o n) (refuse no p)) (refuse 1 p) .answer ≡ gave b s x t → Passed
+      go false v n q r e = absurd (gave-not (sym e))
+      go true false n q r e = absurd (gave-not (sym e))
+      go true true Empty q r e = absurd (gave-not (sym e))
+      go true true (Table _) q r e = absurd (gave-not (sym e))
+      go true true Damaged q r e = absurd (gave-not (sym e))
+      go true true (Frame c y) q r e = at q (eqb-true no 0 r) c y (eqb (a % sizeAt G (o .left)) 0) (ltb (total (areaOf (p .numbers)) - 1) (p .numbers .free + giving G p a)) refl e
+
   -- insert: `res is Err ⇒ old(self)@ == self@`, and all of map's refusals
   pub map-refused : (a b size k n : ℕ) → mapW G p a b size k .answer ≡ refused n → mapW G p a b size k .after ≡ p
   map-refused a b size k n e = ⊎-elim (λ (_, q). ap (λ (d : Done). d .after) q) (λ (_, _, q). absurd (took-not (ap (λ (d : Done). d .answer) (sym q) ∙ e))) (map-does a b size k)

@@ -5,8 +5,9 @@
 --   Calls   pt.rs: what a call does to any pool, sound or not
 --   Trait   pt_trait.rs: preconditions and refusals; the ledger of a pool is well-formed and stays so; the three refinements
 --   Visit   tree.rs: visit and real_path, which are the walk
---   Tree    tree.rs: path_mappings, insert, and the model's map, unmap and query
---   Remove  tree.rs: remove and prune one after the other
+--   Tree    tree.rs: path_mappings, and the model's map, unmap and query
+--   Node    tree.rs: insert, of a tree of which no more is known than that it is well-formed
+--   Remove  tree.rs: remove and prune of such a tree
 --   Memory  pt_mem.rs, table.rs: where tables stand, what a write changes, which tables are taken and given back
 pub mod State
 pub mod Facts
@@ -14,5 +15,6 @@ pub mod Calls
 pub mod Trait
 pub mod Visit
 pub mod Tree
+pub mod Node
 pub mod Remove
 pub mod Memory

@@ -3,36 +3,38 @@ use mathlib.Core.Path.{_≡_, refl, ap, sym, _∙_, subst}
 use mathlib.Core.Logic.{_≢_, _⊎_, inl, inr, ⊎-elim, _↔_}
 use mathlib.Core.Bool.{true}
 use mathlib.Core.List.{List, [], _∷_, List·Memᴰ, List·Memᴰ·head as here, List·Memᴰ·tail as there, List·Memᴰ·append-cases, Memᴰ·append-left, Memᴰ·cast}
-use Prim.Native.Nat.{ℕ, zero, suc, _+_, _-_, _*_, _%_, _≤_, _<_}
+use Prim.Native.Nat.{ℕ, zero, suc, _+_, _-_, _*_, _%_, _≤_, _<_, min}
 use native.Mathlib.Nat.{add-mul-mod-self-left}
 use native.Mathlib.Omega.{arith}
 use native.Mathlib.Decide.{decLt}
-use lib.ListN.{length, getD, set, replicate}
+use lib.ListN.{length, getD, set, replicate, drop, length-take, length-drop}
 use lib.Seq.{getD-set-other, getD-take, length-take-le}
 use Rattle.laws.specs.Lists.{part, zeroed, allZero}
-use Rattle.laws.specs.ListLaws.{part-set, part-set-before, part-set-after, part-zeroed, part-zeroed-before, part-zeroed-after, getD-zeroed-before, getD-zeroed-after, allZero-part-at, allZero-part-of, mem-at, at-mem}
+use Rattle.laws.specs.ListLaws.{length-part, part-set, part-set-before, part-set-after, part-zeroed, part-zeroed-before, part-zeroed-after, getD-zeroed-before, getD-zeroed-after, allZero-part-at, allZero-part-of, mem-at, at-mem}
 use Rattle.path.specs.Geometry.{Granule, pageSize, entries, physical, heightOf, Sane}
 use Rattle.path.specs.Areas.{Area, areaOf, total, tableAt, GoodArea}
 use Rattle.path.specs.Numbers.{GoodNumbers}
+use Rattle.path.specs.Laws.{good-setup}
 use Rattle.path.specs.Paths.{pathOf}
 use Rattle.entry.specs.Words.{entryAt, frameWord, tableWord}
 use Rattle.entry.specs.Laws.{entry-zero, empty-only}
 use Rattle.entry.specs.declared.Entry.the-variants.{Empty}
-use Rattle.model.specs.Answers.{Mapping, took, gave, Pool}
+use Rattle.model.specs.Answers.{Mapping, took, gave, Pool, Done}
 use Rattle.model.specs.declared.Walked.{Walked}
 use Rattle.model.specs.Walk.{slot, atHeight}
 use Rattle.model.specs.Writes.{Write, store, wipe, give, Memory, memory, perform, performAll, mapWrites, pruneWrites}
-use Rattle.model.specs.Calls.{walkTo, written, mapW, unmapW}
+use Rattle.model.specs.Calls.{goodPool, walkTo, written, mapW, unmapW}
 use Rattle.model.specs.Audit.{tableWords, freeOf}
 use Rattle.model.specs.Sound.{EmptyTable, wordAt, reachedOf}
 use Rattle.model.specs.Ledger.{Ledger, mapL, unmapL}
 use Rattle.demand.specs.Memories.{placeAt, table-ends}
+use Rattle.model.specs.LeftLaws.{performed-length}
 use Rattle.demand.specs.Holds.{Holds}
 use Rattle.demand.specs.Sims.{holds-sim, reached-is}
 use Rattle.demand.specs.Demand3.{mapC, unmapC, Rests}
 use Rattle.demand.specs.Theorem.{rests, step-holds}
 use Rattle.upstream.specs.State.{Overlap}
-use Rattle.upstream.specs.Calls.{lacking, writesOfMap, giving, writesOfUnmap, map-took, unmap-gave}
+use Rattle.upstream.specs.Calls.{lacking, writesOfMap, giving, writesOfUnmap, map-does, map-took, unmap-does, unmap-gave}
 use Rattle.upstream.specs.Remove.{removed}
 
 module _ (G : Granule) (area : Area) where
@@ -51,6 +53,55 @@ module _ (G : Granule) (area : Area) where
   -- `alloc_table_spec`: each table ends at 2^48 or below
   pub table-fits : GoodArea G area → (t : ℕ) → t < total area → tableAt G area t + pageSize G ≤ physical
   table-fits e t k = omega (arith, table-ends (pageSize G) k, e .fits)
+
+-- `wf`: there is a root, each table is aligned to its size and has its words, and no two overlap
+pub record MemoryWf (G : Granule) (area : Area) (ws : List ℕ) : Type 0 where
+  pub root : 0 < total area
+  pub aligned : (t : ℕ) → tableAt G area t % pageSize G ≡ 0
+  pub apart : (t u : ℕ) → t ≢ u → Overlap (tableAt G area t) (pageSize G) (tableAt G area u) (pageSize G) → ⊥
+  pub words : (t : ℕ) → t < total area → length (tableWords G ws t) ≡ entries G
+
+-- good numbers make it so
+pub memory-wf : (G : Granule) (p : Pool) → goodPool G p ≡ true → MemoryWf G (areaOf (p .numbers)) (p .words)
+memory-wf G p good = record {
+  root = N .some-table;
+  aligned = table-aligned G (areaOf (p .numbers)) (N .placed);
+  apart = tables-apart G (areaOf (p .numbers));
+  words = λ t l. length-part (p .words) (slot G t 0) (entries G) (omega (arith, N .words-are, table-ends (entries G) l));
+}
+  where
+    N : GoodNumbers G (p .numbers .levels) (areaOf (p .numbers)) (length (p .words)) (length (p .list))
+    N = good-setup good .numbers
+
+-- a table has as many words in memory of the same length
+same-part : (G : Granule) (ws vs : List ℕ) (t : ℕ) → length vs ≡ length ws → length (tableWords G vs t) ≡ length (tableWords G ws t)
+unfolding part
+same-part G ws vs t e =
+    length-take (entries G) (drop (slot G t 0) vs)
+    ∙ ap (min (entries G)) (length-drop (slot G t 0) vs ∙ ap (λ (n : ℕ). n - slot G t 0) e ∙ sym (length-drop (slot G t 0) ws))
+    ∙ sym (length-take (entries G) (drop (slot G t 0) ws))
+
+-- lemma_alloc_table_preserves_wf, lemma_dealloc_table_preserves_wf, lemma_write_preserves_wf: whatever is written, in whatever pool
+pub writes-preserve-wf : (G : Granule) (area : Area) (xs : List Write) (m : Memory) → MemoryWf G area (m .words) → MemoryWf G area (performAll G xs m .words)
+writes-preserve-wf G area xs m w = record {
+  root = w .root;
+  aligned = w .aligned;
+  apart = w .apart;
+  words = λ t l. same-part G (m .words) (performAll G xs m .words) t (performed-length G xs m) ∙ w .words t l;
+}
+
+-- map and unmap keep it, whatever the pool, and whatever is answered
+pub map-memory-wf : (G : Granule) (p : Pool) (a b size k : ℕ) → MemoryWf G (areaOf (p .numbers)) (p .words) → MemoryWf G (areaOf (p .numbers)) (mapW G p a b size k .after .words)
+map-memory-wf G p a b size k w =
+    ⊎-elim (λ (_, q). subst (λ (d : Done). MemoryWf G (areaOf (p .numbers)) (d .after .words)) (sym q) w)
+    (λ (_, _, q). subst (λ (d : Done). MemoryWf G (areaOf (p .numbers)) (d .after .words)) (sym q) (writes-preserve-wf G (areaOf (p .numbers)) (writesOfMap G p a b size k) (memory (p .words) (p .list)) w))
+    (map-does G p a b size k)
+
+pub unmap-memory-wf : (G : Granule) (p : Pool) (a : ℕ) → MemoryWf G (areaOf (p .numbers)) (p .words) → MemoryWf G (areaOf (p .numbers)) (unmapW G p a .after .words)
+unmap-memory-wf G p a w =
+    ⊎-elim (λ (_, q). subst (λ (d : Done). MemoryWf G (areaOf (p .numbers)) (d .after .words)) (sym q) w)
+    (λ (_, _, _, _, q). subst (λ (d : Done). MemoryWf G (areaOf (p .numbers)) (d .after .words)) (sym q) (writes-preserve-wf G (areaOf (p .numbers)) (writesOfUnmap G p a) (memory (p .words) (p .list)) w))
+    (unmap-does G p a)
 
 -- ---- one table's words
 
@@ -198,7 +249,7 @@ module _ (G : Granule) (Z : Sane G) where
 
       to : List·Memᴰ c (reachedOf G p) ⊎ ((i : ℕ) × (q .numbers .free ≤ i) × (i < p .numbers .free) × (placeAt (p .list) i ≡ c)) → List·Memᴰ c (reachedOf G q)
       to (inl m) = ⊎-elim (λ r. r) (λ (i, k, e). absurd (both H c i m (omega arith) (sym (same i k) ∙ e))) (either K c (omega (arith, reached-low H c m)))
-      to (inr (i, a, b, e)) = ⊎-elim (λ r. r) (λ (j, k, f). absurd (omega (arith, holds-sim G Z H .inv .free .once i j b (omega arith) (e ∙ sym f ∙ same j k))))
+      to (inr (i, a, b, e)) = ⊎-elim (λ r. r) (λ (j, k, f). absurd (omega (arith, holds-sim G Z H .inv .spare tt .free .once i j b (omega arith) (e ∙ sym f ∙ same j k))))
           (either K c (subst (λ (x : ℕ). x < q .numbers .tables) e (subst (λ (x : ℕ). placeAt (p .list) i < x) n (free-table H i b .1))))
 
   module _ {p : Pool} {A : Ledger} (H : Holds G p A) where
@@ -235,7 +286,7 @@ module _ (G : Granule) (Z : Sane G) where
         ↔ (List·Memᴰ c (reachedOf G (unmapW G p a .after)) ⊎ ((i : ℕ) × (p .numbers .free ≤ i) × (i < p .numbers .free + t) × (getD (unmapW G p a .after .list) i 0 ≡ c)))
     unfolding performAll
     unmap-gives a b s x t e = subst (λ (q : Pool). Given q) (sym after) (reached-more (subst (λ (q : Pool). Holds G q (unmapL G A a .after)) after K) H refl (omega arith)
-        (λ i l. sym (prune-list-stays G (o .tables) (pathOf G a) (o .left) (p .numbers .free) (giving G p a) (memory (removed G p a .words) (p .list)) i l)))
+        (λ i l. sym (prune-list-stays G (o .tables) (pathOf G a) (o .left) (p .numbers .free) (giving G p a) (memory (removed G p 0 a .words) (p .list)) i l)))
       where
         o : Walked
         o = walkTo G p 0 a

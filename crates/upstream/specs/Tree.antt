@@ -1,46 +1,38 @@
--- tree.rs. The mappings in the words, and the laws of insert, remove and prune, which are map and unmap here: when each succeeds, and what it does
--- to the mappings of a pool p that holds a ledger A.
+-- tree.rs. The mappings in the words of any pool; and `PTTreeModel`, whose map, unmap and query are ours: when each succeeds, and what it does to the
+-- mappings of a pool p that holds a ledger A.
 use mathlib.Core.Path.{_≡_, refl, ap, sym, _∙_, subst}
-use mathlib.Core.Logic.{_≢_, _⊎_, inl, inr, ⊎-elim, _↔_}
+use mathlib.Core.Logic.{_≢_, _⊎_, inl, inr, _↔_}
 use mathlib.Core.Bool.{Bool, true, false, cond, false≢true}
 use mathlib.Core.Option.{Option, some, none}
-use mathlib.Core.List.{List, [], _∷_, List·Memᴰ, List·Memᴰ·head as here, List·Memᴰ·tail as there, List·Memᴰ·not-nil}
+use mathlib.Core.List.{List·Memᴰ, List·Memᴰ·tail as there}
 use Prim.Native.Nat.{ℕ, _+_, _-_, _%_, _≤_, _<_}
 use native.Mathlib.Omega.{arith}
 use native.Mathlib.Decide.{decLe}
 use lib.Dec.{ltb, leb, eqb}
 use lib.ListN.{take}
-use borrow.Author.Tests.{ltb-true, ltb-false, leb-false, eqb-true, eqb-false, le-ltb}
-use Rattle.path.specs.Geometry.{Granule, pageSize, sizeAt, spaceOf, heightOf, Sane}
-use Rattle.path.specs.Laws.{size-zero, space-some, setup-good, good-setup}
+use borrow.Author.Tests.{ltb-true, ltb-false, eqb-true, eqb-false}
+use Rattle.path.specs.Geometry.{Granule, sizeAt, spaceOf, Sane}
+use Rattle.path.specs.Laws.{size-zero, space-some, good-setup}
 use Rattle.path.specs.Paths.{indices, baseAt}
 use Rattle.path.specs.PrefixLaws.{prefix-same}
 use Rattle.path.specs.RegionLaws.{aligned-down, Placed, nested, lower, higher, nested-or-apart, region-base, aligned-base, base-le, base-end}
-use Rattle.entry.specs.declared.Entry.the-variants.{Empty, Frame}
-use Rattle.model.specs.Answers.{Mapping, mapping, took, gave, found, refused, Pool, Done, refuse}
-use Rattle.model.specs.declared.Walked.{Walked}
-use Rattle.model.specs.Writes.{mayTake}
-use Rattle.model.specs.Calls.{goodPool, walkTo, mapTests, mapHere, mapAt, mapW, unmapTests, unmapAt, unmapW, queryW}
-use Rattle.model.specs.Sound.{Each, EmptyTable, reachedOf, mappingsOf}
+use Rattle.model.specs.Answers.{Mapping, mapping, took, gave, found, refused, Pool, Done}
+use Rattle.model.specs.Calls.{goodPool, mapW, unmapTests, unmapW, queryW}
+use Rattle.model.specs.Sound.{mappingsOf}
 use Rattle.model.specs.Unique.{found-same}
-use Rattle.model.specs.Ledger.{Ledger, withLive, anyOverlap, coverOf, tablesLacking, freeTables, entered, mapL, unmapL, queryOf, queryL}
+use Rattle.model.specs.Ledger.{Ledger, anyOverlap, coverOf, tablesLacking, freeTables, mapL, unmapL, queryOf, queryL}
 use Rattle.demand.specs.Holds.{Holds}
-use Rattle.demand.specs.Sims.{holds-sim}
 use Rattle.demand.specs.Maps.{tests-fine}
-use Rattle.demand.specs.Demand3.{mapC, unmapC, queryC, StandsFor}
-use Rattle.demand.specs.Theorem.{rests, step-holds, demand3}
-use Rattle.upstream.specs.State.{Has, StartsAt, Overlap, Within, OverlapsVmem, FrameSize, Mappable, Wf, Init, Maps, UnmapPre, Unmaps}
-use Rattle.upstream.specs.Calls.{took-not, gave-not, map-took, unmap-gave}
-use Rattle.upstream.specs.Facts.{any-overlap, cover-some, cover-none, needed-mapping}
-use Rattle.upstream.specs.Trait.{map-pre, some-size, one-for, first-within, words-wf, invariants-implies-wf, levels-low, levels-high, map-refinement, unmap-refinement, query-refinement}
+use Rattle.demand.specs.Demand3.{mapC, unmapC, queryC}
+use Rattle.demand.specs.Theorem.{step-holds}
+use Rattle.upstream.specs.State.{Has, StartsAt, Overlap, Within, OverlapsVmem, FrameSize, Mappable, Wf, Maps, UnmapPre, Unmaps}
+use Rattle.upstream.specs.Calls.{took-not, gave-not, took-passed, gave-passed}
+use Rattle.upstream.specs.Facts.{any-overlap, cover-some, cover-none}
+use Rattle.upstream.specs.Trait.{map-pre, unmap-pre, some-size, one-for, first-within, words-wf, invariants-implies-wf, levels-low, levels-high, map-refinement, unmap-refinement, query-refinement}
 
 -- `path_mappings`: a mapping that is found in the words
 abbrev pub InTree : Granule → Pool → Mapping → Type 0
 InTree G p m = List·Memᴰ m (mappingsOf G p)
-
--- `all_nonempty`: no table that is reached is empty, but for the root
-abbrev pub AllNonempty : Granule → Pool → Type 0
-AllNonempty G p = Each (λ t. t ≢ 0 → EmptyTable G (p .words) t → ⊥) (reachedOf G p)
 
 -- `has_prefix`: the s bytes from a on lie within the t bytes from b on
 abbrev pub Inside : ℕ → ℕ → ℕ → ℕ → Type 0
@@ -108,18 +100,7 @@ module _ (G : Granule) (Z : Sane G) where
     pub mappings-consistent-with-path-mappings : (m : Mapping) → InTree G p m ↔ Has A m
     mappings-consistent-with-path-mappings m = (H .listed m, H .live m)
 
-    -- a pool that holds a ledger has no empty table but the root
-    pub all-nonempty : AllNonempty G p
-    all-nonempty = H .sound .used
-
-    -- lemma_all_nonempty_implies_path_mappings_nonempty: in the region that a table stands for there is a mapping, which is smaller
-    pub all-nonempty-implies-path-mappings-nonempty : (t : ℕ) → List·Memᴰ t (reachedOf G p) → t ≢ 0
-        → (h : ℕ) × (a : ℕ) × StandsFor G p h a t × ((m : Mapping) × InTree G p m × (m .size < sizeAt G h) × (baseAt G (m .at) h ≡ a))
-    all-nonempty-implies-path-mappings-nonempty t i d = ⊎-elim (λ e. absurd (d e))
-        (λ (h, a, n, s). let (m, j, x, y) = needed-mapping G Z (A .levels - 1) (A .live) h a n in (h, a, s, (m, H .live m j, x, y)))
-        (rests G Z (holds-sim G Z H) .reached-needed t i)
-
-    -- ---- insert, and the model's map
+    -- ---- map
 
     module _ (m : Mapping) where
       -- the call, and the ledger after it
@@ -132,29 +113,14 @@ module _ (G : Granule) (Z : Sane G) where
       abbrev need : ℕ
       need = tablesLacking G (A .levels) (A .live) m
 
-      -- map_preserves_wf, lemma_insert_preserves_wf: whatever is asked, and whatever is answered
+      -- map_preserves_wf: whatever is asked, and whatever is answered
       pub map-preserves-wf : Holds G (mapped .after) next
       map-preserves-wf = step-holds G Z H (mapC (m .at) (m .frame) (m .size) (m .attributes)) .1
 
-      -- lemma_insert_preserves_all_nonempty
-      pub insert-preserves-all-nonempty : AllNonempty G (mapped .after)
-      insert-preserves-all-nonempty = map-preserves-wf .sound .used
-
       -- what succeeds was well-formed
       pub map-ok-implies-map-pre : (t : ℕ) → mapped .answer ≡ took t → Mappable G (A .levels) m
-      unfolding mapW
-      map-ok-implies-map-pre t e = subst (λ (l : ℕ). Mappable G l m) (H .levels-are) (go (goodPool G p) (eqb no 0) refl e)
-        where
-          no : ℕ
-          no = mapTests G (p .numbers .levels) (m .at) (m .frame) (m .size) (m .attributes)
-
-          o : Done
-          o = mapAt G p (m .at) (m .frame) (heightOf G (m .size)) (m .attributes) (walkTo G p (heightOf G (m .size)) (m .at)) (walkTo G p (heightOf G (m .size)) (m .at) .entry)
-
-          go : (x y : Bool) → eqb no 0 ≡ y → cond x (cond y o (refuse no p)) (refuse 1 p) .answer ≡ took t → Mappable G (p .numbers .levels) m
-          go false y q e = absurd (took-not (sym e))
-          go true false q e = absurd (took-not (sym e))
-          go true true q e = map-pre G Z (H .good .numbers .enough) (H .good .numbers .not-more) m .0 (eqb-true no 0 q)
+      map-ok-implies-map-pre t e = subst (λ (l : ℕ). Mappable G l m) (H .levels-are)
+          (map-pre G Z (H .good .numbers .enough) (H .good .numbers .not-more) m .0 (took-passed G p (m .at) (m .frame) (m .size) (m .attributes) t e .1))
 
       module _ (ok : Mappable G (A .levels) m) where
         abbrev says : Maps G A next m (mapped .answer)
@@ -190,36 +156,6 @@ module _ (G : Granule) (Z : Sane G) where
                 more true r = let s = says .lacks away (ltb-true _ _ r) .0 in let z : _≡_ {A = ℕ} 6 7 = cc in omega arith
                 more false r = took-not (sym (says .inserts away (ltb-false _ _ r) .0) ∙ e)
 
-        -- lemma_insert_fails_implies_prefix
-        pub insert-fails-implies-prefix : mapped .answer ≡ refused 6
-            → (k : Mapping) × InTree G p k × (Inside (k .at) (k .size) (m .at) (m .size) ⊎ Inside (m .at) (m .size) (k .at) (k .size))
-        insert-fails-implies-prefix e = let (k, i, o) = map-overlaps .0 e in (k, H .live k i, overlap-nested (W .each k i) ok o)
-
-        -- lemma_empty_implies_insert_ok, where refusal 7 is not given
-        pub empty-implies-insert-ok : Init A → need ≤ freeTables G A → mapped .answer ≡ took need
-        empty-implies-insert-ok e l = nonoverlap-implies-map-ok (λ (k, i, o). List·Memᴰ·not-nil (subst (λ (L : List Mapping). List·Memᴰ k L) e i)) l
-
-        -- lemma_empty_entry_implies_insert_ok, where refusal 7 is not given: the tables taken are those between the entry and the frame's height
-        pub empty-entry-implies-insert-ok : walkTo G p (heightOf G (m .size)) (m .at) .entry ≡ Empty
-            → walkTo G p (heightOf G (m .size)) (m .at) .left - heightOf G (m .size) ≤ p .numbers .free
-            → mapped .answer ≡ took (walkTo G p (heightOf G (m .size)) (m .at) .left - heightOf G (m .size))
-        unfolding mapW mapAt mapHere
-        empty-entry-implies-insert-ok e l = go (mayTake (p .list) (p .numbers .tables) (o .tables) (p .numbers .free) lacking) refl
-          where
-            o : Walked
-            o = walkTo G p (heightOf G (m .size)) (m .at)
-
-            lacking : ℕ
-            lacking = o .left - heightOf G (m .size)
-
-            tests : mapTests G (p .numbers .levels) (m .at) (m .frame) (m .size) (m .attributes) ≡ 0
-            tests = map-pre G Z (H .good .numbers .enough) (H .good .numbers .not-more) m .1 (subst (λ (l : ℕ). Mappable G l m) (sym (H .levels-are)) ok)
-
-            go : (b : Bool) → mayTake (p .list) (p .numbers .tables) (o .tables) (p .numbers .free) lacking ≡ b → mapped .answer ≡ took lacking
-            go true q = rw (setup-good (H .good), tests, e, le-ltb (p .numbers .free) lacking l, q)
-            go false q = absurd (demand3 G Z H (mapC (m .at) (m .frame) (m .size) (m .attributes) ∷ []) .sound (mapped .answer) (here refl)
-                (rw (setup-good (H .good), tests, e, le-ltb (p .numbers .free) lacking l, q)))
-
       module _ (t : ℕ) (e : mapped .answer ≡ took t) where
         abbrev done-says : Maps G A next m (mapped .answer)
         done-says = says (map-ok-implies-map-pre t e)
@@ -245,41 +181,7 @@ module _ (G : Granule) (Z : Sane G) where
         map-ok-implies-vbase-nonexist (k, i, q) =
             map-ok-implies-nonoverlap (k, i, (omega (arith, some-size G Z (map-ok-implies-map-pre t e)), omega (arith, some-size G Z (W .each k i))))
 
-        -- lemma_insert_adds_path_mapping
-        pub insert-adds-path-mapping : (k : Mapping) → InTree G (mapped .after) k ↔ ((k ≡ m) ⊎ InTree G p k)
-        insert-adds-path-mapping k = (
-          λ i. ⊎-elim (λ q. inl q) (λ j. inr (H .live k j)) (map-adds-mapping map-preserves-wf k .0 (map-preserves-wf .listed k i)),
-          λ s. map-preserves-wf .live k (map-adds-mapping map-preserves-wf k .1 (⊎-elim (λ q. inl q) (λ j. inr (H .listed k j)) s)),
-        )
-
-        -- lemma_path_mappings_after_insertion_contains_new_mapping
-        pub path-mappings-after-insertion-contains-new-mapping : InTree G (mapped .after) m
-        path-mappings-after-insertion-contains-new-mapping = insert-adds-path-mapping m .1 (inl refl)
-
-        -- lemma_insert_not_affect_other_mappings
-        pub insert-not-affect-other-mappings : (k : Mapping) → InTree G (mapped .after) k → (k ≡ m) ⊎ InTree G p k
-        insert-not-affect-other-mappings k i = insert-adds-path-mapping k .0 i
-
-      -- lemma_path_mappings_after_insertion_is_superset: whatever is answered
-      pub path-mappings-after-insertion-is-superset : (k : Mapping) → InTree G p k → InTree G (mapped .after) k
-      unfolding mapL
-      path-mappings-after-insertion-is-superset k i = map-preserves-wf .live k (go (eqb no 0) (anyOverlap (m .at) (m .size) (A .live)) (ltb (freeTables G A) need) (H .listed k i))
-        where
-          no : ℕ
-          no = mapTests G (A .levels) (m .at) (m .frame) (m .size) (m .attributes)
-
-          go : (x y z : Bool) → Has A k
-              → Has (cond x (cond y (entered (refused 6) A) (cond z (entered (refused 7) A) (entered (took need) (withLive A (m ∷ A .live))))) (entered (refused no) A) .after) k
-          go false y z i = i
-          go true true z i = i
-          go true false true i = i
-          go true false false i = there i
-
-      -- lemma_insert_ok_implies_visit_reaches_empty
-      pub insert-ok-implies-visit-reaches-empty : (t : ℕ) → mapped .answer ≡ took t → walkTo G p (heightOf G (m .size)) (m .at) .entry ≡ Empty
-      insert-ok-implies-visit-reaches-empty t e = map-took G p (m .at) (m .frame) (m .size) (m .attributes) t e .0
-
-    -- ---- remove and prune, and the model's unmap
+    -- ---- unmap
 
     module _ (a : ℕ) where
       -- the call, and the ledger after it
@@ -293,10 +195,6 @@ module _ (G : Granule) (Z : Sane G) where
       pub unmap-preserves-wf : Holds G (unmapped .after) rest
       unmap-preserves-wf = step-holds G Z H (unmapC a) .1
 
-      -- lemma_prune_after_remove_preserves_all_nonempty
-      pub prune-after-remove-preserves-all-nonempty : AllNonempty G (unmapped .after)
-      prune-after-remove-preserves-all-nonempty = unmap-preserves-wf .sound .used
-
       -- the address of a mapping is in the space, and a multiple of the page
       starts-pre : (k : Mapping) → Has A k → k .at ≡ a → UnmapPre G A a
       starts-pre k i e =
@@ -307,29 +205,14 @@ module _ (G : Granule) (Z : Sane G) where
             aligned = rw (← e, ← size-zero G) (aligned-down G {j = 0} {h = h} (omega arith) (k .at) (rw s (ok .valid .aligned)));
           }
 
-      -- lemma_vbase_exist_implies_unmap_ok, lemma_remove_padded_prefix_ok: it answers that mapping's frame, and the tables that the rest does not need
+      -- lemma_vbase_exist_implies_unmap_ok: it answers that mapping's frame, and the tables that the rest does not need
       pub vbase-exist-implies-unmap-ok : (k : Mapping) → Has A k → k .at ≡ a → unmapped .answer ≡ gave (k .frame) (k .size) (k .attributes) (freeTables G rest - freeTables G A)
       vbase-exist-implies-unmap-ok k i e = unmap-refinement G Z H a (starts-pre k i e) unmap-preserves-wf .removes k i e .0
-
-      -- lemma_empty_implies_remove_fail
-      pub empty-implies-remove-fail : Init A → UnmapPre G A a → unmapped .answer ≡ refused 9
-      empty-implies-remove-fail e pre = unmap-refinement G Z H a pre unmap-preserves-wf .nothing (λ (k, i, o). List·Memᴰ·not-nil (subst (λ (L : List Mapping). List·Memᴰ k L) e i)) .0
 
       module _ (b s x t : ℕ) (e : unmapped .answer ≡ gave b s x t) where
         -- what succeeds was in the space and at a page
         pub unmap-ok-implies-unmap-pre : UnmapPre G A a
-        unfolding unmapW unmapTests
-        unmap-ok-implies-unmap-pre = go (goodPool G p) (leb (spaceOf G (p .numbers .levels)) a) (eqb (a % pageSize G) 0) refl refl e
-          where
-            o : Done
-            o = unmapAt G p a (walkTo G p 0 a) (walkTo G p 0 a .entry)
-
-            go : (w y z : Bool) → leb (spaceOf G (p .numbers .levels)) a ≡ y → eqb (a % pageSize G) 0 ≡ z
-                → cond w (cond (eqb (cond y 4 (cond z 0 5)) 0) o (refuse (cond y 4 (cond z 0 5)) p)) (refuse 1 p) .answer ≡ gave b s x t → UnmapPre G A a
-            go false y z q r e = absurd (gave-not (sym e))
-            go true true z q r e = absurd (gave-not (sym e))
-            go true false false q r e = absurd (gave-not (sym e))
-            go true false true q r e = record { in-space = rw (← H .levels-are) (leb-false _ _ q); aligned = eqb-true _ _ r }
+        unmap-ok-implies-unmap-pre = unmap-pre G Z A a .0 (subst (λ (l : ℕ). unmapTests G l a ≡ 0) (H .levels-are) (gave-passed G p a b s x t e .1))
 
         abbrev gave-says : Unmaps G A rest a (unmapped .answer)
         gave-says = unmap-refinement G Z H a unmap-ok-implies-unmap-pre unmap-preserves-wf
@@ -358,19 +241,7 @@ module _ (G : Granule) (Z : Sane G) where
         pub unmap-removes-mapping : {B : Ledger} → Holds G (unmapped .after) B → (k : Mapping) → Has B k ↔ (Has A k × (k .at ≢ a))
         unmap-removes-mapping H′ = unmap-refinement G Z H a unmap-ok-implies-unmap-pre H′ .removes (mapping a b s x) unmap-ok-implies-vbase-exist refl .1
 
-        -- the same of the mappings in the words
-        pub unmap-removes-path-mapping : (k : Mapping) → InTree G (unmapped .after) k ↔ (InTree G p k × (k .at ≢ a))
-        unmap-removes-path-mapping k = (
-          λ i. let (j, d) = unmap-removes-mapping unmap-preserves-wf k .0 (unmap-preserves-wf .listed k i) in (H .live k j, d),
-          λ (i, d). unmap-preserves-wf .live k (unmap-removes-mapping unmap-preserves-wf k .1 (H .listed k i, d)),
-        )
-
-      -- lemma_remove_ok_implies_visit_reaches_frame
-      pub remove-ok-implies-visit-reaches-frame : (b s x t : ℕ) → unmapped .answer ≡ gave b s x t
-          → (walkTo G p 0 a .entry ≡ Frame b x) × (s ≡ sizeAt G (walkTo G p 0 a .left)) × (a % sizeAt G (walkTo G p 0 a .left) ≡ 0)
-      remove-ok-implies-visit-reaches-frame b s x t e = let (u, v, w, _, _) = unmap-gave G p a b s x t e in (u, v, w)
-
-    -- ---- the model's query
+    -- ---- query
 
     -- lemma_mapping_exist_implies_query_ok
     pub mapping-exist-implies-query-ok : (a : ℕ) (k : Mapping) → Has A k → Within a k → queryW G p a ≡ found k

@@ -1,20 +1,23 @@
 -- tree.rs, visit and real_path. A visit is the walk from the root to a target height: the height where it ends is how far it came, and the tables on
--- its way are those whose entries it read. All but the last two laws are of any words, sound or not.
-use mathlib.Core.Path.{_≡_, refl, ap, sym, _∙_}
+-- its way are those whose entries it read; its real path is the part of the path that it came. All but the last two laws are of any words, sound or
+-- not.
+use mathlib.Core.Path.{_≡_, refl, ap, sym, _∙_, subst}
 use mathlib.Core.Logic.{_≢_, _⊎_, inl, inr, ⊎-elim}
 use mathlib.Core.Bool.{Bool, true, false, cond}
-use mathlib.Core.List.{List}
-use Prim.Native.Nat.{ℕ, zero, suc, _-_, _≤_, _<_}
+use mathlib.Core.List.{List, _++_}
+use Prim.Native.Nat.{ℕ, zero, suc, _+_, _-_, _≤_, _<_}
 use native.Mathlib.Omega.{arith}
 use native.Mathlib.Decide.{ℕ-discrete}
 use lib.Dec.{leb}
-use lib.ListN.{getD, set}
+use lib.ListN.{getD, set, take}
 use lib.Seq.{getD-set-other}
 use borrow.Author.Tests.{leb-true, leb-false, le-leb, lt-leb}
 use Rattle.laws.specs.Lists.{among}
 use Rattle.path.specs.Geometry.{Granule, entries, spaceOf, Sane}
-use Rattle.path.specs.Areas.{Area, areaOf, total, tableAt, GoodArea}
-use Rattle.path.specs.Paths.{pathOf}
+use Rattle.path.specs.Areas.{Area, areaOf, total}
+use Rattle.path.specs.Laws.{good-setup}
+use Rattle.path.specs.Paths.{pathOf, indices, IsPath}
+use Rattle.path.specs.PrefixLaws.{indices-split, prefix-path}
 use Rattle.entry.specs.Words.{entryAt, Framed}
 use Rattle.entry.specs.Laws.{table-only, frame-only}
 use Rattle.entry.specs.declared.Entry.{Entry}
@@ -22,12 +25,11 @@ use Rattle.entry.specs.declared.Entry.the-variants.{Empty, Table, Frame, Damage
 use Rattle.model.specs.Answers.{Pool}
 use Rattle.model.specs.declared.Walked.{Walked}
 use Rattle.model.specs.Walk.{slot, atHeight, noWay, stop, onward, walkFrom}
-use Rattle.model.specs.Calls.{walkTo}
-use Rattle.model.specs.Ledger.{Ledger}
+use Rattle.model.specs.Calls.{goodPool, walkTo}
 use Rattle.tree.specs.Region.{anc}
-use Rattle.demand.specs.Holds.{Holds}
+use Rattle.demand.specs.Holds.{WfTree, ledgerOf}
 use Rattle.demand.specs.Shown.{pg}
-use Rattle.demand.specs.Sims.{Sim, holds-sim}
+use Rattle.demand.specs.Sims.{SimIf, wf-sim}
 use Rattle.demand.specs.Queries.{walk-ended}
 use Rattle.demand.specs.Arm.{readEntry}
 use Rattle.demand.specs.Walks.{never-bad}
@@ -235,6 +237,28 @@ module _ (G : Granule) (ws : List ℕ) (area : Area) (path : List ℕ) where
           at false true = inl refl
           at false false = ih c
 
+-- `real_path`: of the path with n places those that the walk used, which ended at height h
+abbrev pub realPath : Granule → ℕ → ℕ → ℕ → List ℕ
+realPath G a n h = take (n - h) (indices G a n)
+
+module _ (G : Granule) (p : Pool) (g a : ℕ) where
+  abbrev came : ℕ
+  came = walkTo G p g a .left
+
+  abbrev levels : ℕ
+  levels = p .numbers .levels
+
+  in-levels : levels - came + came ≡ levels
+  in-levels = omega (arith, walk-low G (p .words) (areaOf (p .numbers)) (pathOf G a) g (levels - 1) noWay 0)
+
+  -- lemma_real_path_valid
+  pub real-path-valid : IsPath G (p .numbers .levels - walkTo G p g a .left) (realPath G a (p .numbers .levels) (walkTo G p g a .left))
+  real-path-valid = subst (λ (n : ℕ). IsPath G (levels - came) (take (levels - came) (indices G a n))) in-levels (prefix-path G a (levels - came) came)
+
+  -- lemma_real_path_is_prefix
+  pub real-path-is-prefix : realPath G a (p .numbers .levels) (walkTo G p g a .left) ++ indices G a (walkTo G p g a .left) ≡ indices G a (p .numbers .levels)
+  real-path-is-prefix = subst (λ (n : ℕ). take (levels - came) (indices G a n) ++ indices G a came ≡ indices G a n) in-levels (sym (indices-split G a (levels - came) came))
+
 -- what is read from a word, and not damaged, may stand there
 pub read-valid : {G : Granule} → Sane G → (area : Area) (h w : ℕ) (e : Entry) → entryAt G area h w ≡ e → e ≢ Damaged → EntryValid G (total area) h e
 read-valid Z area h w Empty q d = tt
@@ -242,13 +266,13 @@ read-valid Z area h w (Table c) q d = let (x, y, z, _) = table-only Z area h w q
 read-valid Z area h w (Frame b k) q d = frame-only Z area h w q .0
 read-valid Z area h w Damaged q d = d refl
 
-module _ (G : Granule) (Z : Sane G) {p : Pool} {A : Ledger} (H : Holds G p A) (g a : ℕ) (low : g ≤ p .numbers .levels - 1) (in-space : a < spaceOf G (p .numbers .levels)) where
-  -- in a pool that holds a ledger no walk meets damage
+module _ (G : Granule) (Z : Sane G) {p : Pool} (w : WfTree G p) (good : goodPool G p ≡ true) (g a : ℕ) (low : g ≤ p .numbers .levels - 1) (in-space : a < spaceOf G (p .numbers .levels)) where
+  -- in a tree that is well-formed no walk meets damage
   pub never-damaged : walkTo G p g a .entry ≢ Damaged
   never-damaged e = never-bad (I .S h r) (I .T h r) (ap readEntry (sym e) ∙ walk-ended G Z I g a low in-space .ends .says-is)
     where
-      I : Sim G Z p A
-      I = holds-sim G Z H
+      I : SimIf G Z ⊥ ⊥ p (ledgerOf G p)
+      I = wf-sim G Z (good-setup good) w (λ c. absurd c)
 
       h : ℕ
       h = walkTo G p g a .left

@@ -54,7 +54,7 @@ fn rights(w: u64) {
     allowed(high == 0, b"x");
 }
 
-// The kind of memory, and its shareability. Device memory is outer shareable whatever SH says.
+// The kind of memory, and its shareability. Device memory is outer shareable whatever SH says, and so is Normal memory that no cache keeps.
 fn memory(w: u64) {
     if w / 16 % 4 == 0 {
         device(w / 4 % 4);
@@ -62,8 +62,13 @@ fn memory(w: u64) {
         return;
     }
     text(b" Normal");
-    cached(w / 16 % 4);
-    cached(w / 4 % 4);
+    let kinds = w / 4 % 16;
+    cached(kinds / 4);
+    cached(kinds % 4);
+    if kinds == 5 {
+        share(2);
+        return;
+    }
     share(w / 256 % 4);
 }
 

@@ -1,0 +1,47 @@
+-- A good pool stays good: make any sequence of calls, with any arguments, on any pool that keeps the rules of refusal 1, be it sound or damaged.
+use mathlib.Core.Path.{_≡_, refl, subst}
+use mathlib.Core.Bool.{Bool, true, false, cond}
+use mathlib.Core.List.{List, [], _∷_}
+use Prim.Native.Nat.{ℕ, _-_}
+use lib.ListN.{length, replicate}
+use Rattle.laws.specs.Lists.{down}
+use Rattle.path.specs.Geometry.{Granule, four}
+use Rattle.path.specs.Areas.{Area, total}
+use Rattle.path.specs.Numbers.{noSetup, setupOf, goodNumbers}
+use Rattle.model.specs.Answers.{formatted, Pool, pool, Done, done, refuse}
+use Rattle.model.specs.Calls.{goodPool, formatW}
+use Rattle.model.specs.AuditLaws.{format-audit, audit-counts}
+use Rattle.model.specs.LeftLaws.{map-leaves, unmap-leaves, leaves-good}
+use Rattle.model.specs.Refusals.{Breaks}
+use Rattle.model.specs.RefusalLaws.{good-keeps, unbroken-good}
+use Rattle.demand.specs.Demand3.{Call, formatC, mapC, unmapC, askC, goOn, stepW, poolAfter}
+
+module _ (G : Granule) where
+  -- an accepted format leaves a good pool, a refused one the pool from before
+  format-good : (p : Pool) (levels : ℕ) (area : Area) → goodPool G p ≡ true → goodPool G (stepW G p (formatC levels area) .after) ≡ true
+  unfolding formatW
+  format-good p levels area g = go (goodNumbers G levels area (length (p .words)) (length (p .list))) refl
+    where
+      left : Bool → Done
+      left y = cond y (done formatted (pool (setupOf levels area (total area - 1)) (replicate (length (p .words)) 0) (down (total area)))) (refuse 1 (pool noSetup (p .words) (p .list)))
+
+      fresh : goodNumbers G levels area (length (p .words)) (length (p .list)) ≡ true → goodPool G (left (goodNumbers G levels area (length (p .words)) (length (p .list))) .after) ≡ true
+      fresh e = audit-counts G _ 1 0 (format-audit G levels area (p .words) (p .list) (rw e)) .0
+
+      go : (y : Bool) → goodNumbers G levels area (length (p .words)) (length (p .list)) ≡ y → goodPool G (goOn p (left y) (left y .answer) .after) ≡ true
+      go true e = subst (λ (y : Bool). goodPool G (left y .after) ≡ true) e (fresh e)
+      go false e = g
+
+  pub stays-good : (p : Pool) (c : Call) → goodPool G p ≡ true → goodPool G (stepW G p c .after) ≡ true
+  stays-good p (formatC l r) g = format-good p l r g
+  stays-good p (mapC a b s k) g = leaves-good (map-leaves G p a b s k) g
+  stays-good p (unmapC a) g = leaves-good (unmap-leaves G p a) g
+  stays-good p (askC q) g = g
+
+  pub stays-good-all : (p : Pool) (cs : List Call) → goodPool G p ≡ true → goodPool G (poolAfter G p cs) ≡ true
+  stays-good-all p [] g = g
+  stays-good-all p (c ∷ cs) g = stays-good-all (stepW G p c .after) cs (stays-good p c g)
+
+-- with the 4 KiB granule, in the paper's numbers: what breaks no rule breaks none after any calls
+pub never-breaks : (p : Pool) (cs : List Call) → (¬ Breaks p) → ¬ Breaks (poolAfter four p cs)
+never-breaks p cs n = good-keeps (poolAfter four p cs) (stays-good-all four p cs (unbroken-good p n))

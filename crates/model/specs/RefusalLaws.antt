@@ -1,0 +1,915 @@
+-- Laws of the table of refusals: each call keeps its table, number by number.
+use Prim.Native.Nat.{ℕ, zero, suc, _+_, _-_, _*_, _%_, _^_, _≤_, _<_}
+use mathlib.Core.Path.{_≡_, refl, sym, ap, subst, _∙_}
+use mathlib.Core.Logic.{_≢_, _⊎_, inl, inr, ⊎-elim, _↔_, Iff·trans}
+use mathlib.Core.Bool.{Bool, true, false, cond, _&&_, not, true≢false, false≢true, and-eq-true-iff}
+use mathlib.Core.List.{List, [], _∷_, List·Memᴰ, List·Memᴰ·head as here, List·Memᴰ·tail as there, List·Memᴰ·cases-cons}
+use native.Mathlib.Decide.{decLt, ℕ-discrete}
+use native.Mathlib.Omega.{arith}
+use lib.Dec.{ltb, leb, eqb}
+use lib.ListN.{length, getD, set, length-set}
+use lib.Seq.{getD-set-same, getD-set-other}
+use borrow.Author.Tests.{ltb-true, ltb-false, leb-true, leb-false, eqb-true, eqb-false, lt-leb, not-true, not-false}
+use Rattle.laws.specs.Lists.{part, among}
+use Rattle.laws.specs.ListLaws.{length-part-le, getD-part, allZero-at, allZero-of, among-mem, not-among}
+use Rattle.path.specs.Geometry.{four, sizeAt, goodLevels, spaceOf, seek, heightOf, physical}
+use Rattle.path.specs.Areas.{Area, areaAt, areaOf, total, GoodArea}
+use Rattle.path.specs.Numbers.{noSetup, goodNumbers, goodSetup, GoodNumbers}
+use Rattle.path.specs.Paths.{baseAt, pathOf}
+use Rattle.path.specs.Laws.{four-sane, no-frame, height-most, height-size, good-numbers, good-setup}
+use Rattle.entry.specs.Words.{entryAt}
+use Rattle.entry.specs.Laws.{table-only}
+use Rattle.entry.specs.declared.Entry.{Entry}
+use Rattle.entry.specs.declared.Entry.the-variants.{Empty, Table, Frame, Damaged}
+use Rattle.model.specs.declared.Walked.{Walked}
+use Rattle.model.specs.Answers.{Answer, formatted, took, gave, found, audited, refused, Mapping, mapping, Pool, pool, Done, done, refuse}
+use Rattle.model.specs.Walk.{slot, atHeight, stop, onward, walkFrom, noWay}
+use Rattle.model.specs.Writes.{mayTake, onlyEntry, freed}
+use Rattle.model.specs.Unique.{found-same}
+use Rattle.model.specs.Calls.{goodPool, formatW, foundAt, queryW, mapTests, mapHere, mapAt, mapW, unmapTests, unmapHere, unmapAt, unmapW}
+use Rattle.model.specs.Audit.{soundPool, auditW}
+use Rattle.model.specs.AuditLaws.{sound-only, sound-all, audit-counts}
+use Rattle.model.specs.Sound.{wordAt, reachedOf, mappingsOf, SoundPool}
+use Rattle.model.specs.DescentLaws.{clash}
+use Rattle.model.specs.Refusals.{Broken, Breaks, NoSize, NoAttributes, NotBelow, Above, Outside, Misplaced, Occupied, Damage, Vacant}
+use Rattle.model.specs.Refusals.{mapWalk, needed, taken, BadTaken, BadList, lastWalk, OffPage, OffStart, Starts, Emptied, GivesBack, FullList}
+use Rattle.model.specs.Refusals.{Row, row, First, None, mapTable, unmapTable, queryTable, auditTable, formatTable}
+use Rattle.model.specs.Refusals.{ByTable, FormatNumbers, WellFormedMap, MapNumbers, UnmapNumbers, QueryNumbers, AuditNumbers}
+use Rattle.model.specs.Refusals.Broken.{bad-levels, no-table, many-tables, base-unaligned, base-high, bad-words, bad-places}
+use Rattle.model.specs.Refusals.Outside.{starts-outside, ends-outside, frame-outside}
+use Rattle.model.specs.Refusals.BadTaken.{root-taken, beyond-taken, taken-twice, taken-on-path}
+
+-- ---- tables of rows
+
+pub first-unique : (rows : List Row) {m n : ℕ} → First rows m → First rows n → m ≡ n
+first-unique [] f g = absurd f
+first-unique (r ∷ rows) (inl (x, e)) (inl (y, d)) = sym e ∙ d
+first-unique (r ∷ rows) (inl (x, e)) (inr (y, g)) = absurd (y x)
+first-unique (r ∷ rows) (inr (x, f)) (inl (y, d)) = absurd (x y)
+first-unique (r ∷ rows) (inr (x, f)) (inr (y, g)) = first-unique rows f g
+
+pub first-some : (rows : List Row) (n : ℕ) → First rows n → None rows → ⊥
+first-some [] n f z = f
+first-some (r ∷ rows) n (inl (x, e)) z = z .0 x
+first-some (r ∷ rows) n (inr (x, f)) z = first-some rows n f (z .1)
+
+-- a call keeps a table: it is refused by the first row that applies, or none applies and it is accepted
+data Told (rows : List Row) (p : Pool) (Good : Done → Type 0) (d : Done) : Type 0 where
+  refused-by : (n : ℕ) → First rows n → d ≡ refuse n p → Told rows p Good d
+  accepted-by : None rows → Good d → Told rows p Good d
+
+same-number : {m n : ℕ} → refused m ≡ refused n → m ≡ n
+same-number e = cc
+
+module _ {rows : List Row} {p : Pool} {Good : Done → Type 0} {d : Done} where
+  by-table : Told rows p Good d → ((n : ℕ) → Good d → d .answer ≡ refused n → ⊥) → ByTable rows p d
+  by-table (refused-by m f e) other = record {
+    gives = λ n. (λ q. subst (First rows) (number n q) f, λ g. ap (λ (c : Done). c .answer) e ∙ ap refused (first-unique rows f g));
+    kept = λ n q. ap (λ (c : Done). c .after) e;
+  }
+    where
+      number : (n : ℕ) → d .answer ≡ refused n → m ≡ n
+      number n q = same-number (sym (ap (λ (c : Done). c .answer) e) ∙ q)
+  by-table (accepted-by z g) other = record {
+    gives = λ n. (λ q. absurd (other n g q), λ f. absurd (first-some rows n f z));
+    kept = λ n q. absurd (other n g q);
+  }
+
+  -- what is no refusal is answered exactly when no row applies
+  by-none : Told rows p Good d → (x : Answer) → ((n : ℕ) → x ≢ refused n) → (d .answer ≡ x → None rows × Good d)
+  by-none (refused-by m f e) x other q = absurd (other m (sym q ∙ ap (λ (c : Done). c .answer) e))
+  by-none (accepted-by z g) x other q = (z, g)
+
+  none-by : Told rows p Good d → None rows → Good d
+  none-by (refused-by m f e) z = absurd (first-some rows m f z)
+  none-by (accepted-by z′ g) z = g
+
+module _ {rows : List Row} {p : Pool} {Good : Done → Type 0} where
+  hit : {n : ℕ} {P : Type 0} → P → Told (row n P ∷ rows) p Good (refuse n p)
+  hit {n} x = refused-by n (inl (x, refl)) refl
+
+  miss : {n : ℕ} {P : Type 0} {d : Done} → (¬ P) → Told rows p Good d → Told (row n P ∷ rows) p Good d
+  miss x (refused-by m f e) = refused-by m (inr (x, f)) e
+  miss x (accepted-by z g) = accepted-by (x, z) g
+
+-- row i applies, and none before it
+abbrev At : List Row → ℕ → Type 0
+At [] i = ⊥
+At (r ∷ rows) zero = r .when
+At (r ∷ rows) (suc i) = (¬ r .when) × At rows i
+
+-- whether no row has a number; whether row i has it, and no other; whether rows i and j have it, and no other
+abbrev absent : List Row → ℕ → Bool
+absent [] n = true
+absent (r ∷ rows) n = not (eqb (r .number) n) && absent rows n
+
+abbrev alone : List Row → ℕ → ℕ → Bool
+alone [] i n = false
+alone (r ∷ rows) zero n = eqb (r .number) n && absent rows n
+alone (r ∷ rows) (suc i) n = not (eqb (r .number) n) && alone rows i n
+
+abbrev pair : List Row → ℕ → ℕ → ℕ → Bool
+pair [] i j n = false
+pair (r ∷ rows) zero zero n = false
+pair (r ∷ rows) (suc i) zero n = false
+pair (r ∷ rows) zero (suc j) n = eqb (r .number) n && alone rows j n
+pair (r ∷ rows) (suc i) (suc j) n = not (eqb (r .number) n) && pair rows i j n
+
+module _ (r : Row) (n : ℕ) (b : Bool) where
+  this-number : (eqb (r .number) n && b) ≡ true → (r .number ≡ n) × (b ≡ true)
+  this-number t = let (x, y) = and-eq-true-iff (eqb (r .number) n) b .0 t in (eqb-true (r .number) n x, y)
+
+  other-number : (not (eqb (r .number) n) && b) ≡ true → (r .number ≢ n) × (b ≡ true)
+  other-number t = let (x, y) = and-eq-true-iff (not (eqb (r .number) n)) b .0 t in (eqb-false (r .number) n (not-true (eqb (r .number) n) x), y)
+
+first-absent : (rows : List Row) (n : ℕ) → absent rows n ≡ true → First rows n → ⊥
+first-absent [] n t f = f
+first-absent (r ∷ rows) n t (inl (x, e)) = other-number r n (absent rows n) t .0 e
+first-absent (r ∷ rows) n t (inr (x, f)) = first-absent rows n (other-number r n (absent rows n) t .1) f
+
+-- a row of another number, before a row that is looked for
+skip : (r : Row) (rows : List Row) (n : ℕ) {X : Type 0} → r .number ≢ n → First rows n ↔ X → First (r ∷ rows) n ↔ ((¬ r .when) × X)
+skip r rows n {X} d same = (forth, λ (x, y). inr (x, same .1 y))
+  where
+    forth : First (r ∷ rows) n → (¬ r .when) × X
+    forth (inl (x, e)) = absurd (d e)
+    forth (inr (x, f)) = (x, same .0 f)
+
+-- the only row of a number is the first to apply exactly when it applies, and none before it
+line : (rows : List Row) (i n : ℕ) → alone rows i n ≡ true → First rows n ↔ At rows i
+line [] i n t = absurd (false≢true t)
+line (r ∷ rows) zero n t = (forth, λ x. inl (x, this-number r n (absent rows n) t .0))
+  where
+    forth : First (r ∷ rows) n → r .when
+    forth (inl (x, e)) = x
+    forth (inr (x, f)) = absurd (first-absent rows n (this-number r n (absent rows n) t .1) f)
+line (r ∷ rows) (suc i) n t = skip r rows n (other-number r n (alone rows i n) t .0) (line rows i n (other-number r n (alone rows i n) t .1))
+
+-- and so one of two rows
+lines : (rows : List Row) (i j n : ℕ) → pair rows i j n ≡ true → First rows n ↔ (At rows i ⊎ At rows j)
+lines [] i j n t = absurd (false≢true t)
+lines (r ∷ rows) zero zero n t = absurd (false≢true t)
+lines (r ∷ rows) (suc i) zero n t = absurd (false≢true t)
+lines (r ∷ rows) zero (suc j) n t = (forth, ⊎-elim (λ x. inl (x, this-number r n (alone rows j n) t .0)) (λ (x, y). inr (x, rest .1 y)))
+  where
+    rest : First rows n ↔ At rows j
+    rest = line rows j n (this-number r n (alone rows j n) t .1)
+
+    forth : First (r ∷ rows) n → r .when ⊎ ((¬ r .when) × At rows j)
+    forth (inl (x, e)) = inl x
+    forth (inr (x, f)) = inr (x, rest .0 f)
+lines (r ∷ rows) (suc i) (suc j) n t =
+    Iff·trans
+    (skip r rows n (other-number r n (pair rows i j n) t .0) (lines rows i j n (other-number r n (pair rows i j n) t .1)))
+    (λ (x, y). ⊎-elim (λ z. inl (x, z)) (λ z. inr (x, z)) y, ⊎-elim (λ (x, z). (x, inl z)) (λ (x, z). (x, inr z)))
+
+-- ---- the setup numbers
+
+-- where two tests do not hold together, one of them does not
+broke : {A : Type 0} {x y : Bool} → (x && y) ≡ false → (x ≡ false → A) → (y ≡ false → A) → A
+broke {x = true} e f g = g e
+broke {x = false} e f g = f refl
+
+module _ {levels base tables words places : ℕ} where
+  three-four : goodLevels four levels ≡ false → Broken levels base tables words places
+  unfolding goodLevels
+  three-four e = bad-levels (λ z. true≢false (sym (ap (λ (l : ℕ). leb 3 l && leb l 4) z) ∙ e)) (λ z. true≢false (sym (ap (λ (l : ℕ). leb 3 l && leb l 4) z) ∙ e))
+
+  pub bad-broken : goodNumbers four levels (areaAt base tables) words places ≡ false → Broken levels base tables words places
+  unfolding goodNumbers
+  bad-broken e =
+      broke e three-four (λ e.
+      broke e (λ q. no-table (leb-false 1 tables q)) (λ e.
+      broke e (λ q. many-tables (leb-false tables 64 q)) (λ e.
+      broke e (λ q. base-unaligned (eqb-false (base % 4096) 0 q)) (λ e.
+      broke e (λ q. base-high (leb-false (base + 4096 * tables) (2 ^ 48) q)) (λ e.
+      broke e (λ q. bad-words (eqb-false words (512 * tables) q)) (λ q. bad-places (eqb-false places tables q)))))))
+
+  levels-are : GoodNumbers four levels (areaAt base tables) words places → (levels ≡ 3) ⊎ (levels ≡ 4)
+  levels-are N = go (ℕ-discrete levels 3)
+    where
+      go : Dec (levels ≡ 3) → (levels ≡ 3) ⊎ (levels ≡ 4)
+      go (yes e) = inl e
+      go (no d) = inr (omega (arith, N .enough, N .not-more))
+
+  pub good-unbroken : GoodNumbers four levels (areaAt base tables) words places → Broken levels base tables words places → ⊥
+  good-unbroken N (bad-levels x y) = ⊎-elim x y (levels-are N)
+  good-unbroken N (no-table l) = omega (arith, N .some-table)
+  good-unbroken N (many-tables l) = omega (arith, N .few)
+  good-unbroken N (base-unaligned d) = d (N .placed .aligned)
+  good-unbroken N (base-high l) = omega (arith, N .placed .fits)
+  good-unbroken N (bad-words d) = d (N .words-are)
+  good-unbroken N (bad-places d) = d (N .places-are)
+
+module _ (p : Pool) where
+  pub bad-breaks : goodPool four p ≡ false → Breaks p
+  unfolding goodSetup
+  bad-breaks e = broke e (λ q. inl (bad-broken q)) (λ q. inr (ltb-false (p .numbers .free) (p .numbers .tables) q))
+
+  pub good-keeps : goodPool four p ≡ true → Breaks p → ⊥
+  good-keeps e (inl x) = good-unbroken (good-setup e .numbers) x
+  good-keeps e (inr l) = omega (arith, good-setup e .room)
+
+  pub unbroken-good : (¬ Breaks p) → goodPool four p ≡ true
+  unbroken-good n = go (goodPool four p) refl
+    where
+      go : (x : Bool) → goodPool four p ≡ x → x ≡ true
+      go true e = refl
+      go false e = absurd (n (bad-breaks e))
+
+  pub three-or-four : goodPool four p ≡ true → (p .numbers .levels ≡ 3) ⊎ (p .numbers .levels ≡ 4)
+  three-or-four e = levels-are (good-setup e .numbers)
+
+-- ---- sizes and the space
+
+-- the heights of the three sizes
+pub heights : (heightOf four 4096 ≡ 0) × (heightOf four (2 ^ 21) ≡ 1) × (heightOf four (2 ^ 30) ≡ 2)
+unfolding heightOf seek sizeAt
+heights = (refl, refl, refl)
+
+module _ (size : ℕ) where
+  pub no-size : ltb 2 (heightOf four size) ≡ true → NoSize size
+  unfolding sizeAt
+  no-size e = let l = ltb-true 2 (heightOf four size) e in let none = no-frame four size (omega (arith, height-most four size)) in
+      (λ z. none 0 (omega arith) (sym z), λ z. none 1 (omega arith) (sym z), λ z. none 2 (omega arith) (sym z))
+
+  pub some-size : ltb 2 (heightOf four size) ≡ false → NoSize size → ⊥
+  unfolding sizeAt
+  some-size e (x, y, z) = go (heightOf four size) (ltb-false 2 (heightOf four size) e) (height-size four size (ltb-false 2 (heightOf four size) e))
+    where
+      go : (h : ℕ) → h ≤ 2 → sizeAt four h ≡ size → ⊥
+      go zero l e = x (sym e)
+      go (suc zero) l e = y (sym e)
+      go (suc (suc zero)) l e = z (sym e)
+      go (suc (suc (suc h))) l e = omega arith
+
+module _ (levels x : ℕ) where
+  space-three : levels ≡ 3 → spaceOf four levels ≡ 2 ^ 39
+  unfolding spaceOf goodLevels sizeAt
+  space-three e = rw e
+
+  space-four : levels ≡ 4 → spaceOf four levels ≡ 2 ^ 48
+  unfolding spaceOf goodLevels sizeAt
+  space-four e = rw e
+
+  module _ (good : (levels ≡ 3) ⊎ (levels ≡ 4)) where
+    pub not-below : leb (spaceOf four levels) x ≡ true → NotBelow levels x
+    not-below t = let l = leb-true (spaceOf four levels) x t in
+        ⊎-elim (λ e. inl (e, omega (arith, space-three e))) (λ e. inr (e, omega (arith, space-four e))) good
+
+    pub above : ltb (spaceOf four levels) x ≡ true → Above levels x
+    above t = let l = ltb-true (spaceOf four levels) x t in
+        ⊎-elim (λ e. inl (e, omega (arith, space-three e))) (λ e. inr (e, omega (arith, space-four e))) good
+
+  pub is-below : leb (spaceOf four levels) x ≡ false → NotBelow levels x → ⊥
+  is-below t (inl (e, l)) = let m = leb-false (spaceOf four levels) x t in omega (arith, space-three e)
+  is-below t (inr (e, l)) = let m = leb-false (spaceOf four levels) x t in omega (arith, space-four e)
+
+  pub not-above : ltb (spaceOf four levels) x ≡ false → Above levels x → ⊥
+  not-above t (inl (e, l)) = let m = ltb-false (spaceOf four levels) x t in omega (arith, space-three e)
+  not-above t (inr (e, l)) = let m = ltb-false (spaceOf four levels) x t in omega (arith, space-four e)
+
+-- ---- the free list
+
+-- one place further from the end of the list
+further : (list : List ℕ) (free j : ℕ) → taken list (free - 1) j ≡ taken list free (suc j)
+further list free j = ap (λ (i : ℕ). getD list i 0) (omega arith)
+
+module _ (list : List ℕ) (n : ℕ) where
+  -- a bad table among those after the first
+  later-bad : (free need c : ℕ) (seen : List ℕ) → c ≡ taken list free 0 → BadTaken list n (free - 1) need (c ∷ seen) → BadTaken list n free (suc need) seen
+  later-bad free need c seen q (root-taken j l b) = root-taken (suc j) (omega arith) (rw (← further list free j) b)
+  later-bad free need c seen q (beyond-taken j l b) = beyond-taken (suc j) (omega arith) (rw (← further list free j) b)
+  later-bad free need c seen q (taken-twice i j m l e) = taken-twice (suc i) (suc j) (omega arith) (omega arith) (sym (further list free i) ∙ e ∙ further list free j)
+  later-bad free need c seen q (taken-on-path j l m) =
+      ⊎-elim
+      (λ e. taken-twice 0 (suc j) (omega arith) (omega arith) (sym q ∙ sym e ∙ further list free j))
+      (λ k. taken-on-path (suc j) (omega arith) (subst (λ (t : ℕ). List·Memᴰ t seen) (further list free j) k))
+      (List·Memᴰ·cases-cons m)
+
+  first-taken : (free : ℕ) → getD list (free - 1) 0 ≡ taken list free 0
+  first-taken free = ap (λ (i : ℕ). getD list i 0) (omega arith)
+
+  pub cannot-take : (seen : List ℕ) (free need : ℕ) → mayTake list n seen free need ≡ false → BadTaken list n free need seen
+  unfolding mayTake
+  cannot-take seen free zero e = absurd (true≢false e)
+  cannot-take seen free (suc need) e = go (getD list (free - 1) 0) (first-taken free) (cannot-take (getD list (free - 1) 0 ∷ seen) (free - 1) need) e
+    where
+      go : (c : ℕ) → c ≡ taken list free 0
+          → (mayTake list n (c ∷ seen) (free - 1) need ≡ false → BadTaken list n (free - 1) need (c ∷ seen))
+          → (ltb 0 c && (ltb c n && (not (among c seen) && mayTake list n (c ∷ seen) (free - 1) need))) ≡ false
+          → BadTaken list n free (suc need) seen
+      go c q f e =
+          broke e (λ z. root-taken 0 (omega arith) (omega (arith, q, ltb-false 0 c z))) (λ e.
+          broke e (λ z. beyond-taken 0 (omega arith) (omega (arith, q, ltb-false c n z))) (λ e.
+          broke e (λ z. taken-on-path 0 (omega arith) (subst (λ (t : ℕ). List·Memᴰ t seen) q (among-mem c seen (not-false (among c seen) z))))
+          (λ z. later-bad free need c seen q (f z))))
+
+  -- what is asked of table j of those to be taken
+  Fit : ℕ → List ℕ → ℕ → Type 0
+  Fit free seen j =
+      (0 < taken list free j)
+      × (taken list free j < n)
+      × (List·Memᴰ (taken list free j) seen → ⊥)
+      × ((i : ℕ) → i < j → taken list free i ≢ taken list free j)
+
+  can-take : (seen : List ℕ) (free need : ℕ) → mayTake list n seen free need ≡ true → (j : ℕ) → j < need → Fit free seen j
+  unfolding mayTake Fit
+  can-take seen free zero e = λ j l. absurd (omega arith)
+  can-take seen free (suc need) e = go (getD list (free - 1) 0) (first-taken free) (can-take (getD list (free - 1) 0 ∷ seen) (free - 1) need) e
+    where
+      go : (c : ℕ) → c ≡ taken list free 0
+          → (mayTake list n (c ∷ seen) (free - 1) need ≡ true → (j : ℕ) → j < need → Fit (free - 1) (c ∷ seen) j)
+          → (ltb 0 c && (ltb c n && (not (among c seen) && mayTake list n (c ∷ seen) (free - 1) need))) ≡ true
+          → (j : ℕ) → j < suc need → Fit free seen j
+      go c q f e =
+          let (some, e₁) = and-eq-true-iff (ltb 0 c) _ .0 e in
+          let (low, e₂) = and-eq-true-iff (ltb c n) _ .0 e₁ in
+          let (new, rest) = and-eq-true-iff (not (among c seen)) _ .0 e₂ in
+          fit (ltb-true 0 c some) (ltb-true c n low) (not-among c seen (not-true (among c seen) new)) (f rest)
+        where
+          fit : 0 < c → c < n → (List·Memᴰ c seen → ⊥) → ((j : ℕ) → j < need → Fit (free - 1) (c ∷ seen) j) → (j : ℕ) → j < suc need → Fit free seen j
+          fit some low new rest zero l = (
+            omega (arith, q),
+            omega (arith, q),
+            λ m. new (subst (λ (t : ℕ). List·Memᴰ t seen) (sym q) m),
+            λ i m. absurd (omega arith),
+          )
+          fit some low new rest (suc j) l = (
+            subst (λ (t : ℕ). 0 < t) same (r .0),
+            subst (λ (t : ℕ). t < n) same (r .1),
+            λ m. r .2 (there (subst (λ (t : ℕ). List·Memᴰ t seen) (sym same) m)),
+            before,
+          )
+            where
+              same : taken list (free - 1) j ≡ taken list free (suc j)
+              same = further list free j
+
+              r : Fit (free - 1) (c ∷ seen) j
+              r = rest j (omega arith)
+
+              before : (i : ℕ) → i < suc j → taken list free i ≢ taken list free (suc j)
+              before zero m z = r .2 (here (same ∙ sym z ∙ sym q))
+              before (suc i) m z = r .3 i (omega arith) (further list free i ∙ z ∙ sym same)
+
+  pub may-not-bad : (seen : List ℕ) (free need : ℕ) → mayTake list n seen free need ≡ true → BadTaken list n free need seen → ⊥
+  unfolding Fit
+  may-not-bad seen free need e (root-taken j l b) = omega (arith, can-take seen free need e j l .0)
+  may-not-bad seen free need e (beyond-taken j l b) = omega (arith, can-take seen free need e j l .1)
+  may-not-bad seen free need e (taken-twice i j m l q) = can-take seen free need e j l .3 i m q
+  may-not-bad seen free need e (taken-on-path j l m) = can-take seen free need e j l .2 m
+
+-- ---- the tables given back
+
+module _ (ws : List ℕ) (t i : ℕ) where
+  word-part : (j : ℕ) → j < 512 → getD (part ws (slot four t 0) 512) j 0 ≡ wordAt four ws t j
+  word-part j l = getD-part ws (slot four t 0) 512 j l ∙ ap (λ (k : ℕ). getD ws k 0) (omega arith)
+
+  pub only-emptied : onlyEntry four ws t i ≡ true → (j : ℕ) → j < 512 → j ≢ i → wordAt four ws t j ≡ 0
+  unfolding onlyEntry
+  only-emptied e j l d =
+      sym (word-part j l) ∙ sym (getD-set-other (part ws (slot four t 0) 512) i j 0 0 d) ∙ allZero-at (set (part ws (slot four t 0) 512) i 0) e j
+
+  pub emptied-only : ((j : ℕ) → j < 512 → j ≢ i → wordAt four ws t j ≡ 0) → onlyEntry four ws t i ≡ true
+  unfolding onlyEntry
+  emptied-only f = allZero-of (set (part ws (slot four t 0) 512) i 0) (λ j l. go j (rw (length-set (part ws (slot four t 0) 512) i 0) at l) (ℕ-discrete j i))
+    where
+      go : (j : ℕ) → j < length (part ws (slot four t 0) 512) → Dec (j ≡ i) → getD (set (part ws (slot four t 0) 512) i 0) j 0 ≡ 0
+      go j l (yes e) = rw e (getD-set-same (part ws (slot four t 0) 512) i 0 0 (omega arith))
+      go j l (no d) =
+          let k : j < 512 = omega (arith, length-part-le ws (slot four t 0) 512) in
+          getD-set-other (part ws (slot four t 0) 512) i j 0 0 d ∙ word-part j k ∙ f j k d
+
+module _ (p : Pool) (a : ℕ) (o : Walked) where
+  -- from height h upward, d tables below the root
+  Counted : ℕ → ℕ → ℕ → Type 0
+  Counted h d given = (given ≤ d) × ((i : ℕ) → i < given → Emptied p a o (h + i)) × (given < d → Emptied p a o (h + given) → ⊥)
+
+  counted : (h d : ℕ) → Counted h d (freed four (p .words) (o .tables) (pathOf four a) h d)
+  unfolding freed Counted
+  counted h zero = (omega arith, λ i l. absurd (omega arith), λ l. absurd (omega arith))
+  counted h (suc d) = go (onlyEntry four (p .words) (atHeight (o .tables) h) (atHeight (pathOf four a) h)) refl (counted (suc h) d)
+    where
+      n : ℕ
+      n = freed four (p .words) (o .tables) (pathOf four a) (suc h) d
+
+      go : (b : Bool) → onlyEntry four (p .words) (atHeight (o .tables) h) (atHeight (pathOf four a) h) ≡ b → Counted (suc h) d n → Counted h (suc d) (cond b (suc n) 0)
+      go true e (x, y, z) = (omega arith, each, λ l q. z (omega arith) (subst (Emptied p a o) (omega arith) q))
+        where
+          each : (i : ℕ) → i < suc n → Emptied p a o (h + i)
+          each zero l = subst (Emptied p a o) (omega arith) (only-emptied (p .words) (atHeight (o .tables) h) (atHeight (pathOf four a) h) e)
+          each (suc i) l = subst (Emptied p a o) (omega arith) (y i (omega arith))
+      go false e (x, y, z) = (omega arith, λ i l. absurd (omega arith), λ l q. true≢false (sym (emptied-only (p .words) (atHeight (o .tables) h) (atHeight (pathOf four a) h) (subst (Emptied p a o) (omega arith) q)) ∙ e))
+
+  abbrev pub given : ℕ
+  given = freed four (p .words) (o .tables) (pathOf four a) (o .left) (p .numbers .levels - 1 - o .left)
+
+  pub gives-back : GivesBack p a o given
+  unfolding Counted
+  gives-back = let c = counted (o .left) (p .numbers .levels - 1 - o .left) in record { not-root = c .0; emptied = c .1; stops = c .2 }
+
+  -- there is one such number
+  pub gives-one : {m n : ℕ} → GivesBack p a o m → GivesBack p a o n → m ≡ n
+  gives-one {m} {n} A B = go (decLt m n) (decLt n m)
+    where
+      go : Dec (m < n) → Dec (n < m) → m ≡ n
+      go (yes l) d = absurd (A .stops (omega (arith, B .not-root)) (B .emptied m l))
+      go (no x) (yes l) = absurd (B .stops (omega (arith, A .not-root)) (A .emptied n l))
+      go (no x) (no y) = omega arith
+
+-- ---- a walk to the last level ends at no table
+
+module _ (ws : List ℕ) (area : Area) (path : List ℕ) where
+  no-table-here : (h : ℕ) (way : List ℕ) (t c : ℕ) → walkFrom four ws area 0 path h way t .entry ≢ Table c
+  unfolding walkFrom onward
+  no-table-here zero way t c = λ e. omega (arith, table-only four-sane area 0 (getD ws (slot four t (atHeight path 0)) 0) e .0)
+  no-table-here (suc h) way t c = go (entryAt four area (suc h) (getD ws (slot four t (atHeight path (suc h))) 0)) (no-table-here h (set way (3 - suc h) t))
+    where
+      w : List ℕ
+      w = set way (3 - suc h) t
+
+      other : {e : Entry} → (e ≡ Table c → _≡_ {A = ℕ} 0 1) → e ≢ Table c
+      other f q = let z = f q in omega arith
+
+      go : (e : Entry) → ((u c : ℕ) → walkFrom four ws area 0 path h w u .entry ≢ Table c)
+          → onward e 0 h w (λ u. walkFrom four ws area 0 path h w u) .entry ≢ Table c
+      go Empty f = other (λ q. cc)
+      go (Frame b k) f = other (λ q. cc)
+      go Damaged f = other (λ q. cc)
+      go (Table u) f = rw (lt-leb (suc h) 0 (omega arith)) (met (among u w))
+        where
+          met : (b : Bool) → cond b (stop Damaged h w) (walkFrom four ws area 0 path h w u) .entry ≢ Table c
+          met true = other (λ q. cc)
+          met false = f u c
+
+pub no-table-last : (p : Pool) (a c : ℕ) → lastWalk p a .entry ≢ Table c
+no-table-last p a c = no-table-here (p .words) (areaOf (p .numbers)) (pathOf four a) (p .numbers .levels - 1) noWay 0 c
+
+-- ---- format
+
+module _ (levels base tables : ℕ) (ws list : List ℕ) where
+  abbrev lent : Pool
+  lent = pool noSetup ws list
+
+  format-told : Told (formatTable levels base tables ws list) lent (λ d. d .answer ≡ formatted) (formatW four levels (areaAt base tables) ws list)
+  unfolding formatW
+  format-told = go (goodNumbers four levels (areaAt base tables) (length ws) (length list)) refl (done formatted _) refl
+    where
+      go : (x : Bool) → goodNumbers four levels (areaAt base tables) (length ws) (length list) ≡ x → (d : Done) → d .answer ≡ formatted
+          → Told (formatTable levels base tables ws list) lent (λ d. d .answer ≡ formatted) (cond x d (refuse 1 lent))
+      go true e d q = miss (good-unbroken (good-numbers e)) (accepted-by tt q)
+      go false e d q = hit (bad-broken e)
+
+-- ---- map
+
+module _ (p : Pool) (a b size k : ℕ) where
+  abbrev g : ℕ
+  g = heightOf four size
+
+  abbrev o : Walked
+  o = mapWalk p a size
+
+  abbrev Took : Done → Type 0
+  Took d = d .answer ≡ took (needed p a size)
+
+  abbrev Empties : List Row
+  Empties = row 7 (p .numbers .free < needed p a size) ∷ row 8 (BadList p a size) ∷ []
+
+  abbrev Walks : List Row
+  Walks = row 6 (Occupied o) ∷ row 8 (Damage o) ∷ Empties
+
+  here-told : Told Empties p Took (mapHere four p a b g k o (needed p a size))
+  unfolding mapHere
+  here-told = go (ltb (p .numbers .free) (needed p a size)) (mayTake (p .list) (p .numbers .tables) (o .tables) (p .numbers .free) (needed p a size)) refl refl (done (took (needed p a size)) _) refl
+    where
+      go : (x y : Bool) → ltb (p .numbers .free) (needed p a size) ≡ x
+          → mayTake (p .list) (p .numbers .tables) (o .tables) (p .numbers .free) (needed p a size) ≡ y
+          → (d : Done) → Took d → Told Empties p Took (cond x (refuse 7 p) (cond y d (refuse 8 p)))
+      go true y e t d q = hit (ltb-true (p .numbers .free) (needed p a size) e)
+      go false y e t d q = miss (λ l. omega (arith, ltb-false (p .numbers .free) (needed p a size) e)) (last y t)
+        where
+          last : (y : Bool) → mayTake (p .list) (p .numbers .tables) (o .tables) (p .numbers .free) (needed p a size) ≡ y
+              → Told (row 8 (BadList p a size) ∷ []) p Took (cond y d (refuse 8 p))
+          last true t = miss (may-not-bad (p .list) (p .numbers .tables) (o .tables) (p .numbers .free) (needed p a size) t) (accepted-by tt q)
+          last false t = hit (cannot-take (p .list) (p .numbers .tables) (o .tables) (p .numbers .free) (needed p a size) t)
+
+  walk-told : (e : Entry) → o .entry ≡ e → Told Walks p Took (mapAt four p a b g k o e)
+  unfolding mapAt
+  walk-told (Frame c d) q = hit (inl (c, d, q))
+  walk-told (Table c) q = hit (inr (c, q))
+  walk-told Damaged q = miss (⊎-elim (λ (c, d, z). clash (cc)) (λ (c, z). clash (cc))) (hit q)
+  walk-told Empty q = miss (⊎-elim (λ (c, d, z). clash (cc)) (λ (c, z). clash (cc))) (miss (λ z. clash (cc)) here-told)
+
+  abbrev number : Bool → Bool → Bool → Bool → Bool → Bool → Bool → ℕ
+  number x₁ x₂ x₃ x₄ x₅ x₆ x₇ = cond x₁ 2 (cond x₂ 3 (cond x₃ 4 (cond x₄ 4 (cond x₅ 4 (cond x₆ (cond x₇ 0 5) 5)))))
+
+  abbrev Arguments : List Row → List Row
+  Arguments rows = row 2 (NoSize size) ∷ row 3 (NoAttributes k) ∷ row 4 (Outside (p .numbers .levels) a b size) ∷ row 5 (Misplaced a b size) ∷ rows
+
+  tests-told : (p .numbers .levels ≡ 3) ⊎ (p .numbers .levels ≡ 4) → (d : Done) → Told Walks p Took d
+      → Told (Arguments Walks) p Took
+      (cond (eqb (mapTests four (p .numbers .levels) a b size k) 0) d (refuse (mapTests four (p .numbers .levels) a b size k) p))
+  unfolding mapTests
+  tests-told levels d T =
+      go (ltb 2 g) (ltb 15 k) (leb space a) (ltb space (a + size)) (ltb physical (b + size)) (eqb (a % size) 0) (eqb (b % size) 0)
+      refl refl refl refl refl refl refl
+    where
+      l : ℕ
+      l = p .numbers .levels
+
+      space : ℕ
+      space = spaceOf four (p .numbers .levels)
+
+      go : (x₁ x₂ x₃ x₄ x₅ x₆ x₇ : Bool) → ltb 2 g ≡ x₁ → ltb 15 k ≡ x₂ → leb space a ≡ x₃ → ltb space (a + size) ≡ x₄ → ltb physical (b + size) ≡ x₅
+          → eqb (a % size) 0 ≡ x₆ → eqb (b % size) 0 ≡ x₇
+          → Told (Arguments Walks) p Took (cond (eqb (number x₁ x₂ x₃ x₄ x₅ x₆ x₇) 0) d (refuse (number x₁ x₂ x₃ x₄ x₅ x₆ x₇) p))
+      go true x₂ x₃ x₄ x₅ x₆ x₇ e₁ e₂ e₃ e₄ e₅ e₆ e₇ = hit (no-size size e₁)
+      go false true x₃ x₄ x₅ x₆ x₇ e₁ e₂ e₃ e₄ e₅ e₆ e₇ = miss (some-size size e₁) (hit (ltb-true 15 k e₂))
+      go false false x₃ x₄ x₅ x₆ x₇ e₁ e₂ e₃ e₄ e₅ e₆ e₇ =
+          miss (some-size size e₁) (miss (λ m. omega (arith, ltb-false 15 k e₂)) (range x₃ x₄ x₅ e₃ e₄ e₅))
+        where
+          aligned : (x₆ x₇ : Bool) → eqb (a % size) 0 ≡ x₆ → eqb (b % size) 0 ≡ x₇
+              → Told (row 5 (Misplaced a b size) ∷ Walks) p Took (cond (eqb (cond x₆ (cond x₇ 0 5) 5) 0) d (refuse (cond x₆ (cond x₇ 0 5) 5) p))
+          aligned false x₇ e₆ e₇ = hit (inl (eqb-false (a % size) 0 e₆))
+          aligned true false e₆ e₇ = hit (inr (eqb-false (b % size) 0 e₇))
+          aligned true true e₆ e₇ = miss (⊎-elim (λ z. z (eqb-true (a % size) 0 e₆)) (λ z. z (eqb-true (b % size) 0 e₇))) T
+
+          within : leb space a ≡ false → ltb space (a + size) ≡ false → ltb physical (b + size) ≡ false → Outside l a b size → ⊥
+          within e₃ e₄ e₅ (starts-outside z) = is-below l a e₃ z
+          within e₃ e₄ e₅ (ends-outside z) = not-above l (a + size) e₄ z
+          within e₃ e₄ e₅ (frame-outside z) = let m = ltb-false (2 ^ 48) (b + size) e₅ in omega arith
+
+          range : (x₃ x₄ x₅ : Bool) → leb space a ≡ x₃ → ltb space (a + size) ≡ x₄ → ltb physical (b + size) ≡ x₅
+              → Told (row 4 (Outside l a b size) ∷ row 5 (Misplaced a b size) ∷ Walks) p Took (cond (eqb (number false false x₃ x₄ x₅ x₆ x₇) 0) d (refuse (number false false x₃ x₄ x₅ x₆ x₇) p))
+          range true x₄ x₅ e₃ e₄ e₅ = hit (starts-outside (not-below l a levels e₃))
+          range false true x₅ e₃ e₄ e₅ = hit (ends-outside (above l (a + size) levels e₄))
+          range false false true e₃ e₄ e₅ = hit (frame-outside (ltb-true (2 ^ 48) (b + size) e₅))
+          range false false false e₃ e₄ e₅ = miss (within e₃ e₄ e₅) (aligned x₆ x₇ e₆ e₇)
+
+  map-told : Told (mapTable p a b size k) p Took (mapW four p a b size k)
+  unfolding mapW
+  map-told = go (goodPool four p) refl
+    where
+      no : ℕ
+      no = mapTests four (p .numbers .levels) a b size k
+
+      go : (x : Bool) → goodPool four p ≡ x → Told (mapTable p a b size k) p Took (cond x (cond (eqb no 0) (mapAt four p a b g k o (o .entry)) (refuse no p)) (refuse 1 p))
+      go true e = miss (good-keeps p e) (tests-told (three-or-four p e) (mapAt four p a b g k o (o .entry)) (walk-told (o .entry) refl))
+      go false e = hit (bad-breaks p e)
+
+-- ---- query and unmap
+
+module _ (p : Pool) (a : ℕ) where
+  abbrev w : Walked
+  w = lastWalk p a
+
+  -- the walk ends at a frame, and the call answers x for it
+  abbrev AtFrame : (ℕ → ℕ → Answer) → Done → Type 0
+  AtFrame x d = (b : ℕ) × (k : ℕ) × (w .entry ≡ Frame b k) × (d .answer ≡ x b k)
+
+  abbrev finds : ℕ → ℕ → Answer
+  finds b k = found (mapping (baseAt four a (w .left)) b (sizeAt four (w .left)) k)
+
+  abbrev givesUp : ℕ → ℕ → Answer
+  givesUp b k = gave b (sizeAt four (w .left)) k (given p a w)
+
+  found-told : (e : Entry) → w .entry ≡ e → Told (row 8 (Damage w) ∷ row 9 (Vacant w) ∷ []) p (AtFrame finds) (done (foundAt four a e (w .left)) p)
+  unfolding foundAt
+  found-told (Frame b k) q = miss (λ z. clash (cc)) (miss (λ z. clash (cc)) (accepted-by tt (b, k, q, refl)))
+  found-told Empty q = miss (λ z. clash (cc)) (hit q)
+  found-told (Table c) q = absurd (no-table-last p a c q)
+  found-told Damaged q = hit q
+
+  query-told : Told (queryTable p a) p (AtFrame finds) (done (queryW four p a) p)
+  unfolding queryW
+  query-told = go (goodPool four p) refl
+    where
+      space : ℕ
+      space = spaceOf four (p .numbers .levels)
+
+      range : (p .numbers .levels ≡ 3) ⊎ (p .numbers .levels ≡ 4) → (y : Bool) → leb space a ≡ y
+          → Told (row 4 (NotBelow (p .numbers .levels) a) ∷ row 8 (Damage w) ∷ row 9 (Vacant w) ∷ []) p (AtFrame finds)
+          (done (cond y (refused 4) (foundAt four a (w .entry) (w .left))) p)
+      range l true e = hit (not-below (p .numbers .levels) a l e)
+      range l false e = miss (is-below (p .numbers .levels) a e) (found-told (w .entry) refl)
+
+      go : (x : Bool) → goodPool four p ≡ x
+          → Told (queryTable p a) p (AtFrame finds) (done (cond x (cond (leb space a) (refused 4) (foundAt four a (w .entry) (w .left))) (refused 1)) p)
+      go true e = miss (good-keeps p e) (range (three-or-four p e) (leb space a) refl)
+      go false e = hit (bad-breaks p e)
+
+  abbrev Ends : List Row
+  Ends = row 8 (Damage w) ∷ row 9 (Vacant w) ∷ row 10 (OffStart a w) ∷ row 8 (FullList p a) ∷ []
+
+  give-told : (b k : ℕ) → w .entry ≡ Frame b k → Told (row 8 (FullList p a) ∷ []) p (AtFrame givesUp) (unmapHere four p a b k w (given p a w))
+  unfolding unmapHere
+  give-told b k q = go (ltb (p .numbers .tables - 1) (p .numbers .free + given p a w)) refl (done (givesUp b k) _) refl
+    where
+      go : (x : Bool) → ltb (p .numbers .tables - 1) (p .numbers .free + given p a w) ≡ x → (d : Done) → d .answer ≡ givesUp b k
+          → Told (row 8 (FullList p a) ∷ []) p (AtFrame givesUp) (cond x (refuse 8 p) d)
+      go true e d z = hit (given p a w, gives-back p a w, ltb-true (p .numbers .tables - 1) (p .numbers .free + given p a w) e)
+      go false e d z = miss full (accepted-by tt (b, k, q, z))
+        where
+          full : FullList p a → ⊥
+          full (n, B, l) = omega (arith, gives-one p a w B (gives-back p a w), ltb-false (p .numbers .tables - 1) (p .numbers .free + given p a w) e)
+
+  end-told : (e : Entry) → w .entry ≡ e → Told Ends p (AtFrame givesUp) (unmapAt four p a w e)
+  unfolding unmapAt
+  end-told Empty q = miss (λ z. clash (cc)) (hit q)
+  end-told (Table c) q = absurd (no-table-last p a c q)
+  end-told Damaged q = hit q
+  end-told (Frame b k) q = miss (λ z. clash (cc)) (miss (λ z. clash (cc)) (go (eqb (a % sizeAt four (w .left)) 0) refl))
+    where
+      go : (x : Bool) → eqb (a % sizeAt four (w .left)) 0 ≡ x
+          → Told (row 10 (OffStart a w) ∷ row 8 (FullList p a) ∷ []) p (AtFrame givesUp) (cond x (unmapHere four p a b k w (given p a w)) (refuse 10 p))
+      go true e = miss (λ (c, d, z, n). n (eqb-true (a % sizeAt four (w .left)) 0 e)) (give-told b k q)
+      go false e = hit (b, k, q, eqb-false (a % sizeAt four (w .left)) 0 e)
+
+  unmap-told : Told (unmapTable p a) p (AtFrame givesUp) (unmapW four p a)
+  unfolding unmapW unmapTests
+  unmap-told = go (goodPool four p) refl
+    where
+      space : ℕ
+      space = spaceOf four (p .numbers .levels)
+
+      no : Bool → Bool → ℕ
+      no x y = cond x 4 (cond y 0 5)
+
+      tests : (p .numbers .levels ≡ 3) ⊎ (p .numbers .levels ≡ 4) → (x y : Bool) → leb space a ≡ x → eqb (a % 4096) 0 ≡ y
+          → Told (row 4 (NotBelow (p .numbers .levels) a) ∷ row 5 (OffPage a) ∷ Ends) p (AtFrame givesUp)
+          (cond (eqb (no x y) 0) (unmapAt four p a w (w .entry)) (refuse (no x y) p))
+      tests l true y e q = hit (not-below (p .numbers .levels) a l e)
+      tests l false true e q = miss (is-below (p .numbers .levels) a e) (miss (λ z. z (eqb-true (a % 4096) 0 q)) (end-told (w .entry) refl))
+      tests l false false e q = miss (is-below (p .numbers .levels) a e) (hit (eqb-false (a % 4096) 0 q))
+
+      go : (x : Bool) → goodPool four p ≡ x
+          → Told (unmapTable p a) p (AtFrame givesUp)
+          (cond x (cond (eqb (no (leb space a) (eqb (a % 4096) 0)) 0) (unmapAt four p a w (w .entry)) (refuse (no (leb space a) (eqb (a % 4096) 0)) p)) (refuse 1 p))
+      go true e = miss (good-keeps p e) (tests (three-or-four p e) (leb space a) (eqb (a % 4096) 0) refl refl)
+      go false e = hit (bad-breaks p e)
+
+-- ---- audit
+
+module _ (p : Pool) where
+  abbrev Counts : Done → Type 0
+  Counts d = d .answer ≡ audited (length (reachedOf four p)) (length (mappingsOf four p))
+
+  audit-told : Told (auditTable p) p Counts (done (auditW four p) p)
+  unfolding auditW
+  audit-told = go (goodPool four p) (soundPool four p) refl refl
+    where
+      go : (x y : Bool) → goodPool four p ≡ x → soundPool four p ≡ y
+          → Told (auditTable p) p Counts (done (cond x (cond y (audited (length (reachedOf four p)) (length (mappingsOf four p))) (refused 8)) (refused 1)) p)
+      go true true e q = miss (good-keeps p e) (miss (λ f. f (sound-only four p q)) (accepted-by tt refl))
+      go true false e q = miss (good-keeps p e) (hit (λ s. true≢false (sym (sound-all four p s) ∙ q)))
+      go false y e q = hit (bad-breaks p e)
+
+-- ---- each call keeps its table
+
+pub format-table : (levels base tables : ℕ) (ws list : List ℕ) → ByTable (formatTable levels base tables ws list) (pool noSetup ws list) (formatW four levels (areaAt base tables) ws list)
+format-table levels base tables ws list = by-table (format-told levels base tables ws list) (λ n q e. clash (cc))
+
+pub map-table : (p : Pool) (a b size k : ℕ) → ByTable (mapTable p a b size k) p (mapW four p a b size k)
+map-table p a b size k = by-table (map-told p a b size k) (λ n q e. clash (cc))
+
+pub unmap-table : (p : Pool) (a : ℕ) → ByTable (unmapTable p a) p (unmapW four p a)
+unmap-table p a = by-table (unmap-told p a) (λ n (b, k, f, q) e. clash (cc))
+
+pub query-table : (p : Pool) (a : ℕ) → ByTable (queryTable p a) p (done (queryW four p a) p)
+query-table p a = by-table (query-told p a) (λ n (b, k, f, q) e. clash (cc))
+
+pub audit-table : (p : Pool) → ByTable (auditTable p) p (done (auditW four p) p)
+audit-table p = by-table (audit-told p) (λ n q e. clash (cc))
+
+-- ---- number by number
+
+module _ {rows : List Row} {p : Pool} {d : Done} (T : ByTable rows p d) where
+  -- the number of row i; of rows i and j
+  row-of : (i n : ℕ) → alone rows i n ≡ true → (d .answer ≡ refused n) ↔ At rows i
+  row-of i n t = Iff·trans (T .gives n) (line rows i n t)
+
+  rows-of : (i j n : ℕ) → pair rows i j n ≡ true → (d .answer ≡ refused n) ↔ (At rows i ⊎ At rows j)
+  rows-of i j n t = Iff·trans (T .gives n) (lines rows i j n t)
+
+pub format-numbers : (levels base tables : ℕ) (ws list : List ℕ) → FormatNumbers levels base tables ws list
+format-numbers levels base tables ws list = record {
+  no-1 = row-of (format-table levels base tables ws list) 0 1 refl;
+  accepted = (λ e. by-none told formatted (λ n z. clash (cc)) e .0 .0, λ x. none-by told (x, tt));
+}
+  where
+    told : Told (formatTable levels base tables ws list) (pool noSetup ws list) (λ d. d .answer ≡ formatted) (formatW four levels (areaAt base tables) ws list)
+    told = format-told levels base tables ws list
+
+pub audit-numbers : (p : Pool) → AuditNumbers p
+audit-numbers p = record {
+  no-1 = row-of (audit-table p) 0 1 refl;
+  no-8 = row-of (audit-table p) 1 8 refl;
+  accepted = λ t m. (counted t m, λ (x, s, e, f). none-by (audit-told p) (x, ((λ z. z s), tt)) ∙ (λ i. audited (sym e i) (sym f i)));
+}
+  where
+    counted : (t m : ℕ) → auditW four p ≡ audited t m → (¬ Breaks p) × SoundPool four p × (t ≡ length (reachedOf four p)) × (m ≡ length (mappingsOf four p))
+    counted t m e = let (g, s, x, y) = audit-counts four p t m e in (good-keeps p g, s, x, y)
+
+module _ (p : Pool) (a : ℕ) where
+  -- a walk to the last level that is not damaged and does not end at an empty entry ends at a frame
+  pub at-frame : (¬ Damage (lastWalk p a)) → (¬ Vacant (lastWalk p a)) → (b : ℕ) × (k : ℕ) × (lastWalk p a .entry ≡ Frame b k)
+  at-frame x y = go (lastWalk p a .entry) refl
+    where
+      go : (e : Entry) → lastWalk p a .entry ≡ e → (b : ℕ) × (k : ℕ) × (lastWalk p a .entry ≡ Frame b k)
+      go Empty q = absurd (y q)
+      go (Table c) q = absurd (no-table-last p a c q)
+      go (Frame b k) q = (b, k, q)
+      go Damaged q = absurd (x q)
+
+  vacant-sound : Vacant (lastWalk p a) → ¬ Damage (lastWalk p a)
+  vacant-sound v d = clash (cc)
+
+  frame-sound : {b k : ℕ} → lastWalk p a .entry ≡ Frame b k → ¬ Damage (lastWalk p a)
+  frame-sound f d = clash (cc)
+
+  frame-there : {b k : ℕ} → lastWalk p a .entry ≡ Frame b k → ¬ Vacant (lastWalk p a)
+  frame-there f v = clash (cc)
+
+  -- the walk ends at one frame
+  frame-one : {b k c d : ℕ} → lastWalk p a .entry ≡ Frame b k → lastWalk p a .entry ≡ Frame c d → (b ≡ c) × (k ≡ d)
+  frame-one f g = (cc, cc)
+
+  pub query-numbers : QueryNumbers p a
+  unfolding baseAt
+  query-numbers = record {
+    no-1 = row-of T 0 1 refl;
+    no-4 = row-of T 1 4 refl;
+    no-8 = Iff·trans (row-of T 2 8 refl) (λ (x, (y, z)). (x, y, z), λ (x, y, z). (x, (y, z)));
+    no-9 = Iff·trans (row-of T 3 9 refl) (λ (x, (y, (_, z))). (x, y, z), λ (x, y, z). (x, (y, (vacant-sound z, z))));
+    accepted = λ at b size k. (λ e. forth at b size k e (by-none (query-told p a) (found (mapping at b size k)) (λ n z. clash (cc)) e), back at b size k);
+  }
+    where
+      T : ByTable (queryTable p a) p (done (queryW four p a) p)
+      T = query-table p a
+
+      own : ℕ → ℕ → Mapping
+      own b k = mapping (a - a % sizeAt four (lastWalk p a .left)) b (sizeAt four (lastWalk p a .left)) k
+
+      forth : (at b size k : ℕ) → queryW four p a ≡ found (mapping at b size k)
+          → None (queryTable p a) × AtFrame p a (finds p a) (done (queryW four p a) p)
+          → (¬ Breaks p) × (¬ NotBelow (p .numbers .levels) a) × (lastWalk p a .entry ≡ Frame b k) × (size ≡ sizeAt four (lastWalk p a .left)) × (at ≡ a - a % size)
+      forth at b size k e ((x, (y, _)), (c, d, f, q)) =
+          let m : own c d ≡ mapping at b size k = found-same _ _ (sym q ∙ e) in (
+            x,
+            y,
+            f ∙ (λ i. Frame (m i .frame) (m i .attributes)),
+            (λ i. sym m i .size),
+            sym (λ i. m i .at) ∙ (λ i. a - a % (m i .size)),
+          )
+
+      back : (at b size k : ℕ)
+          → (¬ Breaks p) × (¬ NotBelow (p .numbers .levels) a) × (lastWalk p a .entry ≡ Frame b k) × (size ≡ sizeAt four (lastWalk p a .left)) × (at ≡ a - a % size)
+          → queryW four p a ≡ found (mapping at b size k)
+      back at b size k (x, y, f, s, z) =
+          let (c, d, g, q) = none-by (query-told p a) (x, (y, (frame-sound f, (frame-there f, tt)))) in
+          let one = frame-one g f in
+          let start = sym (z ∙ ap (λ (n : ℕ). a - a % n) s) in
+          q ∙ (λ i. found (mapping (start i) (one .0 i) (sym s i) (one .1 i)))
+
+  pub unmap-numbers : UnmapNumbers p a
+  unmap-numbers = record {
+    no-1 = row-of T 0 1 refl;
+    no-4 = row-of T 1 4 refl;
+    no-5 = Iff·trans (row-of T 2 5 refl) (λ (x, (y, z)). (x, y, z), λ (x, y, z). (x, (y, z)));
+    no-9 = Iff·trans (row-of T 4 9 refl) (λ (x, (y, (z, (_, v)))). (x, y, z, v), λ (x, y, z, v). (x, (y, (z, (vacant-sound v, v)))));
+    no-10 = Iff·trans (row-of T 5 10 refl) (
+      λ (x, (y, (z, (_, (_, v))))). (x, y, z, v),
+      λ (x, y, z, v). (x, (y, (z, (frame-sound (v .2), (frame-there (v .2), v))))),
+    );
+    no-8 = Iff·trans (rows-of T 3 6 8 refl) (forth, back);
+    accepted = λ b size k t. (λ e. given-forth b size k t e (by-none (unmap-told p a) (gave b size k t) (λ n z. clash (cc)) e), given-back b size k t);
+  }
+    where
+      T : ByTable (unmapTable p a) p (unmapW four p a)
+      T = unmap-table p a
+
+      W : Walked
+      W = lastWalk p a
+
+      Met : Type 0
+      Met = Damage W ⊎ (Starts a W × FullList p a)
+
+      started : (¬ Damage W) → (¬ Vacant W) → (¬ OffStart a W) → Starts a W
+      started x y z = let (b, k, f) = at-frame x y in go b k f (ℕ-discrete (a % sizeAt four (W .left)) 0)
+        where
+          go : (b k : ℕ) → W .entry ≡ Frame b k → Dec (a % sizeAt four (W .left) ≡ 0) → Starts a W
+          go b k f (yes e) = (b, k, f, e)
+          go b k f (no n) = absurd (z (b, k, f, n))
+
+      forth : At (unmapTable p a) 3 ⊎ At (unmapTable p a) 6 → (¬ Breaks p) × (¬ NotBelow (p .numbers .levels) a) × (¬ OffPage a) × Met
+      forth (inl (x, (y, (z, d)))) = (x, y, z, inl d)
+      forth (inr (x, (y, (z, (d, (v, (o, l))))))) = (x, y, z, inr (started d v o, l))
+
+      back : (¬ Breaks p) × (¬ NotBelow (p .numbers .levels) a) × (¬ OffPage a) × Met → At (unmapTable p a) 3 ⊎ At (unmapTable p a) 6
+      back (x, y, z, m) = ⊎-elim (λ d. inl (x, (y, (z, d)))) (λ ((b, k, f, e), l). inr (x, (y, (z, (frame-sound f, (frame-there f, ((λ (c, d, g, n). n e), l))))))) m
+
+      Gives : ℕ → ℕ → ℕ → ℕ → Type 0
+      Gives b size k t =
+          (¬ Breaks p)
+          × (¬ NotBelow (p .numbers .levels) a)
+          × (¬ OffPage a)
+          × (¬ OffStart a W)
+          × (W .entry ≡ Frame b k)
+          × (size ≡ sizeAt four (W .left))
+          × GivesBack p a W t
+          × (p .numbers .free + t ≤ p .numbers .tables - 1)
+
+      same : {b s k t b′ s′ k′ t′ : ℕ} → gave b s k t ≡ gave b′ s′ k′ t′ → (b ≡ b′) × (s ≡ s′) × (k ≡ k′) × (t ≡ t′)
+      same e = (cc, cc, cc, cc)
+
+      given-forth : (b size k t : ℕ) → unmapW four p a .answer ≡ gave b size k t → None (unmapTable p a) × AtFrame p a (givesUp p a) (unmapW four p a) → Gives b size k t
+      given-forth b size k t e ((x, (y, (z, (_, (_, (o, (l, _))))))), (c, d, f, q)) =
+          let (eb, es, ek, et) = same (sym q ∙ e) in
+          let G = subst (GivesBack p a W) et (gives-back p a W) in
+          (x, y, z, o, f ∙ (λ i. Frame (eb i) (ek i)), sym es, G, room t G (λ m. l (t, G, m)))
+        where
+          room : (t : ℕ) → GivesBack p a W t → ((p .numbers .tables - 1 < p .numbers .free + t) → ⊥) → p .numbers .free + t ≤ p .numbers .tables - 1
+          room t G n = omega arith
+
+      given-back : (b size k t : ℕ) → Gives b size k t → unmapW four p a .answer ≡ gave b size k t
+      given-back b size k t (x, y, z, o, f, s, G, l) =
+          let (c, d, g, q) = none-by (unmap-told p a) (x, (y, (z, (frame-sound f, (frame-there f, (o, (full, tt))))))) in
+          let one = frame-one g f in
+          let gone = gives-one p a W (gives-back p a W) G in
+          q ∙ (λ i. gave (one .0 i) (sym s i) (one .1 i) (gone i))
+        where
+          full : FullList p a → ⊥
+          full (n, B, m) = omega (arith, gives-one p a W B G)
+
+pub map-numbers : (p : Pool) (a b size k : ℕ) → MapNumbers p a b size k
+map-numbers p a b size k = record {
+  no-1 = row-of T 0 1 refl;
+  no-2 = row-of T 1 2 refl;
+  no-3 = Iff·trans (row-of T 2 3 refl) (λ (x, (y, z)). (x, y, z), λ (x, y, z). (x, (y, z)));
+  no-4 = Iff·trans (row-of T 3 4 refl) (λ (x, (y, (z, v))). (x, y, z, v), λ (x, y, z, v). (x, (y, (z, v))));
+  no-5 = Iff·trans (row-of T 4 5 refl) (λ (x, (y, (z, (v, u)))). (x, y, z, v, u), λ (x, y, z, v, u). (x, (y, (z, (v, u)))));
+  no-6 = Iff·trans (row-of T 5 6 refl) (λ (x, (y, (z, (v, (u, m))))). ((x, y, z, v, u), m), λ ((x, y, z, v, u), m). (x, (y, (z, (v, (u, m))))));
+  no-7 = Iff·trans (row-of T 7 7 refl) (
+    λ (x, (y, (z, (v, (u, (m, (d, l))))))). ((x, y, z, v, u), vacant m d, l),
+    λ ((x, y, z, v, u), m, l). (x, (y, (z, (v, (u, (free m, (sound m, l))))))),
+  );
+  no-8 = Iff·trans (rows-of T 6 8 8 refl) (forth, back);
+  accepted = λ t. (λ e. taken-forth t e (by-none (map-told p a b size k) (took t) (λ n z. clash (cc)) e), taken-back t);
+}
+  where
+    T : ByTable (mapTable p a b size k) p (mapW four p a b size k)
+    T = map-table p a b size k
+
+    W : Walked
+    W = mapWalk p a size
+
+    free : Vacant W → ¬ Occupied W
+    free v = ⊎-elim (λ (c, d, z). clash (cc)) (λ (c, z). clash (cc))
+
+    sound : Vacant W → ¬ Damage W
+    sound v d = clash (cc)
+
+    unmet : Damage W → ¬ Occupied W
+    unmet v = ⊎-elim (λ (c, d, z). clash (cc)) (λ (c, z). clash (cc))
+
+    vacant : (¬ Occupied W) → (¬ Damage W) → Vacant W
+    vacant x y = go (W .entry) refl
+      where
+        go : (e : Entry) → W .entry ≡ e → Vacant W
+        go Empty q = q
+        go (Table c) q = absurd (x (inr (c, q)))
+        go (Frame c d) q = absurd (x (inl (c, d, q)))
+        go Damaged q = absurd (y q)
+
+    enough : (¬ (p .numbers .free < needed p a size)) → needed p a size ≤ p .numbers .free
+    enough n = omega arith
+
+    few : needed p a size ≤ p .numbers .free → ¬ (p .numbers .free < needed p a size)
+    few l m = omega arith
+
+    Eight : Type 0
+    Eight = WellFormedMap p a b size k × (Damage W ⊎ (Vacant W × (needed p a size ≤ p .numbers .free) × BadList p a size))
+
+    forth : At (mapTable p a b size k) 6 ⊎ At (mapTable p a b size k) 8 → Eight
+    forth (inl (x, (y, (z, (v, (u, (m, d))))))) = ((x, y, z, v, u), inl d)
+    forth (inr (x, (y, (z, (v, (u, (m, (d, (l, t))))))))) = ((x, y, z, v, u), inr (vacant m d, enough l, t))
+
+    back : Eight → At (mapTable p a b size k) 6 ⊎ At (mapTable p a b size k) 8
+    back ((x, y, z, v, u), m) =
+        ⊎-elim
+        (λ d. inl (x, (y, (z, (v, (u, (unmet d, d)))))))
+        (λ (e, l, t). inr (x, (y, (z, (v, (u, (free e, (sound e, (few l, t)))))))))
+        m
+
+    Takes : ℕ → Type 0
+    Takes t = WellFormedMap p a b size k × Vacant W × (needed p a size ≤ p .numbers .free) × (¬ BadList p a size) × (t ≡ needed p a size)
+
+    same : {s t : ℕ} → took s ≡ took t → s ≡ t
+    same e = cc
+
+    taken-forth : (t : ℕ) → mapW four p a b size k .answer ≡ took t → None (mapTable p a b size k) × Took p a b size k (mapW four p a b size k) → Takes t
+    taken-forth t e ((x, (y, (z, (v, (u, (m, (d, (l, (r, _))))))))), q) = ((x, y, z, v, u), vacant m d, enough l, r, same (sym e ∙ q))
+
+    taken-back : (t : ℕ) → Takes t → mapW four p a b size k .answer ≡ took t
+    taken-back t ((x, y, z, v, u), m, l, r, e) =
+        none-by (map-told p a b size k) (x, (y, (z, (v, (u, (free m, (sound m, (few l, (r, tt))))))))) ∙ ap took (sym e)

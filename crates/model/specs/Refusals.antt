@@ -1,0 +1,280 @@
+-- The paper's table of refusals, for the 4 KiB granule and any pool whatever: when each call gives each number, in the order of the tests.
+use Prim.Native.Nat.{ℕ, _+_, _-_, _*_, _%_, _^_, _≤_, _<_}
+use mathlib.Core.Path.{_≡_}
+use mathlib.Core.Logic.{_≢_, _⊎_, _↔_}
+use mathlib.Core.List.{List, [], _∷_, List·Memᴰ}
+use lib.ListN.{length, getD}
+use Rattle.path.specs.Geometry.{four, sizeAt, heightOf}
+use Rattle.path.specs.Areas.{Area, areaAt, areaOf, total, GoodArea}
+use Rattle.path.specs.Paths.{pathOf}
+use Rattle.entry.specs.declared.Entry.the-variants.{Empty, Table, Frame, Damaged}
+use Rattle.model.specs.declared.Walked.{Walked}
+use Rattle.model.specs.Answers.{formatted, took, gave, found, audited, refused, mapping, Pool, Done}
+use Rattle.model.specs.Walk.{atHeight}
+use Rattle.model.specs.Calls.{walkTo, formatW, queryW, mapW, unmapW}
+use Rattle.model.specs.Audit.{auditW}
+use Rattle.model.specs.Sound.{wordAt, reachedOf, mappingsOf, SoundPool}
+
+-- ---- when a number applies
+
+-- 1: a setup number or a length breaks one of the rules: levels 3 or 4, tables 1 to 64, a base that is a multiple of 4096 with base + 4096 × tables at most
+-- 2^48, 512 × tables words, and as many free-list places as tables
+pub data Broken (levels base tables words places : ℕ) : Type 0 where
+  bad-levels : levels ≢ 3 → levels ≢ 4 → Broken levels base tables words places
+  no-table : tables < 1 → Broken levels base tables words places
+  many-tables : 64 < tables → Broken levels base tables words places
+  base-unaligned : base % 4096 ≢ 0 → Broken levels base tables words places
+  base-high : 2 ^ 48 < base + 4096 * tables → Broken levels base tables words places
+  bad-words : words ≢ 512 * tables → Broken levels base tables words places
+  bad-places : places ≢ tables → Broken levels base tables words places
+
+-- or the free count is not at most the table count less 1
+abbrev pub Breaks : Pool → Type 0
+Breaks p =
+    Broken (p .numbers .levels) (p .numbers .base) (p .numbers .tables) (length (p .words)) (length (p .list))
+    ⊎ (p .numbers .tables ≤ p .numbers .free)
+
+-- 2: the size is none of the three
+abbrev pub NoSize : ℕ → Type 0
+NoSize size = (size ≢ 4096) × (size ≢ 2 ^ 21) × (size ≢ 2 ^ 30)
+
+-- 3: attributes above 15
+abbrev pub NoAttributes : ℕ → Type 0
+NoAttributes k = 15 < k
+
+-- the space is 2^39 for three levels, 2^48 for four: an address that is not below it, and an end that is above it
+abbrev pub NotBelow : ℕ → ℕ → Type 0
+NotBelow levels a = ((levels ≡ 3) × (2 ^ 39 ≤ a)) ⊎ ((levels ≡ 4) × (2 ^ 48 ≤ a))
+
+abbrev pub Above : ℕ → ℕ → Type 0
+Above levels e = ((levels ≡ 3) × (2 ^ 39 < e)) ⊎ ((levels ≡ 4) × (2 ^ 48 < e))
+
+-- 4, map: the address is not below the space, or address + size is above it, or frame base + size is above 2^48
+pub data Outside (levels a b size : ℕ) : Type 0 where
+  starts-outside : NotBelow levels a → Outside levels a b size
+  ends-outside : Above levels (a + size) → Outside levels a b size
+  frame-outside : 2 ^ 48 < b + size → Outside levels a b size
+
+-- 5, map: the address or the frame base is not a multiple of the size
+abbrev pub Misplaced : ℕ → ℕ → ℕ → Type 0
+Misplaced a b size = (a % size ≢ 0) ⊎ (b % size ≢ 0)
+
+-- Where a walk ends is in Descent, in the paper's words; DescentLaws says that `walkTo` ends there.
+-- 6: the walk meets a frame, or the target entry is a table or a frame
+abbrev pub Occupied : Walked → Type 0
+Occupied o = ((b : ℕ) × (k : ℕ) × (o .entry ≡ Frame b k)) ⊎ ((c : ℕ) × (o .entry ≡ Table c))
+
+-- 8, the walk: it meets a damaged word, or comes to the same table twice
+abbrev pub Damage : Walked → Type 0
+Damage o = o .entry ≡ Damaged
+
+-- 9: the walk ends at an empty entry
+abbrev pub Vacant : Walked → Type 0
+Vacant o = o .entry ≡ Empty
+
+-- map's walk, to the height of the size
+abbrev pub mapWalk : Pool → ℕ → ℕ → Walked
+mapWalk p a size = walkTo four p (heightOf four size) a
+
+-- the new tables that map needs: a table for each level below the walk's end down to the frame's
+abbrev pub needed : Pool → ℕ → ℕ → ℕ
+needed p a size = mapWalk p a size .left - heightOf four size
+
+-- of the tables to be taken, from the end of the free list, number j
+abbrev pub taken : List ℕ → ℕ → ℕ → ℕ
+taken list free j = getD list (free - 1 - j) 0
+
+-- 8, map's free list: of `need` tables to be taken, one is outside 1 to n - 1, is taken twice, or stands on the path
+pub data BadTaken (list : List ℕ) (n free need : ℕ) (way : List ℕ) : Type 0 where
+  root-taken : (j : ℕ) → j < need → taken list free j < 1 → BadTaken list n free need way
+  beyond-taken : (j : ℕ) → j < need → n ≤ taken list free j → BadTaken list n free need way
+  taken-twice : (i j : ℕ) → i < j → j < need → taken list free i ≡ taken list free j → BadTaken list n free need way
+  taken-on-path : (j : ℕ) → j < need → List·Memᴰ (taken list free j) way → BadTaken list n free need way
+
+abbrev pub BadList : Pool → ℕ → ℕ → Type 0
+BadList p a size = BadTaken (p .list) (p .numbers .tables) (p .numbers .free) (needed p a size) (mapWalk p a size .tables)
+
+-- the walk of query and unmap, to the last level
+abbrev pub lastWalk : Pool → ℕ → Walked
+lastWalk p a = walkTo four p 0 a
+
+-- 5, unmap: the address is not a multiple of 4096
+abbrev pub OffPage : ℕ → Type 0
+OffPage a = a % 4096 ≢ 0
+
+-- 10: the walk ends at a frame whose mapping does not start at the address
+abbrev pub OffStart : ℕ → Walked → Type 0
+OffStart a o = (b : ℕ) × (k : ℕ) × (o .entry ≡ Frame b k) × (a % sizeAt four (o .left) ≢ 0)
+
+-- or does
+abbrev pub Starts : ℕ → Walked → Type 0
+Starts a o = (b : ℕ) × (k : ℕ) × (o .entry ≡ Frame b k) × (a % sizeAt four (o .left) ≡ 0)
+
+-- in the table of the path whose entries have height h, every entry but the path's is 0
+abbrev pub Emptied : Pool → ℕ → Walked → ℕ → Type 0
+Emptied p a o h = (i : ℕ) → i < 512 → i ≢ atHeight (pathOf four a) h → wordAt four (p .words) (atHeight (o .tables) h) i ≡ 0
+
+-- unmap gives back so many tables: from the deepest of the path upward, the root excepted, each that is all 0 once the path's entry is; else stop
+pub record GivesBack (p : Pool) (a : ℕ) (o : Walked) (given : ℕ) : Type 0 where
+  pub not-root : given ≤ p .numbers .levels - 1 - o .left
+  pub emptied : (i : ℕ) → i < given → Emptied p a o (o .left + i)
+  pub stops : given < p .numbers .levels - 1 - o .left → Emptied p a o (o .left + given) → ⊥
+
+-- 8, unmap's free list: giving back would make the free count exceed the table count less 1
+abbrev pub FullList : Pool → ℕ → Type 0
+FullList p a = (given : ℕ) × GivesBack p a (lastWalk p a) given × (p .numbers .tables - 1 < p .numbers .free + given)
+
+-- ---- the tables, in the order of the tests
+
+-- a row: a number, and when it applies
+pub record Row : Type 1 where
+  pub number : ℕ
+  pub when : Type 0
+
+abbrev pub row : ℕ → Type 0 → Row
+row n P = record { number = n; when = P }
+
+-- n is the number of the first row that applies
+abbrev pub First : List Row → ℕ → Type 0
+First [] n = ⊥
+First (r ∷ rs) n = (r .when × (r .number ≡ n)) ⊎ ((¬ r .when) × First rs n)
+
+-- no row applies
+abbrev pub None : List Row → Type 0
+None [] = Unit {0}
+None (r ∷ rs) = (¬ r .when) × None rs
+
+abbrev pub mapTable : Pool → ℕ → ℕ → ℕ → ℕ → List Row
+mapTable p a b size k =
+    row 1 (Breaks p)
+    ∷ row 2 (NoSize size)
+    ∷ row 3 (NoAttributes k)
+    ∷ row 4 (Outside (p .numbers .levels) a b size)
+    ∷ row 5 (Misplaced a b size)
+    ∷ row 6 (Occupied (mapWalk p a size))
+    ∷ row 8 (Damage (mapWalk p a size))
+    ∷ row 7 (p .numbers .free < needed p a size)
+    ∷ row 8 (BadList p a size)
+    ∷ []
+
+abbrev pub unmapTable : Pool → ℕ → List Row
+unmapTable p a =
+    row 1 (Breaks p)
+    ∷ row 4 (NotBelow (p .numbers .levels) a)
+    ∷ row 5 (OffPage a)
+    ∷ row 8 (Damage (lastWalk p a))
+    ∷ row 9 (Vacant (lastWalk p a))
+    ∷ row 10 (OffStart a (lastWalk p a))
+    ∷ row 8 (FullList p a)
+    ∷ []
+
+abbrev pub queryTable : Pool → ℕ → List Row
+queryTable p a =
+    row 1 (Breaks p)
+    ∷ row 4 (NotBelow (p .numbers .levels) a)
+    ∷ row 8 (Damage (lastWalk p a))
+    ∷ row 9 (Vacant (lastWalk p a))
+    ∷ []
+
+abbrev pub auditTable : Pool → List Row
+auditTable p = row 1 (Breaks p) ∷ row 8 (¬ SoundPool four p) ∷ []
+
+abbrev pub formatTable : ℕ → ℕ → ℕ → List ℕ → List ℕ → List Row
+formatTable levels base tables ws list = row 1 (Broken levels base tables (length ws) (length list)) ∷ []
+
+-- ---- what is promised
+
+-- a call gives exactly the number of the first row that applies, and then leaves everything as it was
+pub record ByTable (rows : List Row) (p : Pool) (d : Done) : Type 0 where
+  pub gives : (n : ℕ) → (d .answer ≡ refused n) ↔ First rows n
+  pub kept : (n : ℕ) → d .answer ≡ refused n → d .after ≡ p
+
+-- Number by number.
+
+pub record FormatNumbers (levels base tables : ℕ) (ws list : List ℕ) : Type 0 where
+  pub no-1 : (formatW four levels (areaAt base tables) ws list .answer ≡ refused 1) ↔ Broken levels base tables (length ws) (length list)
+  pub accepted : (formatW four levels (areaAt base tables) ws list .answer ≡ formatted) ↔ (¬ Broken levels base tables (length ws) (length list))
+
+-- a map is well-formed when none of 1 to 5 applies
+abbrev pub WellFormedMap : Pool → ℕ → ℕ → ℕ → ℕ → Type 0
+WellFormedMap p a b size k =
+    (¬ Breaks p) × (¬ NoSize size) × (¬ NoAttributes k) × (¬ Outside (p .numbers .levels) a b size) × (¬ Misplaced a b size)
+
+pub record MapNumbers (p : Pool) (a b size k : ℕ) : Type 0 where
+  pub no-1 : (mapW four p a b size k .answer ≡ refused 1) ↔ Breaks p
+  pub no-2 : (mapW four p a b size k .answer ≡ refused 2) ↔ ((¬ Breaks p) × NoSize size)
+  pub no-3 : (mapW four p a b size k .answer ≡ refused 3) ↔ ((¬ Breaks p) × (¬ NoSize size) × NoAttributes k)
+  pub no-4 :
+      (mapW four p a b size k .answer ≡ refused 4)
+      ↔ ((¬ Breaks p) × (¬ NoSize size) × (¬ NoAttributes k) × Outside (p .numbers .levels) a b size)
+  pub no-5 :
+      (mapW four p a b size k .answer ≡ refused 5)
+      ↔ ((¬ Breaks p) × (¬ NoSize size) × (¬ NoAttributes k) × (¬ Outside (p .numbers .levels) a b size) × Misplaced a b size)
+  -- then the walk
+  pub no-6 : (mapW four p a b size k .answer ≡ refused 6) ↔ (WellFormedMap p a b size k × Occupied (mapWalk p a size))
+  -- then the free count, at an empty entry
+  pub no-7 :
+      (mapW four p a b size k .answer ≡ refused 7)
+      ↔ (WellFormedMap p a b size k × Vacant (mapWalk p a size) × (p .numbers .free < needed p a size))
+  -- the walk, or at last the free list
+  pub no-8 :
+      (mapW four p a b size k .answer ≡ refused 8)
+      ↔ (WellFormedMap p a b size k
+      × (Damage (mapWalk p a size) ⊎ (Vacant (mapWalk p a size) × (needed p a size ≤ p .numbers .free) × BadList p a size)))
+  pub accepted : (t : ℕ)
+      → (mapW four p a b size k .answer ≡ took t)
+      ↔ (WellFormedMap p a b size k
+      × Vacant (mapWalk p a size)
+      × (needed p a size ≤ p .numbers .free)
+      × (¬ BadList p a size)
+      × (t ≡ needed p a size))
+
+pub record UnmapNumbers (p : Pool) (a : ℕ) : Type 0 where
+  pub no-1 : (unmapW four p a .answer ≡ refused 1) ↔ Breaks p
+  pub no-4 : (unmapW four p a .answer ≡ refused 4) ↔ ((¬ Breaks p) × NotBelow (p .numbers .levels) a)
+  pub no-5 : (unmapW four p a .answer ≡ refused 5) ↔ ((¬ Breaks p) × (¬ NotBelow (p .numbers .levels) a) × OffPage a)
+  -- then the walk
+  pub no-9 :
+      (unmapW four p a .answer ≡ refused 9)
+      ↔ ((¬ Breaks p) × (¬ NotBelow (p .numbers .levels) a) × (¬ OffPage a) × Vacant (lastWalk p a))
+  pub no-10 :
+      (unmapW four p a .answer ≡ refused 10)
+      ↔ ((¬ Breaks p) × (¬ NotBelow (p .numbers .levels) a) × (¬ OffPage a) × OffStart a (lastWalk p a))
+  -- the walk, or at last the free list
+  pub no-8 :
+      (unmapW four p a .answer ≡ refused 8)
+      ↔ ((¬ Breaks p)
+      × (¬ NotBelow (p .numbers .levels) a)
+      × (¬ OffPage a)
+      × (Damage (lastWalk p a) ⊎ (Starts a (lastWalk p a) × FullList p a)))
+  pub accepted : (b size k t : ℕ)
+      → (unmapW four p a .answer ≡ gave b size k t)
+      ↔ ((¬ Breaks p)
+      × (¬ NotBelow (p .numbers .levels) a)
+      × (¬ OffPage a)
+      × (¬ OffStart a (lastWalk p a))
+      × (lastWalk p a .entry ≡ Frame b k)
+      × (size ≡ sizeAt four (lastWalk p a .left))
+      × GivesBack p a (lastWalk p a) t
+      × (p .numbers .free + t ≤ p .numbers .tables - 1))
+
+pub record QueryNumbers (p : Pool) (a : ℕ) : Type 0 where
+  pub no-1 : (queryW four p a ≡ refused 1) ↔ Breaks p
+  pub no-4 : (queryW four p a ≡ refused 4) ↔ ((¬ Breaks p) × NotBelow (p .numbers .levels) a)
+  -- then the walk
+  pub no-8 : (queryW four p a ≡ refused 8) ↔ ((¬ Breaks p) × (¬ NotBelow (p .numbers .levels) a) × Damage (lastWalk p a))
+  pub no-9 : (queryW four p a ≡ refused 9) ↔ ((¬ Breaks p) × (¬ NotBelow (p .numbers .levels) a) × Vacant (lastWalk p a))
+  pub accepted : (at b size k : ℕ)
+      → (queryW four p a ≡ found (mapping at b size k))
+      ↔ ((¬ Breaks p)
+      × (¬ NotBelow (p .numbers .levels) a)
+      × (lastWalk p a .entry ≡ Frame b k)
+      × (size ≡ sizeAt four (lastWalk p a .left))
+      × (at ≡ a - a % size))
+
+pub record AuditNumbers (p : Pool) : Type 0 where
+  pub no-1 : (auditW four p ≡ refused 1) ↔ Breaks p
+  pub no-8 : (auditW four p ≡ refused 8) ↔ ((¬ Breaks p) × (¬ SoundPool four p))
+  pub accepted : (t m : ℕ)
+      → (auditW four p ≡ audited t m)
+      ↔ ((¬ Breaks p) × SoundPool four p × (t ≡ length (reachedOf four p)) × (m ≡ length (mappingsOf four p)))

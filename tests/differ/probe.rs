@@ -1,0 +1,471 @@
+// What check-differ asks of the library crates, which stand before this text as plain Rust: one line for each call, with all memory after it.
+// It calls public functions alone. Wrong versions have to differ in some line; lines that begin with `writes` show the order of the writes alone.
+use std::cell::RefCell;
+use std::fmt::Debug;
+use std::io::{BufWriter, Stdout, Write};
+use std::panic::{catch_unwind, AssertUnwindSafe};
+
+thread_local! { static OUT: RefCell<BufWriter<Stdout>> = RefCell::new(BufWriter::new(std::io::stdout())); }
+
+const PAGE: u64 = 4096;
+const MIB2: u64 = 1 << 21;
+const GIB: u64 = 1 << 30;
+const TOP: u64 = 1 << 48;
+const BASE: u64 = 0x4000_0000;
+
+fn line(text: &str) {
+    OUT.with(|o| writeln!(o.borrow_mut(), "{text}").unwrap())
+}
+
+// The answer of a call, or `panic`.
+fn tried<T: Debug>(call: impl FnOnce() -> T) -> String {
+    catch_unwind(AssertUnwindSafe(|| format!("{:?}", call()))).unwrap_or("panic".to_string())
+}
+
+macro_rules! ask {
+    ($of:ident::$name:ident, $($argument:expr),*) => {
+        line(&format!("{}::{}{:?} = {}", stringify!($of), stringify!($name), ($($argument,)*), tried(|| $of::$name($($argument),*))))
+    };
+}
+
+fn mixed(hash: u64, value: u64) -> u64 {
+    let h = (hash ^ value).wrapping_mul(0x9E37_79B9_7F4A_7C15);
+    h ^ (h >> 29)
+}
+
+fn hash(values: impl Iterator<Item = u64>) -> u64 {
+    values.fold(1, mixed)
+}
+
+struct Random(u64);
+
+impl Random {
+    fn next(&mut self) -> u64 {
+        self.0 ^= self.0 << 13;
+        self.0 ^= self.0 >> 7;
+        self.0 ^= self.0 << 17;
+        self.0.wrapping_mul(0x2545_F491_4F6C_DD1D) >> 11
+    }
+
+    fn below(&mut self, n: u64) -> u64 {
+        self.next() % n
+    }
+
+    fn of<T: Copy>(&mut self, choices: &[T]) -> T {
+        choices[self.below(choices.len() as u64) as usize]
+    }
+}
+
+// Numbers at and around the limits of the papers.
+fn numbers() -> Vec<u64> {
+    let mut all = vec![11, 15, 16, 17, 2048, 1 << 40, (1 << 39) + (2 << 30) + (3 << 21) + (4 << 12) + 5, u64::MAX];
+    all.extend(0..6);
+    for limit in [64, 512, PAGE, MIB2, GIB, 1 << 39, TOP] {
+        all.extend([limit - 1, limit, limit + 1]);
+    }
+    for size in [PAGE, MIB2, GIB] {
+        all.extend([TOP - size, 0u64.wrapping_sub(size), 3 * size, 512 * size - size]);
+    }
+    all
+}
+
+fn paths() {
+    ask!(path::no_setup,);
+    for free in [0, 1, 7, u64::MAX] {
+        ask!(path::with_free, path::Setup { levels: 3, base: BASE, tables: 5, free: 2 }, free);
+    }
+    for levels in 0..7 {
+        for base in [0, 1, 2048, PAGE, BASE, TOP - 64 * PAGE, TOP - PAGE, TOP, TOP + PAGE, 0u64.wrapping_sub(PAGE), 0u64.wrapping_sub(64 * PAGE)] {
+            for tables in [0, 1, 2, 3, 4, 63, 64, 65, 1 << 55, u64::MAX] {
+                for words in [512u64.wrapping_mul(tables), 511u64.wrapping_mul(tables), tables.wrapping_add(1)] {
+                    for places in [tables, tables.wrapping_sub(1), levels] {
+                        ask!(path::good_numbers, levels, base, tables, words as usize, places as usize);
+                    }
+                }
+            }
+        }
+        for tables in [1, 2, 3, 4, 8, 64] {
+            for free in [0, 1, 2, 3, 4, 5, 7, 8, 63, 64, u64::MAX] {
+                ask!(path::good_setup, path::Setup { levels, base: BASE, tables, free }, 512 * tables as usize, tables as usize);
+            }
+        }
+        ask!(path::good_setup, path::Setup { levels, base: BASE, tables: 2, free: 1 }, 2, 1024);
+    }
+    for n in numbers() {
+        for (levels, size) in [(2, 1), (3, 1), (4, 1), (5, 1), (3, PAGE), (4, GIB), (3, 1 << 39), (4, TOP), (3, TOP), (4, u64::MAX)] {
+            ask!(path::in_space, levels, n, size);
+        }
+        ask!(path::size_at, n as usize);
+        ask!(path::height_of, n);
+        ask!(path::path_of, n);
+        for height in [0, 1, 2, 3, 4, 5, usize::MAX] {
+            ask!(path::index_at, n, height);
+            ask!(path::base_at, n, height);
+            ask!(path::rest_at, n, height);
+        }
+    }
+    for p in [[0, 0, 0, 0], [1, 2, 3, 4], [511, 0, 511, 1], [65535, 65535, 65535, 65535], [0, 0, 1, 0], [0, 1, 0, 0]] {
+        ask!(path::address_of, p);
+    }
+}
+
+// Words of frames and tables, and words one bit or a little beside them.
+fn words_to_read() -> Vec<u64> {
+    let mut all = vec![BASE + 1, BASE + 3, BASE + PAGE * 2 + 3, BASE + 512 + 3, BASE + PAGE + 4, BASE + PAGE - 1 + 3, TOP + 3];
+    all.extend(numbers());
+    for c in [1, 2, 3, 4, 63, 64, 65] {
+        all.extend([BASE + PAGE * c + 3, PAGE * c + 3]);
+    }
+    for attributes in 0..17 {
+        for (base, size) in [(0, PAGE), (PAGE * 5, PAGE), (MIB2, MIB2), (GIB, GIB), (TOP - PAGE, PAGE), (TOP - GIB, GIB)] {
+            all.push(entry::frame_word(base, size, attributes));
+        }
+    }
+    for (size, attributes) in [(PAGE, 0), (PAGE, 7), (MIB2, 9), (GIB, 14)] {
+        for bit in 0..64 {
+            all.push(entry::frame_word(GIB, size, attributes) ^ (1 << bit));
+        }
+    }
+    all
+}
+
+fn entries() {
+    for n in numbers() {
+        ask!(entry::attr_word, n);
+        for c in [0, 1, 2, 63, 64, u32::MAX] {
+            ask!(entry::table_word, n, c);
+        }
+        for size in [0, 1, PAGE, MIB2, GIB, 1 << 39, TOP] {
+            for attributes in [0, 1, 5, 8, 15, 16, 17, u64::MAX] {
+                ask!(entry::frame_word, n, size, attributes);
+                ask!(oakabut::oak_frame_word, n, size, attributes);
+            }
+        }
+    }
+    for attributes in 0..18 {
+        ask!(entry::attr_word, attributes);
+    }
+    for base in [0, PAGE, BASE, TOP - PAGE, TOP] {
+        for height in [0, 1, 2, 3] {
+            for attributes in [0, 1, 2, 4, 8, 15] {
+                ask!(entry::word_of, base, height, attributes);
+            }
+        }
+    }
+    for w in words_to_read() {
+        for (base, tables) in [(BASE, 4), (0, 64), (BASE, 1), (TOP + PAGE, 8)] {
+            ask!(entry::child_in, w, base, tables);
+        }
+        for size in [PAGE, MIB2, GIB, 1 << 39, 0] {
+            ask!(entry::word_meaning, w, size);
+            ask!(oakabut::oak_word_meaning, w, size);
+        }
+        for height in [0, 1, 2, 3, 4] {
+            ask!(entry::is_frame, w, height);
+            ask!(entry::frame_at, w, height);
+            for (base, tables) in [(BASE, 1), (BASE, 3), (BASE, 64), (0, 2), (TOP - PAGE, 4), (u64::MAX, u32::MAX)] {
+                ask!(entry::read_word, w, height, base, tables);
+            }
+        }
+    }
+}
+
+// The order of the writes of the calls since the last time, to these words and this list.
+fn writes(words: &[u64], list: &[u32]) -> u64 {
+    let (w, l) = (words.as_ptr() as usize, list.as_ptr() as usize);
+    WRITES.with(|made| {
+        hash(made.borrow_mut().drain(..).flat_map(|(address, value)| {
+            if (w..w + 8 * words.len()).contains(&address) {
+                [1, ((address - w) / 8) as u64, value]
+            } else if (l..l + 4 * list.len()).contains(&address) {
+                [2, ((address - l) / 4) as u64, value]
+            } else {
+                [0, 0, 0]
+            }
+        }))
+    })
+}
+
+// Says a call that may write, with the memory after it.
+fn told(what: &str, answer: String, words: &[u64], list: &[u32]) {
+    let (w, l) = (hash(words.iter().copied()), hash(list.iter().map(|&t| t as u64)));
+    line(&format!("{what} = {answer} {w:x} {l:x}"));
+    line(&format!("writes {what} = {:x}", writes(words, list)));
+}
+
+fn pools() {
+    for n in 0..4usize {
+        let list: Vec<u32> = (0..n as u32).map(|i| 2 * i + 7).collect();
+        let words: Vec<u64> = list.iter().map(|&t| t as u64 + 9).collect();
+        for i in [0, 1, 2, 3, 4, usize::MAX] {
+            ask!(pool::word, &words[..], i);
+            ask!(pool::place, &list[..], i);
+            for v in [0, 1, 5, 1 << 33] {
+                let (mut w, mut l) = (words.clone(), list.clone());
+                let r = tried(|| pool::put(&mut w, i, v));
+                told(&format!("pool::put {n} {i} {v}"), r, &w, &l);
+                let r = tried(|| pool::give(&mut l, i, v as u32));
+                told(&format!("pool::give {n} {i} {v}"), r, &w, &l);
+            }
+        }
+        let mut w = words.clone();
+        let r = tried(|| pool::clear(&mut w));
+        told(&format!("pool::clear {n}"), r, &w, &[]);
+    }
+    for length in [0, 511, 512, 513, 1023, 1024, 1536] {
+        for t in [0, 1, 2, 3, u32::MAX] {
+            let mut w = vec![5; length];
+            let r = tried(|| pool::wipe(&mut w, t));
+            told(&format!("pool::wipe {length} {t}"), r, &w, &[]);
+            for at in [0, 1, 200, 255, 256, 300, 510, 511, 512, 513, 767, 1023, 1024, 1535] {
+                for value in [1, 2, u64::MAX] {
+                    let mut w = vec![0; length];
+                    if at < length {
+                        w[at] = value;
+                    }
+                    line(&format!("pool::is_table_empty {length} {at} {value} {t} = {}", tried(|| pool::is_table_empty(&w, t))));
+                    for i in [0, 1, 255, 256, 510, 511, 512, 513, 65535] {
+                        line(&format!("pool::only_entry {length} {at} {value} {t} {i} = {}", tried(|| pool::only_entry(&w, t, i))));
+                    }
+                }
+            }
+        }
+    }
+    for c in [0, 1, 2, 3, 4, 5] {
+        for four in [[1, 2, 3, 4], [0, 0, 0, 5], [5, 5, 0, 0]] {
+            ask!(pool::among_four, four, c);
+        }
+    }
+    for t in [0, 1, 2, 63] {
+        for i in [0, 1, 2, 511] {
+            ask!(plans::entry_place, t, i);
+        }
+    }
+}
+
+fn planned() {
+    use plans::Step::*;
+    let plan = [Store { place: 513, value: 6 }, Give { place: 1, table: 9 }, Wipe { table: 2 }, Nothing, Store { place: 7, value: 1 << 40 }, Give { place: 5, table: 4 }, Wipe { table: 9 }];
+    let (mut w, mut l) = (vec![3; 1536], vec![8; 3]);
+    let r = tried(|| plans::write_words(&mut w, plan));
+    told("plans::write_words", r, &w, &l);
+    let r = tried(|| plans::write_all(&mut w, &mut l, plan));
+    told("plans::write_all", r, &w, &l);
+}
+
+// A pool in lent memory, and the addresses that were mapped.
+#[derive(Clone)]
+struct Lent {
+    name: String,
+    setup: [u64; 4],
+    words: Vec<u64>,
+    list: Vec<u32>,
+    used: Vec<u64>,
+}
+
+impl Lent {
+    fn format(name: &str, levels: u64, base: u64, tables: u64, lent: usize) -> Lent {
+        let (mut words, mut list, mut answer) = (vec![77; 512 * lent], vec![66; lent], [55; 4]);
+        let r = tried(|| oakabut::oak_format(levels, base, tables, &mut words, &mut list, &mut answer));
+        told(&format!("{name} format {levels} {base:#x} {tables} {lent}"), format!("{r} {answer:?}"), &words, &list);
+        Lent { name: name.to_string(), setup: answer, words, list, used: vec![] }
+    }
+
+    fn map(&mut self, address: u64, frame: u64, size: u64, attributes: u64) {
+        let mut answer = [55; 5];
+        let r = tried(|| oakabut::oak_map(&self.setup, &mut self.words, &self.list, address, frame, size, attributes, &mut answer));
+        told(&format!("{} map {address:#x} {frame:#x} {size:#x} {attributes}", self.name), format!("{r} {answer:?}"), &self.words, &self.list);
+        if r == "0" {
+            self.setup.copy_from_slice(&answer[..4]);
+            self.used.push(address);
+        }
+    }
+
+    fn unmap(&mut self, address: u64) {
+        let mut answer = [55; 8];
+        let r = tried(|| oakabut::oak_unmap(&self.setup, &mut self.words, &mut self.list, address, &mut answer));
+        told(&format!("{} unmap {address:#x}", self.name), format!("{r} {answer:?}"), &self.words, &self.list);
+        if r == "0" {
+            self.setup.copy_from_slice(&answer[..4]);
+        }
+    }
+
+    // All that changes nothing, at an address.
+    fn asked(&self, address: u64) {
+        let mut answer = [55; 4];
+        let r = tried(|| oakabut::oak_query(&self.setup, &self.words, &self.list, address, &mut answer));
+        line(&format!("{} query {address:#x} = {r} {answer:?}", self.name));
+        let [levels, base, tables, free] = self.setup;
+        let r = tried(|| armwalk::stage2(&self.words, base, levels, address));
+        line(&format!("{} stage2 {address:#x} = {r}", self.name));
+        for target in [0, 1, 2, 3] {
+            let r = tried(|| lookup::walk_to(path::Setup { levels, base, tables, free }, &self.words, target, address));
+            line(&format!("{} walk_to {target} {address:#x} = {r}", self.name));
+            let mut way = [7u32; 4];
+            let r = tried(|| lookup::reach(path::Setup { levels, base, tables, free }, &self.words, target, address, &mut way));
+            line(&format!("{} reach {target} {address:#x} = {r} {way:?}", self.name));
+        }
+    }
+
+    fn audit(&self) {
+        let mut answer = [55; 2];
+        let r = tried(|| oakabut::oak_audit(&self.setup, &self.words, &self.list, &mut answer));
+        line(&format!("{} audit {:?} = {r} {answer:?}", self.name, self.setup));
+    }
+
+    // An address that was mapped, or near one, or any.
+    fn address(&self, random: &mut Random) -> u64 {
+        let near = random.of(&[0, 0, 0, 1, PAGE, MIB2, GIB, PAGE + 8, MIB2 - PAGE, GIB - PAGE]);
+        match random.below(5) {
+            0 => random.of(&[0, 1 << 39, TOP, TOP - PAGE, (1 << 39) - PAGE, (1 << 39) - 8, self.setup[1], u64::MAX]),
+            1 => random.below(4) * GIB + random.below(3) * MIB2 + random.below(3) * PAGE,
+            _ if self.used.is_empty() => near,
+            _ => random.of(&self.used).wrapping_add(near),
+        }
+    }
+
+    fn random_map(&mut self, random: &mut Random) {
+        let size = random.of(&[PAGE, PAGE, PAGE, PAGE, MIB2, MIB2, GIB]);
+        let height = [PAGE, MIB2, GIB].iter().position(|&s| s == size).unwrap();
+        let index = [random.below(2), random.below(3), random.of(&[0, 1, 511, 300]), random.of(&[0, 1, 2, 511, 260])];
+        let top = if self.setup[0] == 4 { index[0] * (1 << 39) } else { 0 };
+        let address = (top + index[1] * GIB + index[2] * MIB2 + index[3] * PAGE) / size * size;
+        let frame = GIB * (2 + height as u64) + random.below(7) * size;
+        let attributes = random.below(16);
+        match random.below(12) {
+            0 => self.map(address + random.of(&[1, PAGE]), frame, size, attributes),
+            1 => self.map(address, frame + random.of(&[1, PAGE, TOP]), size, attributes),
+            2 => self.map(address, frame, random.of(&[0, 1, 512, 8192, 1 << 39]), random.of(&[0, 3, 15, 16, 4096])),
+            3 => self.map(address, random.of(&[TOP, TOP - size, TOP - size + PAGE, u64::MAX]), size, random.of(&[15, 16])),
+            4 => self.map(random.of(&[1 << 39, (1 << 39) - size, TOP - size, TOP, 0u64.wrapping_sub(size)]), frame, size, attributes),
+            _ => self.map(address, frame, size, attributes),
+        }
+    }
+}
+
+// A history of calls, with damaged copies on the way.
+fn history(levels: u64, base: u64, tables: u64, seed: u64, steps: u64) {
+    let mut random = Random(seed * 1000 + levels * 100 + tables);
+    let mut lent = Lent::format(&format!("pool {levels}/{tables}/{seed}"), levels, base, tables, tables as usize);
+    for step in 0..steps {
+        match random.below(7) {
+            0..=3 => lent.random_map(&mut random),
+            _ => {
+                let address = lent.address(&mut random);
+                lent.unmap(address);
+            }
+        }
+        let address = lent.address(&mut random);
+        lent.asked(address);
+        if step % 8 == 5 || tables < 9 {
+            lent.audit();
+        }
+        if step % 4 == 3 {
+            for kind in 0..9 {
+                let mut copy = lent.clone();
+                copy.name = format!("{} damaged {kind}", lent.name);
+                damage(&mut copy, kind, &mut random);
+                copy.audit();
+                for address in [copy.address(&mut random), random.of(&copy.used.iter().copied().chain([0]).collect::<Vec<_>>())] {
+                    copy.asked(address);
+                    copy.clone().unmap(address);
+                }
+                copy.random_map(&mut random);
+                copy.audit();
+            }
+        }
+    }
+    for address in lent.used.clone() {
+        lent.unmap(address);
+        lent.asked(address);
+    }
+    lent.audit();
+}
+
+// Breaks a rule of a sound pool, or several.
+fn damage(lent: &mut Lent, kind: u64, random: &mut Random) {
+    let (base, tables, free) = (lent.setup[1], lent.list.len() as u64, lent.setup[3]);
+    let used: Vec<usize> = (0..lent.words.len()).filter(|&i| lent.words[i] != 0).collect();
+    let links: Vec<usize> = used.iter().copied().filter(|&i| lent.words[i] % PAGE == 3).collect();
+    let any = |random: &mut Random, of: &[usize]| if of.is_empty() { 0 } else { random.of(of) };
+    match kind {
+        // two entries name one table, and the count of free tables may fit that
+        0 => {
+            let link = any(random, &links);
+            lent.words[link ^ 256] = lent.words[link];
+            lent.setup[3] = free.saturating_sub(random.below(3));
+        }
+        // an entry names a table: itself, one above it, any, or one past the pool
+        1 => {
+            let at = any(random, &used);
+            let named = random.of(&[at as u64 / 512, 1, tables - 1, tables, tables + 1]);
+            lent.words[at] = base + PAGE * named + random.of(&[3, 3, 3, 3, 515]);
+        }
+        // a link to a table that is empty
+        2 if free > 0 => {
+            lent.words[400] = base + PAGE * lent.list[free as usize - 1] as u64 + 3;
+            lent.setup[3] = free - 1;
+        }
+        // a bit of a word
+        3 => lent.words[any(random, &used)] ^= 1 << random.below(64),
+        4 => lent.words[any(random, &used)] ^= random.of(&[1, 2, 1 << 10, 1 << 11, 1 << 12, 1 << 54]),
+        // a word of a table that is free
+        5 if free > 0 => lent.words[512 * lent.list[random.below(free) as usize] as usize + random.of(&[0, 1, 511])] = random.next(),
+        // a place of the free list
+        6 if free > 0 => {
+            let (one, other, reached) = (random.below(free), random.below(free), any(random, &links));
+            let at = random.of(&[free - 1, free - 1, one]) as usize;
+            let named = lent.words[reached].wrapping_sub(base) / PAGE;
+            lent.list[at] = random.of(&[0, tables, tables + 1, named, named, lent.list[other as usize] as u64, u64::MAX]) as u32;
+        }
+        // more tables are free than are
+        7 => lent.setup[3] = random.of(&[tables - 1, free + 1, free.wrapping_sub(1)]),
+        // other setup numbers and lengths
+        _ => match random.below(6) {
+            0 => lent.setup[0] = random.of(&[0, 1, 2, 3, 4, 5, u64::MAX]),
+            1 => lent.setup[1] = random.of(&[0, base + 1, base + PAGE, TOP, u64::MAX - 4095]),
+            2 => lent.setup[2] = random.of(&[0, tables - 1, tables + 1, 65, u64::MAX]),
+            3 => lent.setup[3] = random.of(&[tables, tables + 1, u64::MAX]),
+            4 => lent.words.push(0),
+            _ => lent.list.push(0),
+        },
+    }
+}
+
+fn histories() {
+    for (levels, base, tables, lent) in [(2, BASE, 1, 1), (3, 1, 1, 1), (3, BASE, 2, 1), (4, BASE, 1, 2), (5, BASE, 3, 3), (3, TOP, 1, 1), (4, 0, 65, 65), (3, 3, 3, 3), (4, 4, 4, 4)] {
+        Lent::format("refused", levels, base, tables, lent).audit();
+    }
+    for levels in [3, 4] {
+        for tables in [1, 2, 3, 4, 5, 6, 8] {
+            for seed in 1..4 {
+                history(levels, [BASE, 0, TOP - tables * PAGE][seed as usize % 3], tables, seed, 40);
+            }
+        }
+        history(levels, BASE, 64, 1, 60);
+        full(levels);
+    }
+}
+
+// Every table of a pool of 64 taken and given back.
+fn full(levels: u64) {
+    let mut lent = Lent::format(&format!("full {levels}"), levels, BASE, 64, 64);
+    for i in 0..70 {
+        lent.map(i * MIB2, GIB + i * PAGE, PAGE, i % 16);
+    }
+    lent.audit();
+    for i in 0..70 {
+        lent.unmap(i * MIB2);
+    }
+    lent.audit();
+}
+
+fn main() {
+    std::panic::set_hook(Box::new(|_| {}));
+    paths();
+    entries();
+    pools();
+    planned();
+    histories();
+    OUT.with(|o| o.borrow_mut().flush().unwrap());
+}
