@@ -1,6 +1,8 @@
 // The lent memory: the words of the tables and the places of the free list. What is past the end reads as 0 and is not written.
 ghost use mathlib.Core.Path.{_≡_};
-ghost use Prim.Native.Nat.{_+_, _<_, _^_};
+ghost use mathlib.Core.Bool.{false, not};
+ghost use Prim.Native.Nat.{ℕ, _+_, _-_, _≤_, _<_};
+ghost use lib.Dec.{eqb};
 ghost use lib.ListN.{length, getD, set, replicate};
 ghost use Rattle.laws.specs.Lists.{part, zeroed, allZero, among};
 ghost use Rattle.path.specs.Geometry.{four, entries};
@@ -9,6 +11,8 @@ ghost use Rattle.model.specs.Writes.{onlyEntry};
 
 // The entries of a table.
 const ENTRIES: usize = path::ENTRIES as usize;
+// The words that the empty test reads at a step; a table has a multiple of them.
+const STEP: usize = 8;
 
 // The word at a place.
 pub fn word(words: &[u64], i: usize) -> u64
@@ -64,15 +68,51 @@ pub fn wipe(words: &mut [u64], t: u32)
     }
 }
 
-// Whether so many words from a place on are 0.
-fn zeros(words: &[u64], start: usize, count: usize) -> bool
-    requires { ⌜ start + count < 2 ^ 64 ⌝ }
-    ensures { λ r. ⌜ r ≡ allZero (part (now (words .entry)) start count) ⌝ }
+// The words of table t, as far as there are such.
+fn table_words(words: &[u64], t: u32) -> &[u64]
+    ensures { λ r. ⌜ now r ≡ part (now (words .entry)) (slot four t 0) (entries four) ⌝ }
 {
-    let mut i = 0;
-    while i < count {
-        let w = word(words, start + i);
-        if w != 0 {
+    let n = words.len();
+    let start = ENTRIES * (t as usize);
+    let past = start + ENTRIES;
+    if past <= n {
+        return &words[start..past];
+    }
+    if start <= n {
+        return &words[start..n];
+    }
+    &words[n..n]
+}
+
+// Whether any of the words of a step is in use.
+fn any_in_step(w: &[u64], i: usize) -> bool
+    requires { ⌜ i + 8 ≤ length (now w) ⌝ }
+    ensures { λ r. ⌜ (r ≡ false → (k : ℕ) → k < 8 → getD (now (w .entry)) (i + k) 0 ≡ 0) ⌝ }
+{
+    let low = w[i] | w[i + 1] | w[i + 2] | w[i + 3];
+    let high = w[i + 4] | w[i + 5] | w[i + 6] | w[i + 7];
+    (low | high) != 0
+}
+
+// Whether a word is in use, unless it is the one to leave out.
+fn in_use(w: &[u64], i: usize, but: usize) -> bool
+    requires { ⌜ i < length (now w) ⌝ }
+    ensures { λ r. ⌜ r ≡ not (eqb (getD (set (now (w .entry)) but 0) i 0) 0) ⌝ }
+{
+    if i == but {
+        return false;
+    }
+    w[i] != 0
+}
+
+// Whether the words from one place to another are 0, but for the one to leave out: word by word.
+fn zeros_between(w: &[u64], from: usize, to: usize, but: usize) -> bool
+    requires { ⌜ (from ≤ to) × (to ≤ length (now w)) ⌝ }
+    ensures { λ r. ⌜ r ≡ allZero (part (set (now (w .entry)) but 0) from (to - from)) ⌝ }
+{
+    let mut i = from;
+    while i < to {
+        if in_use(w, i, but) {
             return false;
         }
         i += 1;
@@ -80,26 +120,44 @@ fn zeros(words: &[u64], start: usize, count: usize) -> bool
     true
 }
 
+// The same of the words of a step: they are read at once, and one by one only where one is in use.
+fn zeros_in_step(w: &[u64], i: usize, but: usize) -> bool
+    requires { ⌜ i + 8 ≤ length (now w) ⌝ }
+    ensures { λ r. ⌜ r ≡ allZero (part (set (now (w .entry)) but 0) i 8) ⌝ }
+{
+    if !any_in_step(w, i) {
+        return true;
+    }
+    zeros_between(w, i, i + STEP, but)
+}
+
+// Whether all words are 0 but for the one to leave out. It goes by steps, and ends at the first that has a word in use.
+fn zeros_but(w: &[u64], but: usize) -> bool
+    ensures { λ r. ⌜ r ≡ allZero (set (now (w .entry)) but 0) ⌝ }
+{
+    let n = w.len();
+    let mut at = 0;
+    while n - at >= STEP {
+        if !zeros_in_step(w, at, but) {
+            return false;
+        }
+        at += STEP;
+    }
+    zeros_between(w, at, n, but)
+}
+
 // Whether all words of table t are 0.
 pub fn is_table_empty(words: &[u64], t: u32) -> bool
     ensures { λ r. ⌜ r ≡ allZero (part (now (words .entry)) (slot four t 0) (entries four)) ⌝ }
 {
-    zeros(words, ENTRIES * (t as usize), ENTRIES)
+    zeros_but(table_words(words, t), ENTRIES)
 }
 
 // Whether table t has no entry but entry i.
 pub fn only_entry(words: &[u64], t: u32, i: u16) -> bool
     ensures { λ r. ⌜ r ≡ onlyEntry four (now (words .entry)) t i ⌝ }
 {
-    let start = ENTRIES * (t as usize);
-    let k = i as usize;
-    if k >= ENTRIES {
-        return zeros(words, start, ENTRIES);
-    }
-    if !zeros(words, start, k) {
-        return false;
-    }
-    zeros(words, start + k + 1, ENTRIES - k - 1)
+    zeros_but(table_words(words, t), i as usize)
 }
 
 // Whether c is among four tables.

@@ -84,8 +84,9 @@ pub fn all(smoke: bool) -> Vec<Case> {
     for levels in [3, 4] {
         cases.push(map_unmap(levels, 0, share(64)));
     }
+    cases.extend([beside("two entries", 1, share(16_000)), beside("a full table", 511, share(16_000))]);
     cases.extend([map_unmap(3, 1, share(800)), map_unmap(3, 2, share(400)), map_unmap(4, 3, share(400))]);
-    cases.extend([audit(16, share(400)), audit(64, share(100)), format(16, share(2000)), format(64, share(500))]);
+    cases.extend([audit(16, share(400)), audit(64, share(100)), audit_free(share(1000)), format(16, share(2000)), format(64, share(500))]);
     cases
 }
 
@@ -143,6 +144,12 @@ fn map_unmap(levels: u64, taken: u64, rounds: usize) -> Case {
     Case { name, levels, tables: 16, mappings, work: Work::MapUnmap(pages), rounds }
 }
 
+/// Map and unmap of one page, which has so many others in its table: of what unmap's empty test reads.
+fn beside(what: &str, others: u64, rounds: usize) -> Case {
+    let mappings = (0..=others).filter(|&i| i != 5).take(others as usize).map(|i| (i * PAGE, PAGE)).collect();
+    Case { name: format!("map + unmap of a page, {what}"), levels: 3, tables: 16, mappings, work: Work::MapUnmap(vec![5 * PAGE]), rounds }
+}
+
 fn format(tables: u64, rounds: usize) -> Case {
     Case { name: format!("format, {tables} tables"), levels: 3, tables, mappings: vec![], work: Work::Format, rounds }
 }
@@ -151,4 +158,10 @@ fn format(tables: u64, rounds: usize) -> Case {
 fn audit(tables: u64, rounds: usize) -> Case {
     let mappings = (0..(tables - 2) * 256).map(|i| (2 * i * PAGE, PAGE)).collect();
     Case { name: format!("audit, {tables} tables in use"), levels: 3, tables, mappings, work: Work::Audit, rounds }
+}
+
+/// Four of 64 tables are in use, and 60 are free.
+fn audit_free(rounds: usize) -> Case {
+    let mappings = vec![(0, PAGE), (BLOCK_2M, PAGE)];
+    Case { name: "audit, 60 of 64 tables free".to_string(), levels: 3, tables: 64, mappings, work: Work::Audit, rounds }
 }

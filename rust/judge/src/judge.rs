@@ -23,6 +23,11 @@ impl<E: Engine> Judge<E> {
         }
     }
 
+    /// The engine's memory.
+    pub fn memory(&self) -> &Memory {
+        &self.memory
+    }
+
     /// Carries out the steps of a source, until so many calls are judged. The text of an error is the first difference.
     pub fn run(&mut self, source: &mut Source, calls: u64) -> Result<(), String> {
         while self.coverage.calls() < calls {

@@ -4,7 +4,7 @@
 
 use std::env;
 
-use judge::{cases, lines, Answer, Call, Engine, Judge, Memory, Source};
+use judge::{cases, lines, Answer, Call, Engine, Judge, Memory, Source, Step};
 use oakabut::raw::{self, Mapped, Unmapped};
 use oakabut::{Audit, Mapping, Pool, Refusal, Setup};
 
@@ -39,6 +39,40 @@ fn the_c_surface() {
 #[test]
 fn the_safe_crate() {
     judge(Safe, 1);
+}
+
+/// A table of pages, and one of blocks, with one more word in use, at each of its places: unmap gives the table back exactly where there is none. The word is a
+/// frame's, or has its top bit alone.
+#[test]
+fn one_more_word_in_use() {
+    let (words, places, pages) = (4 * 512, 4, 1024);
+    let setup = |free| plain::Setup { levels: 3, base: 0x4000_0000, tables: 4, free };
+    let call = |call| Step::Call { call, words, places };
+    let mut judge = Judge::new(Raw);
+    let mut given = [0; 3];
+    for (table, page) in [(pages, 0), (pages, 511), (pages, 200), (512, 0)] {
+        for at in 0..=512 {
+            for word in [0x0040_0000_8000_07FF, 1 << 63] {
+                let address = 4096 * page;
+                let free = Call::Map { setup: setup(3), address, frame: 0x8000_0000, size: 4096, attributes: 3 };
+                let mut steps = vec![Step::Memory { words, places }, call(Call::Format { levels: 3, base: 0x4000_0000, tables: 4 }), call(free)];
+                if at < 512 && at as u64 != if table == pages { page } else { 0 } {
+                    steps.push(Step::Word { at: table + at, word, damage: None });
+                }
+                steps.push(call(Call::Audit { setup: setup(1) }));
+                for step in &steps {
+                    judge.step(step).unwrap_or_else(|difference| panic!("{difference}"));
+                }
+                let mut memory = judge.memory().clone();
+                let answer = Raw.call(&Call::Unmap { setup: setup(1), address }, &mut memory.words, &mut memory.list);
+                assert_eq!(answer.refusal, 0);
+                given[answer.numbers[7] as usize] += 1;
+                judge.step(&call(Call::Unmap { setup: setup(1), address })).unwrap_or_else(|difference| panic!("{difference}"));
+            }
+        }
+    }
+    // no table where the table of pages has another word, one where that of blocks has, both where there is none
+    assert_eq!(given, [3 * 2 * 511, 2 * 511, 4 * 2 * 2]);
 }
 
 /// The numbers among the words of a text.

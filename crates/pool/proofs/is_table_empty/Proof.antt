@@ -1,21 +1,23 @@
 -- `pool::is_table_empty` tests the words of the table.
-use Prim.Native.Nat.{ℕ}
-use mathlib.Core.Path.{ap, _∙_}
+use mathlib.Core.Path.{_≡_, refl, sym, ap, _∙_}
 use native.Mathlib.Omega.{arith}
 use borrow.Author.Needs.{needs}
-use Rattle.laws.specs.Lists.{part, allZero}
+use Rattle.pool.proofs.Laws.{none-out}
 use Rattle.pool.proofs.is_table_empty.Statement.{statement}
 use Rattle.pool.proofs.is_table_empty.Tie as tie
+use Rattle.pool.proofs.is_table_empty.Reads as reads
+use Rattle.pool.proofs.is_table_empty.Lts as lts
+use Rattle.pool.proofs.table_words.Reads as table-words-reads
+use Rattle.pool.proofs.zeros_but.Reads as zeros-but-reads
 
-mul-zeros : tie.Need-mul-zeros
-mul-zeros c = search needs
+table-words-requires : tie.Need-table-words-requires
+table-words-requires c κs = search needs
 
-zeros-requires : tie.Need-zeros-requires
-zeros-requires c κs = search needs
+zeros-but-requires : tie.Need-zeros-but-requires
+zeros-but-requires c κs = search needs
 
 returns : tie.Need-returns
-returns c =
-    c .zeros .ensures ∙ ap (λ (n : ℕ). allZero (part (c .before .before .args .words .now) n 512)) (omega arith)
+returns c = c .zeros-but .ensures ∙ none-out _ _ _ 512 (c .before .table-words .ensures)
 
 pub is-table-empty-spec : {M : Type 1} → statement M
-is-table-empty-spec = tie.close (tie.spec mul-zeros zeros-requires returns)
+is-table-empty-spec = tie.close (tie.spec table-words-requires zeros-but-requires returns)
