@@ -70,7 +70,7 @@ static uint64_t asked[KINDS];      /* how often each kind of answer was due */
 static uint64_t hits[2][3][16][2]; /* the same for mapped addresses: by levels, size, attributes, read or write */
 
 /* PAR_EL1's ATTR and SH. Stage 1 says 'normal, write-back, not shared', so what they show is what stage 2 says. */
-#define DEVICE 0x04     /* Device-nGnRE */
+#define DEVICE 0x00     /* Device-nGnRnE */
 #define NORMAL 0xFF     /* inner and outer write-back */
 #define DEVICE_SHARED 2 /* outer, as for all device memory */
 #define NORMAL_SHARED 3 /* inner */

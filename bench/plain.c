@@ -50,7 +50,7 @@ static inline bool good(const oak_setup *s, size_t words_len, size_t list_len) {
 #define READ_AND_WRITE (BIT(6) | BIT(7))
 #define NO_EXECUTE BIT(54)
 #define NORMAL (BIT(10) | UINT64_C(3) << 8 | UINT64_C(15) << 2)
-#define DEVICE (BIT(10) | UINT64_C(1) << 2)
+#define DEVICE BIT(10)
 #define TABLE 3
 
 static inline uint64_t type_of(unsigned left) { return left == 1 ? 3 : 1; }

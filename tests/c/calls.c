@@ -218,7 +218,7 @@ static void more_cases(void) {
     writes(0, 0x40001003);
     writes(512, 0x40002003);
     writes(1024, 0x40003003);
-    writes(1536, UINT64_C(0x00400000800004C7));
+    writes(1536, UINT64_C(0x00400000800004C3));
     map_is(0, FRAME, 4096, 11, 0, 3);
     query_is(0xFFF, 0, FRAME, 4096, 11);
     audit_is(4, 1, 0);

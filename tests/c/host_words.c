@@ -30,10 +30,7 @@ static uint64_t model_attributes(uint64_t attributes) {
     if (attributes & 1) word += bit(6);
     if (attributes & 2) word += bit(7);
     if (!(attributes & 4)) word += bit(54);
-    if (attributes & 8)
-        word += bit(2);
-    else
-        word += bit(2) + bit(3) + bit(4) + bit(5) + bit(8) + bit(9);
+    if (!(attributes & 8)) word += bit(2) + bit(3) + bit(4) + bit(5) + bit(8) + bit(9);
     return word;
 }
 
@@ -88,12 +85,12 @@ static void fixed_words(void) {
     frame(0x80000000, 4096, 3, UINT64_C(0x00400000800007FF));
     frame(0x80001000, 4096, 5, 0x8000177F);
     frame(0x80200000, OAK_2_MIB, 3, UINT64_C(0x00400000802007FD));
-    equal("low bits of a device page", oak_frame_word(0x80000000, 4096, 11) & 0xFFF, 0x4C7);
-    frame(0x09000000, 4096, OAK_READ | OAK_WRITE | OAK_DEVICE, UINT64_C(0x00400000090004C7));
+    equal("low bits of a device page", oak_frame_word(0x80000000, 4096, 11) & 0xFFF, 0x4C3);
+    frame(0x09000000, 4096, OAK_READ | OAK_WRITE | OAK_DEVICE, UINT64_C(0x00400000090004C3));
     frame(0, 4096, 0, UINT64_C(0x004000000000073F));
-    frame(0, OAK_1_GIB, 15, 0x4C5);
+    frame(0, OAK_1_GIB, 15, 0x4C1);
     frame(LIMIT - 4096, 4096, 7, UINT64_C(0x0000FFFFFFFFF7FF));
-    frame(LIMIT - OAK_1_GIB, OAK_1_GIB, 15, UINT64_C(0x0000FFFFC00004C5));
+    frame(LIMIT - OAK_1_GIB, OAK_1_GIB, 15, UINT64_C(0x0000FFFFC00004C1));
     meaning(UINT64_C(0x00400000800007FF), 4096, 0x80000013);
     meaning(0x8000177F, 4096, 0x80001015);
     meaning(UINT64_C(0x00400000802007FD), OAK_2_MIB, 0x80200013);
@@ -142,6 +139,16 @@ static void refusals(void) {
     }
     frame(4096, OAK_2_MIB, 3, OAK_REFUSED_BASE);
     frame(OAK_2_MIB, OAK_1_GIB, 3, OAK_REFUSED_BASE);
+}
+
+/* the device words from before request 4, Device-nGnRE: bits 5:2 = 0001 */
+static void old_device_words(void) {
+    for (size_t i = 0; i < 3; i++)
+        for (uint64_t a = 8; a < 16; a++) {
+            uint64_t word = oak_frame_word(3 * sizes[2], sizes[i], a);
+            meaning(word, sizes[i], 3 * sizes[2] + 16 + a);
+            meaning(word + bit(2), sizes[i], OAK_REFUSED_DAMAGED);
+        }
 }
 
 /* all sixteen attributes at the three sizes: word, meaning, each bit changed alone, and no word of one size at another */
@@ -229,6 +236,7 @@ static bool one_word(void) {
 int main(void) {
     fixed_words();
     refusals();
+    old_device_words();
     round_trips();
     many("frames from the generator", one_frame, 200000);
     many("words from the generator", one_word, 200000);

@@ -137,7 +137,7 @@ qu('past the space', 2 ** 48)
 mp('past the space', 2 ** 48, FRAME, PAGE, 3)
 un('last page', 2 ** 48 - 4096)
 
-heading('The sixteen attributes. A page with device attributes 11 has the low 12 bits 0x4c7.')
+heading('The sixteen attributes. A page with device attributes 11 has the low 12 bits 0x4c3.')
 fmt('attributes', 3, BASE, 4)
 for k in range(16):
     mp('attributes', k * PAGE, FRAME + k * PAGE, PAGE, k)
@@ -373,6 +373,21 @@ four('1 GiB in the root of four levels', 2 ** 39)
 mp('1 GiB in the root of four levels', 2 ** 39, FRAME, GIB, 3)
 setup('the same word, three levels', 3, BASE, 4, 0)
 four('the same word, three levels', 0x40000000)
+
+heading('Refusal 8, by the device words from before request 4, which the audit took then.')
+OLD = 0b0001 << 2                                                         # MemAttr of Device-nGnRE
+device = lambda size: FRAME + (3 if size == PAGE else 1) + ATTRS[11]
+for name, size, i, va in [('a page', PAGE, 1026, 0x2000), ('2 MiB', MIB2, 514, 0x400000), ('1 GiB', GIB, 1, 0x40000000)]:
+    ready()
+    mp(name, va, FRAME, size, 11)
+    assert W[i] == device(size)
+    au(name)
+    word('the old word of ' + name, i, device(size) + OLD)
+    four('the old word of ' + name, va)
+    if size != PAGE: mp('the old word of ' + name + ', at the target', va, FRAME, size, 11)
+    word('the word of now', i, device(size))
+    un('the word of now', va)
+    au('the word of now')
 
 heading('Refusal 8, by tables that name themselves or each other, and by memory of all ones.')
 ready()

@@ -1,4 +1,5 @@
-"""Document 01, written out as a model over plain lists. Independent of the Rattle code: only the paper's text was used."""
+"""Document 01 with the requests of document 02, written out as a model over plain lists. Independent of the Rattle code: only the papers' text
+was used."""
 LIMIT = 2 ** 48
 SIZES = {4096: 0, 2 ** 21: 1, 2 ** 30: 2}          # size -> height of the entry (0: last level)
 SIZE = {h: s for s, h in SIZES.items()}
@@ -11,7 +12,7 @@ def attribute_word(a):
     if read: w |= 1 << 6
     if write: w |= 1 << 7
     if not execute: w |= 1 << 54
-    if device: w |= 0b0001 << 2
+    if device: w |= 0b0000 << 2 | 0b00 << 8          # request 4: Device-nGnRnE
     else: w |= 0b1111 << 2 | 0b11 << 8
     return w
 

@@ -9,7 +9,7 @@ use Rattle.path.specs.Geometry.{four, physical, heightOf}
 use Rattle.path.specs.Laws.{four-sane, size-pos, size-fits, height-size}
 use Rattle.entry.specs.Words.{attrWord, baseIn, attrsIn, typeAt, frameWord}
 use Rattle.entry.specs.Host.{hostWord, Accepted}
-use Rattle.entry.specs.Parts.{attr-of-bits}
+use Rattle.entry.specs.Parts.{deviceBits, normalMore, attr-of-bits}
 use Rattle.entry.specs.Laws.{type-le}
 use Rattle.entry.specs.HostLaws.{accepted-word}
 
@@ -73,37 +73,37 @@ rest-bit w = bit (baseIn w) (w % 2 ^ 48 / 4096) (w / 64 % 4) (w / 2 ^ 54 % 2) (r
     bit b q x y r e s = omega arith
 
 -- the word of its own base and attributes, by the rest: the type, and the bits of device or of normal memory
-own-word : (w h : ℕ) → frameWord (baseIn w) h (attrsIn w) ≡ baseIn w + typeAt h + (1028 + w / 64 % 4 * 64 + w / 32 % 2 * 824 + w / 2 ^ 54 % 2 * 2 ^ 54)
+own-word : (w h : ℕ) → frameWord (baseIn w) h (attrsIn w) ≡ baseIn w + typeAt h + (deviceBits + w / 64 % 4 * 64 + w / 32 % 2 * normalMore + w / 2 ^ 54 % 2 * 2 ^ 54)
 own-word w h =
     sym (sum-word (baseIn w) h (attrsIn w) _ _ refl (attr-of-bits (w / 64 % 4) (w / 2 ^ 54 % 2) (w / 32 % 2) (omega arith) (omega arith) (omega arith)))
 
-pub frame-rest : (w h : ℕ) → restOf w ≡ typeAt h + 1028 + w / 32 % 2 * 824 → w ≡ frameWord (baseIn w) h (attrsIn w)
-frame-rest w h e = join (baseIn w) (w / 64 % 4 * 64) (w / 2 ^ 54 % 2 * 2 ^ 54) (w / 32 % 2 * 824) (typeAt h) (restOf w) (parts-sum w) e ∙ sym (own-word w h)
+pub frame-rest : (w h : ℕ) → restOf w ≡ typeAt h + deviceBits + w / 32 % 2 * normalMore → w ≡ frameWord (baseIn w) h (attrsIn w)
+frame-rest w h e = join (baseIn w) (w / 64 % 4 * 64) (w / 2 ^ 54 % 2 * 2 ^ 54) (w / 32 % 2 * normalMore) (typeAt h) (restOf w) (parts-sum w) e ∙ sym (own-word w h)
   where
-    join : (b x y z t r : ℕ) → w ≡ b + x + y + r → r ≡ t + 1028 + z → w ≡ b + t + (1028 + x + z + y)
+    join : (b x y z t r : ℕ) → w ≡ b + x + y + r → r ≡ t + deviceBits + z → w ≡ b + t + (deviceBits + x + z + y)
     join b x y z t r s e = omega arith
 
-pub rest-frame : (w h : ℕ) → w ≡ frameWord (baseIn w) h (attrsIn w) → restOf w ≡ typeAt h + 1028 + w / 32 % 2 * 824
-rest-frame w h e = part (baseIn w) (w / 64 % 4 * 64) (w / 2 ^ 54 % 2 * 2 ^ 54) (w / 32 % 2 * 824) (typeAt h) (restOf w) (parts-sum w) (e ∙ own-word w h)
+pub rest-frame : (w h : ℕ) → w ≡ frameWord (baseIn w) h (attrsIn w) → restOf w ≡ typeAt h + deviceBits + w / 32 % 2 * normalMore
+rest-frame w h e = part (baseIn w) (w / 64 % 4 * 64) (w / 2 ^ 54 % 2 * 2 ^ 54) (w / 32 % 2 * normalMore) (typeAt h) (restOf w) (parts-sum w) (e ∙ own-word w h)
   where
-    part : (b x y z t r : ℕ) → w ≡ b + x + y + r → w ≡ b + t + (1028 + x + z + y) → r ≡ t + 1028 + z
+    part : (b x y z t r : ℕ) → w ≡ b + x + y + r → w ≡ b + t + (deviceBits + x + z + y) → r ≡ t + deviceBits + z
     part b x y z t r s e = omega arith
 
 module _ (w h : ℕ) {k : ℕ} (e : k ≡ typeAt h) where
-  pub normal-frame : restOf w ≡ 1852 + k → w ≡ frameWord (baseIn w) h (attrsIn w)
+  pub normal-frame : restOf w ≡ deviceBits + normalMore + k → w ≡ frameWord (baseIn w) h (attrsIn w)
   normal-frame r = frame-rest w h (of (restOf w) (w / 32 % 2) (rest-bit w) r)
     where
-      of : (x z : ℕ) → z ≡ x / 32 % 2 → x ≡ 1852 + k → x ≡ typeAt h + 1028 + z * 824
+      of : (x z : ℕ) → z ≡ x / 32 % 2 → x ≡ deviceBits + normalMore + k → x ≡ typeAt h + deviceBits + z * normalMore
       of x z b r = omega (arith, type-le h)
 
-  pub device-frame : restOf w ≡ 1028 + k → w ≡ frameWord (baseIn w) h (attrsIn w)
+  pub device-frame : restOf w ≡ deviceBits + k → w ≡ frameWord (baseIn w) h (attrsIn w)
   device-frame r = frame-rest w h (of (restOf w) (w / 32 % 2) (rest-bit w) r)
     where
-      of : (x z : ℕ) → z ≡ x / 32 % 2 → x ≡ 1028 + k → x ≡ typeAt h + 1028 + z * 824
+      of : (x z : ℕ) → z ≡ x / 32 % 2 → x ≡ deviceBits + k → x ≡ typeAt h + deviceBits + z * normalMore
       of x z b r = omega (arith, type-le h)
 
-  pub device-else : (restOf w ≡ 1852 + k → ⊥) → w ≡ frameWord (baseIn w) h (attrsIn w) → restOf w ≡ 1028 + k
+  pub device-else : (restOf w ≡ deviceBits + normalMore + k → ⊥) → w ≡ frameWord (baseIn w) h (attrsIn w) → restOf w ≡ deviceBits + k
   device-else n f = of (restOf w) (w / 32 % 2) (omega arith) n (rest-frame w h f)
     where
-      of : (x z : ℕ) → z < 2 → (x ≡ 1852 + k → ⊥) → x ≡ typeAt h + 1028 + z * 824 → x ≡ 1028 + k
+      of : (x z : ℕ) → z < 2 → (x ≡ deviceBits + normalMore + k → ⊥) → x ≡ typeAt h + deviceBits + z * normalMore → x ≡ deviceBits + k
       of x z l n r = omega arith

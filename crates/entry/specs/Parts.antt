@@ -46,7 +46,14 @@ attrs-lt w = omega arith
 
 -- ---- the attribute word of attributes that are known by bits 7:6, 54 and 5 of a word
 
-pub attr-of-bits : (x y z : ℕ) → x < 4 → y < 2 → z < 2 → 1028 + x * 64 + z * 824 + y * 2 ^ 54 ≡ attrWord (x + (1 - y) * 4 + (1 - z) * 8)
+-- the bits of device memory, bit 10 among them, and what those of normal memory are more
+abbrev pub deviceBits : ℕ
+deviceBits = 1024
+
+abbrev pub normalMore : ℕ
+normalMore = 828
+
+pub attr-of-bits : (x y z : ℕ) → x < 4 → y < 2 → z < 2 → deviceBits + x * 64 + z * normalMore + y * 2 ^ 54 ≡ attrWord (x + (1 - y) * 4 + (1 - z) * 8)
 attr-of-bits x y z hx hy hz =
     let a = x + (1 - y) * 4 + (1 - z) * 8 in
     let p : a / 8 % 2 ≡ 1 - z = omega arith in
@@ -97,7 +104,7 @@ module _ (b h a : ℕ) (below : b < physical) (paged : b % 4096 ≡ 0) (few : a 
   abbrev inert : ℕ
   inert = 1 - a / 4 % 2
 
-  parts : Parts (frameWord b h a) (b / 4096) (a % 4) (16 + 12 * normal) (4 + typeAt h + 56 * normal) inert
+  parts : Parts (frameWord b h a) (b / 4096) (a % 4) (16 + 12 * normal) (typeAt h + 60 * normal) inert
   unfolding frameWord
   parts = omega (arith, type-le h)
 
@@ -110,7 +117,7 @@ module _ (b h a : ℕ) (below : b < physical) (paged : b % 4096 ≡ 0) (few : a 
 
   pub attrs-of : attrsIn (frameWord b h a) ≡ a
   attrs-of =
-      let five : (4 + typeAt h + 56 * normal) / 32 ≡ normal = omega (arith, type-le h) in
+      let five : (typeAt h + 60 * normal) / 32 ≡ normal = omega (arith, type-le h) in
       let execute : 1 - inert ≡ a / 4 % 2 = omega arith in
       let device : 1 - normal ≡ a / 8 % 2 = omega arith in
       attrs-parts parts ∙ rw (five, execute, device) (omega arith)

@@ -9,12 +9,11 @@ use Rattle.entry.specs.declared.Entry.{Entry}
 use Rattle.entry.specs.declared.Entry.the-variants.{Empty, Table, Frame, Damaged}
 
 -- Attributes 0 to 15: 1 read, 2 write, 4 execute, 8 device. Their word: bit 10 always; bit 6 for read; bit 7 for write; bit 54 when not
--- execute; normal memory adds bits 5:2 = 1111 and bits 9:8 = 11, device memory bits 5:2 = 0001 and bits 9:8 = 00.
+-- execute; normal memory adds bits 5:2 = 1111 and bits 9:8 = 11; for device memory both are 0.
 abbrev pub attrWord : ℕ → ℕ
 attrWord a =
     2 ^ 10 + 2 ^ 6 * (a % 2) + 2 ^ 7 * (a / 2 % 2) + 2 ^ 54 * (1 - a / 4 % 2)
     + (1 - a / 8 % 2) * (15 * 2 ^ 2 + 3 * 2 ^ 8)
-    + a / 8 % 2 * (1 * 2 ^ 2)
 
 -- the type of a frame's word: 3 at the last level, 1 above it
 unfoldable pub typeAt : ℕ → ℕ

@@ -18,21 +18,21 @@ const ATTRIBUTES: [u64; 16] = [
     0x0000_0000_0000_077C,
     0x0000_0000_0000_07BC,
     0x0000_0000_0000_07FC,
-    0x0040_0000_0000_0404,
-    0x0040_0000_0000_0444,
-    0x0040_0000_0000_0484,
-    0x0040_0000_0000_04C4,
-    0x0000_0000_0000_0404,
-    0x0000_0000_0000_0444,
-    0x0000_0000_0000_0484,
-    0x0000_0000_0000_04C4,
+    0x0040_0000_0000_0400,
+    0x0040_0000_0000_0440,
+    0x0040_0000_0000_0480,
+    0x0040_0000_0000_04C0,
+    0x0000_0000_0000_0400,
+    0x0000_0000_0000_0440,
+    0x0000_0000_0000_0480,
+    0x0000_0000_0000_04C0,
 ];
 // Bit 54 of a word: not execute.
 const NO_EXECUTE: u64 = 0x0040_0000_0000_0000;
 // The bits of normal and of device memory, with bit 10, which is always there.
 const NORMAL: u64 = 0x73C;
 
-const DEVICE: u64 = 0x404;
+const DEVICE: u64 = 0x400;
 // A word's bits below the base of a frame count up to this.
 const BELOW_BASE: u64 = 4096;
 // The greatest height of a frame.

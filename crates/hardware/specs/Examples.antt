@@ -11,7 +11,7 @@ use Rattle.model.specs.Cases.{Both, format, map}
 use Rattle.model.specs.Ledger.{coverOf}
 use Rattle.demand.specs.Demand3.{mapC, unmapC}
 use Rattle.hardware.specs.Machine.{Translation, walk, stage2, zerosFrom, singles, writesOf, concerns}
-use Rattle.hardware.specs.Machine.{nGnRE, writeBack, device, normal, outerShareable, innerShareable}
+use Rattle.hardware.specs.Machine.{nGnRnE, writeBack, device, normal, outerShareable, innerShareable}
 
 -- the cases, and a device page beside them
 abbrev pages : Both
@@ -55,7 +55,7 @@ pub record Examples : Type 0 where
     writable = true;
     runsAtEL1 = false;
     runsAtEL0 = false;
-    kind = device nGnRE;
+    kind = device nGnRnE;
     shared = outerShareable;
   })
   -- where nothing is mapped, and past the space

@@ -114,12 +114,12 @@ has-blocks G Z h l = go (eqb (G .page) 12) refl
     go true e = omega (arith, Z .blocks-low)
     go false e = omega (arith, Z .blocks-large (eqb-false (G .page) 12 e))
 
--- MemAttr of our words, d telling whether device is asked for: 1111 or 0001
+-- MemAttr of our words, d telling whether device is asked for: 1111 or 0000
 abbrev high₂ : ℕ → ℕ
 high₂ d = 3 - 3 * d
 
 abbrev low₂ : ℕ → ℕ
-low₂ d = 3 - 2 * d
+low₂ d = 3 - 3 * d
 
 kinds : (d : ℕ) → d ≤ 1 → kindOf (high₂ d) (low₂ d) ≡ cond (eqb d 1) deviceKind normalKind
 kinds zero l = refl

@@ -223,9 +223,9 @@ Stands G area ws mem = (t i : ℕ) → t < total area → i < entries G → mem 
 
 -- ---- the ledger
 
--- the memory that the attribute 8, device, asks for: Device-nGnRE
+-- the memory that the attribute 8, device, asks for: Device-nGnRnE
 abbrev pub deviceKind : Kind
-deviceKind = device nGnRE
+deviceKind = device nGnRnE
 
 -- and that of other mappings: Normal, write-back
 abbrev pub normalKind : Kind

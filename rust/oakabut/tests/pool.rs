@@ -89,7 +89,7 @@ fn the_hosts_two_calls() {
             assert_eq!(word_meaning(word ^ 1, size), Err(Refusal::DAMAGED));
         }
     }
-    assert_eq!(frame_word(0, PAGE, DEVICE + READ + WRITE).unwrap() % 4096, 0x4C7);
+    assert_eq!(frame_word(0, PAGE, DEVICE + READ + WRITE).unwrap() % 4096, 0x4C3);
     assert_eq!(frame_word(1, 1, 16), Err(Refusal::SIZE));
     assert_eq!(frame_word(1 << 48, PAGE, 16), Err(Refusal::ATTRIBUTES));
     assert_eq!(frame_word((1 << 48) + 1, PAGE, 15), Err(Refusal::RANGE));

@@ -16,7 +16,7 @@ const NOT_EXECUTE: u64 = 1 << 54;
 
 /// Bits 10:8 and 5:2 of normal memory and of device memory.
 const NORMAL: u64 = 1 << 10 | 0b11 << 8 | 0b1111 << 2;
-const DEVICE: u64 = 1 << 10 | 0b0001 << 2;
+const DEVICE: u64 = 1 << 10;
 
 /// The type of a frame: 3 at the last level and 1 above it.
 #[inline]

@@ -106,7 +106,7 @@ fn further_cases() {
     assert_eq!(Pool::new(4, 4).map(0, F, 4096, 3), Ok(3));
     let mut pool = Pool::new(3, 4);
     assert_eq!(pool.map(0, F, 4096, 11), Ok(2));
-    assert_eq!(pool.words[1024] % 4096, 0x4C7);
+    assert_eq!(pool.words[1024] % 4096, 0x4C3);
 }
 
 #[test]
@@ -118,7 +118,7 @@ fn the_attribute_words() {
         assert_eq!(bits(6, 6), a & 1);
         assert_eq!(bits(7, 7), a >> 1 & 1);
         assert_eq!(bits(54, 54), 1 - (a >> 2 & 1));
-        assert_eq!((bits(5, 2), bits(9, 8)), if a & 8 == 0 { (0b1111, 0b11) } else { (0b0001, 0) });
+        assert_eq!((bits(5, 2), bits(9, 8)), if a & 8 == 0 { (0b1111, 0b11) } else { (0b0000, 0) });
         assert_eq!(word(a) & !(1 << 54 | 0x7FC), 0);
     }
 }
