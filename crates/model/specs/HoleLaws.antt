@@ -4,15 +4,18 @@ use mathlib.Core.Path.{_≡_, refl, sym, ap, subst, _∙_}
 use mathlib.Core.Logic.{_⊎_, inl, inr, ⊎-elim}
 use mathlib.Core.Bool.{Bool, true, false, cond, false≢true}
 use mathlib.Core.List.{List, List·Memᴰ}
-use mathlib.Core.Option.{none}
+use mathlib.Core.Option.{Option, some, none}
+use lib.Dec.{leb, eqb}
 use native.Mathlib.Decide.{decLt, decLe}
 use native.Mathlib.Omega.{arith}
-use Rattle.path.specs.Geometry.{Granule, sizeAt}
+use Rattle.path.specs.Geometry.{Granule, sizeAt, spaceOf}
 use Rattle.path.specs.Paths.{baseAt}
 use Rattle.path.specs.Laws.{size-pos, size-le}
 use Rattle.path.specs.RegionLaws.{Placed, nested, lower, higher, base-le, base-end, base-aligned, base-inside, base-within, nested-or-apart}
-use Rattle.model.specs.Answers.{Mapping}
-use Rattle.model.specs.Ledger.{Region, region, Ledger, anyOverlap, coverOf, holeFrom, holeOf}
+use Rattle.model.specs.Answers.{Mapping, Answer, gave, refused, hole}
+use Rattle.model.specs.Calls.{unmapTests}
+use Rattle.model.specs.DescentLaws.{clash}
+use Rattle.model.specs.Ledger.{Region, region, Ledger, withLive, Entered, entered, anyOverlap, coverOf, dropAt, freeTables, holeFrom, holeOf, holeAt, queryOf, queryL, unmapOf, unmapL}
 use Rattle.model.specs.Sound.{Each}
 use Rattle.model.specs.Holes.{Within, Shares, Touched, HoldsOne, Around, IsHole, Shaped}
 use Rattle.model.specs.LedgerLaws.{any-overlap, cover-none}
@@ -109,6 +112,41 @@ module _ (G : Granule) where
     pub hole-is : 0 < A .levels → coverOf a L ≡ none → IsHole G A a (holeOf G A a)
     unfolding holeOf
     hole-is l e = hole-from (cover-none a L e) (A .levels - 1) (omega arith) (λ q Q. absurd (omega (arith, Q .low)))
+
+    -- so where query or unmap answers 9 with a base and a size, that region is the hole
+    is-hole : 0 < A .levels → coverOf a L ≡ none → (b s : ℕ) → holeAt (holeOf G A a) ≡ hole b s → IsHole G A a (region s b)
+    is-hole l c b s e = subst (IsHole G A a) (same (holeOf G A a) e) (hole-is l c)
+      where
+        same : (r : Region) → holeAt r ≡ hole b s → r ≡ region s b
+        same r e =
+            let x : r .size ≡ s = cc in
+            let y : r .first ≡ b = cc in
+            λ i. region (x i) (y i)
+
+    pub query-hole : 0 < A .levels → (b s : ℕ) → queryL G A a ≡ hole b s → IsHole G A a (region s b)
+    unfolding queryL
+    query-hole l b s = go (leb (spaceOf G (A .levels)) a) (coverOf a L) refl
+      where
+        go : (y : Bool) (c : Option Mapping) → coverOf a L ≡ c → cond y (refused 4) (queryOf G A a c) ≡ hole b s → IsHole G A a (region s b)
+        go true c q e = clash (cc)
+        go false none q e = is-hole l q b s e
+        go false (some m) q e = clash (cc)
+
+    pub unmap-hole : 0 < A .levels → (b s : ℕ) → unmapL G A a .answer ≡ hole b s → IsHole G A a (region s b)
+    unfolding unmapL unmapOf
+    unmap-hole l b s = go (eqb (unmapTests G (A .levels) a) 0) (coverOf a L) refl
+      where
+        go : (y : Bool) (c : Option Mapping) → coverOf a L ≡ c → cond y (unmapOf G A a c) (entered (refused (unmapTests G (A .levels) a)) A) .answer ≡ hole b s → IsHole G A a (region s b)
+        go false c q e = clash (cc)
+        go true none q e = is-hole l q b s e
+        go true (some m) q e = at (eqb (m .at) a) e
+          where
+            B : Ledger
+            B = withLive A (dropAt a L)
+
+            at : (z : Bool) → cond z (entered (gave (m .frame) (m .size) (m .attributes) (freeTables G B - freeTables G A)) B) (entered (refused 10) A) .answer ≡ hole b s → IsHole G A a (region s b)
+            at true e = clash (cc)
+            at false e = clash (cc)
 
     -- a region that is held by a larger one around the address, and holds a mapping, has the larger one touched
     touched-above : {i j : ℕ} → i ≤ j → (q : Region) → Around G (A .levels) a i q → HoldsOne L q → Touched L (here a j)

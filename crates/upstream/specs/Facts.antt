@@ -13,7 +13,7 @@ use Rattle.path.specs.Laws.{size-injective}
 use Rattle.path.specs.Paths.{baseAt}
 use Rattle.model.specs.Answers.{Mapping}
 use Rattle.model.specs.Ledger.{overlaps, anyOverlap, holdsAddress, coverOf, dropAt, Region, region, regionsOf, hasRegion, newRegions, regionsNeeded}
-use Rattle.demand.specs.Shown.{and-true, true-and, or-true, true-or}
+use Rattle.model.specs.LedgerLaws.{and-true, or-true}
 use Rattle.upstream.specs.State.{Overlap, Within}
 
 -- the ledger without the mapping at an address has the others, and nothing else
