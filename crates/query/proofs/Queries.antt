@@ -12,7 +12,7 @@ use Rattle.path.specs.Laws.{level-some, in-space, past-space, good-setup}
 use Rattle.path.specs.declared.Setup.{Setup}
 use Rattle.entry.specs.declared.Entry.{Entry}
 use Rattle.entry.specs.declared.Entry.the-variants.{Frame}
-use Rattle.model.specs.Answers.{Pool, found, refused, hole, mapping}
+use Rattle.model.specs.Answers.{Pool, found, refused, mapping}
 use Rattle.model.specs.Calls.{goodPool, walkTo, foundAt, queryW}
 use Rattle.query.specs.Asks.{endsAt}
 
@@ -26,12 +26,6 @@ pub at-frame :
     → found (mapping b f s k) ≡ foundAt four a e h
 unfolding foundAt
 at-frame a h l q x y = rw (x ∙ level-some four l _, y ∙ level-some four l _) (at-entry a h q)
-
--- the hole that the code finds at a height
-pub at-empty :
-    (a h : ℕ) {b s : ℕ} → h < 4 → b ≡ atLevel four h (baseAt four a h) → s ≡ atLevel four h (sizeAt four h)
-    → hole b s ≡ hole (baseAt four a h) (sizeAt four h)
-at-empty a h l x y = rw (x ∙ level-some four l _, y ∙ level-some four l _)
 
 -- past the first test the setup is good
 pub good : {s : Setup} {w l : ℕ} {r : Bool} → r ≡ goodSetup four s w l → not r ≡ false → GoodSetup four s w l
