@@ -19,9 +19,9 @@ fn hole_told(height: usize, address: u64, places: &mut [u64; 4]) -> u64
     requires { ⌜ height ≤ 3 ⌝ }
     ensures { λ r. ⌜ answerOf r (now (places .exit)) ≡ hole (baseAt four address height) (sizeAt four height) ⌝ }
 {
-    let start = path::base_at(address, height);
-    let size = path::size_at(height);
-    *places = [start, size, 0, 0];
+    let base = path::base_at(address, height);
+    let bytes = path::size_at(height);
+    *places = [base, bytes, 0, 0];
     9
 }
 
