@@ -25,9 +25,9 @@ use Rattle.model.specs.Answers.{Answer, found, refused, Pool}
 use Rattle.model.specs.declared.Walked.{Walked}
 use Rattle.model.specs.Walk.{noWay, walkFrom}
 use Rattle.model.specs.Calls.{goodPool, walkTo, foundAt, queryW}
-use Rattle.model.specs.Ledger.{Ledger, ledger, anyOverlap, coverOf, Region, region, holeOf, holeAt, queryOf, queryL}
+use Rattle.model.specs.Ledger.{Ledger, ledger, anyOverlap, coverOf, holeOf, holeAt, queryOf, queryL}
 use Rattle.model.specs.Sound.{Each}
-use Rattle.model.specs.Holes.{Touched, HoldsOne, Around, IsHole, Shaped}
+use Rattle.model.specs.Holes.{Touched, HoldsOne, IsHole, Shaped}
 use Rattle.model.specs.LedgerLaws.{any-overlap}
 use Rattle.model.specs.HoleLaws.{here, around-here, around-one, hole-is, hole-only}
 use Rattle.tree.specs.Region.{anc, page, anc-page}

@@ -1,21 +1,20 @@
 -- Laws of holes. The ledger's hole keeps the customer's two sentences, they fix it, and it is the largest untouched region of the tree's sizes.
 use Prim.Native.Nat.{ℕ, zero, suc, _+_, _-_, _≤_, _<_}
 use mathlib.Core.Path.{_≡_, refl, sym, ap, subst, _∙_}
-use mathlib.Core.Logic.{_⊎_, inl, inr, ⊎-elim}
 use mathlib.Core.Bool.{Bool, true, false, cond, false≢true}
 use mathlib.Core.List.{List, List·Memᴰ}
 use mathlib.Core.Option.{Option, some, none}
 use lib.Dec.{leb, eqb}
-use native.Mathlib.Decide.{decLt, decLe}
+use native.Mathlib.Decide.{decLe}
 use native.Mathlib.Omega.{arith}
 use Rattle.path.specs.Geometry.{Granule, sizeAt, spaceOf}
 use Rattle.path.specs.Paths.{baseAt}
 use Rattle.path.specs.Laws.{size-pos, size-le}
 use Rattle.path.specs.RegionLaws.{Placed, nested, lower, higher, base-le, base-end, base-aligned, base-inside, base-within, nested-or-apart}
-use Rattle.model.specs.Answers.{Mapping, Answer, gave, refused, hole}
+use Rattle.model.specs.Answers.{Mapping, gave, refused, hole}
 use Rattle.model.specs.Calls.{unmapTests}
 use Rattle.model.specs.DescentLaws.{clash}
-use Rattle.model.specs.Ledger.{Region, region, Ledger, withLive, Entered, entered, anyOverlap, coverOf, dropAt, freeTables, holeFrom, holeOf, holeAt, queryOf, queryL, unmapOf, unmapL}
+use Rattle.model.specs.Ledger.{Region, region, Ledger, withLive, entered, anyOverlap, coverOf, dropAt, freeTables, holeFrom, holeOf, holeAt, queryOf, queryL, unmapOf, unmapL}
 use Rattle.model.specs.Sound.{Each}
 use Rattle.model.specs.Holes.{Within, Shares, Touched, HoldsOne, Around, IsHole, Shaped}
 use Rattle.model.specs.LedgerLaws.{any-overlap, cover-none}

@@ -1,20 +1,16 @@
 -- The ledger's tests, as facts about its mappings.
 use mathlib.Core.Path.{_≡_, refl, ap, sym, _∙_}
-use mathlib.Core.Logic.{_≢_, _⊎_, inl, inr, ⊎-elim, _↔_}
-use mathlib.Core.Bool.{Bool, true, false, cond, false≢true}
+use mathlib.Core.Logic.{_≢_, _⊎_, ⊎-elim, _↔_}
+use mathlib.Core.Bool.{Bool, true, false, cond}
 use mathlib.Core.List.{List, [], _∷_, List·Memᴰ, List·Memᴰ·head as here, List·Memᴰ·tail as there, List·Memᴰ·not-nil, List·Memᴰ·cases-cons, List·Memᴰ·append-cases}
-use mathlib.Core.Option.{some, none}
 use Prim.Native.Nat.{ℕ, zero, suc, _<_}
-use native.Mathlib.Omega.{arith}
 use lib.Dec.{ltb, eqb}
-use borrow.Author.Tests.{ltb-true, leb-true, lt-ltb, le-leb, eqb-true, eqb-false}
+use borrow.Author.Tests.{ltb-true, eqb-true, eqb-false}
 use Rattle.path.specs.Geometry.{Granule, sizeAt, Sane}
 use Rattle.path.specs.Laws.{size-injective}
 use Rattle.path.specs.Paths.{baseAt}
 use Rattle.model.specs.Answers.{Mapping}
-use Rattle.model.specs.Ledger.{overlaps, anyOverlap, holdsAddress, coverOf, dropAt, Region, region, regionsOf, hasRegion, newRegions, regionsNeeded}
-use Rattle.model.specs.LedgerLaws.{and-true, or-true}
-use Rattle.upstream.specs.State.{Overlap, Within}
+use Rattle.model.specs.Ledger.{dropAt, Region, region, regionsOf, hasRegion, newRegions, regionsNeeded}
 
 -- the ledger without the mapping at an address has the others, and nothing else
 pub drop-has : (a : ℕ) (L : List Mapping) (m : Mapping) → List·Memᴰ m (dropAt a L) ↔ (List·Memᴰ m L × (m .at ≢ a))

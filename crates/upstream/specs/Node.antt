@@ -8,7 +8,7 @@ use Prim.Native.Nat.{ℕ, zero, suc, _+_, _-_, _*_, _%_, _≤_, _<_}
 use native.Mathlib.Omega.{arith}
 use native.Mathlib.Decide.{ℕ-discrete}
 use lib.Dec.{ltb}
-use lib.ListN.{length, getD, set, take}
+use lib.ListN.{length, getD, take}
 use borrow.Author.Tests.{le-ltb}
 use Rattle.path.specs.Geometry.{Granule, entries, sizeAt, heightOf, Sane}
 use Rattle.path.specs.Areas.{Area, areaOf, total}
@@ -23,7 +23,7 @@ use Rattle.entry.specs.declared.Entry.the-variants.{Empty, Table, Frame, Damage
 use Rattle.model.specs.Answers as answers
 use Rattle.model.specs.Answers.{took, gave, refused, hole, Pool, Done, done, refuse}
 use Rattle.model.specs.declared.Walked.{Walked}
-use Rattle.model.specs.Walk.{slot, atHeight, noWay, onward, walkFrom}
+use Rattle.model.specs.Walk.{atHeight}
 use Rattle.model.specs.Descent.{StopsAt, at-root}
 use Rattle.model.specs.DescentLaws.{stops-empty}
 use Rattle.model.specs.Writes.{mayTake}
