@@ -89,7 +89,7 @@ pub fn all(smoke: bool) -> Vec<Case> {
     for tables in [64, 512] {
         cases.push(full_pool(tables, share(400)));
     }
-    cases.extend([audit(16, share(400)), audit(64, share(100)), audit(512, share(16)), audit_free(share(1000))]);
+    cases.extend([audit(16, share(400)), audit(64, share(100)), audit_full(64, share(100)), audit_full(512, share(16)), audit_free(share(1000))]);
     cases.extend([format(16, share(2000)), format(64, share(500)), format(512, share(80))]);
     cases
 }
@@ -170,6 +170,12 @@ fn format(tables: u64, rounds: usize) -> Case {
 fn audit(tables: u64, rounds: usize) -> Case {
     let mappings = (0..(tables - 2) * 256).map(|i| (2 * i * PAGE, PAGE)).collect();
     Case { name: format!("audit, {tables} tables in use"), levels: 3, tables, mappings, work: Work::Audit, rounds }
+}
+
+/// All tables are in use, and every page of the tables of pages is mapped: with 512 tables 261,120 of them.
+fn audit_full(tables: u64, rounds: usize) -> Case {
+    let mappings = (0..(tables - 2) * 512).map(|i| (i * PAGE, PAGE)).collect();
+    Case { name: format!("audit, all pages of {tables} tables"), levels: 3, tables, mappings, work: Work::Audit, rounds }
 }
 
 /// Four of 64 tables are in use, and 60 are free.
