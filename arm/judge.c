@@ -13,7 +13,7 @@
 #include "board.h"
 #include "oakabut.h"
 
-enum { HISTORIES = 64, CALLS = 96, MOST_TABLES = 64 };
+enum { HISTORIES = 64, CALLS = 96, MOST_TABLES = 512 };
 
 static uint64_t pool[512 * MOST_TABLES] __attribute__((aligned(4096)));
 static uint32_t list[MOST_TABLES];
@@ -169,7 +169,7 @@ static void unmap_something(void) {
 }
 
 static void history(uint64_t number) {
-    static const uint64_t counts[] = {1, 2, 3, 4, 6, 9, 16, 64};
+    static const uint64_t counts[] = {1, 2, 3, 4, 6, 9, 16, 512};
     uint64_t levels = 3 + number % 2, tables = counts[number / 2 % 8], before = differences, unsound = 0;
     state = 1000003 * number;
     lives = 0;

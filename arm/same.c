@@ -14,7 +14,7 @@
 
 #include "oakabut.h"
 
-enum { HISTORIES = 96, CALLS = 256, SHOW = 64, MOST_TABLES = 64, MAPPED = 16 };
+enum { HISTORIES = 96, CALLS = 256, SHOW = 64, MOST_TABLES = 512, USUAL_TABLES = 64, MAPPED = 16 };
 #define LIMIT (UINT64_C(1) << 48)
 
 static uint64_t words[512 * MOST_TABLES];
@@ -114,7 +114,7 @@ static struct lent lent(void) {
     case 0: l.setup.levels = below(7); break;
     case 1: l.setup.base = once_in(2) ? l.setup.base + 1 : anything(); break;
     case 2: l.setup.base = LIMIT - 4096 * l.setup.tables + 4096 * below(2); break;
-    case 3: l.setup.tables = once_in(2) ? anything() : below(MOST_TABLES + 2); break;
+    case 3: l.setup.tables = once_in(2) ? anything() : once_in(2) ? MOST_TABLES + below(2) : below(USUAL_TABLES + 2); break;
     case 4: l.setup.free = once_in(2) ? anything() : l.setup.tables; break;
     case 5: l.words += once_in(2) ? 1 : 512; break;
     default: l.list -= 1; break;
@@ -126,7 +126,7 @@ static void call_format(void) {
     oak_setup answer;
     memset(&answer, 0x5A, sizeof answer);
     uint64_t levels = once_in(8) ? below(7) : setup.levels, base = once_in(8) ? anything() : setup.base;
-    uint64_t tables = once_in(8) ? below(MOST_TABLES + 3) : setup.tables, room = once_in(8) ? below(MOST_TABLES + 1) : tables;
+    uint64_t tables = once_in(8) ? below(USUAL_TABLES + 3) : setup.tables, room = once_in(8) ? below(USUAL_TABLES + 1) : tables;
     if (room > MOST_TABLES) room = MOST_TABLES;
     uint64_t refusal = oak_format(levels, base, tables, words, 512 * room, list, room, &answer);
     answered(0, "format", refusal, &answer, 4);

@@ -14,7 +14,7 @@ enum {
     MIN_LEVELS = 3,
     MAX_LEVELS = 4,
     FRAME_LEVELS = 3, /* frames stand in the tables with at most so many levels left */
-    MAX_TABLES = 64,
+    MAX_TABLES = 512,
     ENTRIES = 1 << INDEX_BITS
 };
 

@@ -83,7 +83,7 @@ uint64_t oak_word_meaning(uint64_t word, uint64_t size);
 typedef struct {
     uint64_t levels; /* 3 or 4 */
     uint64_t base;   /* the address of table 0: a multiple of 4096, base + 4096 * tables at most 2^48 */
-    uint64_t tables; /* 1 to 64 */
+    uint64_t tables; /* 1 to 512 */
     uint64_t free;   /* how many tables are free: at most tables - 1 */
 } oak_setup;
 

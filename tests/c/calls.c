@@ -14,7 +14,7 @@
 
 #define COUNT(a) (sizeof(a) / sizeof((a)[0]))
 #define GUARD 8
-#define MOST_TABLES 65 /* one more than a pool may have */
+#define MOST_TABLES 513 /* one more than a pool may have */
 #define LIMIT (UINT64_C(1) << 48)
 #define SPACE_3 (UINT64_C(1) << 39)
 #define MOST UINT64_MAX
@@ -223,7 +223,7 @@ static void more_cases(void) {
     query_is(0xFFF, 0, FRAME, 4096, 11);
     audit_is(4, 1, 0);
     map_refused(UINT64_C(1) << 39, FRAME, OAK_1_GIB, 3, 7);
-    fresh(3, LIMIT - 64 * 4096, 64);
+    fresh(3, LIMIT - 512 * 4096, 512);
     writes(1, UINT64_C(0x0000FFFFC0000000) + 1 + 0x7FC);
     map_is(0x40000000, UINT64_C(0xFFFFC0000000), OAK_1_GIB, 7, 0, 0);
     query_is(0x7FFFFFFF, 0x40000000, UINT64_C(0xFFFFC0000000), OAK_1_GIB, 7);
@@ -285,7 +285,7 @@ static void bad_setups(void) {
     static const oak_setup bad[] = {
         {0, POOL, 4, 1}, {2, POOL, 4, 1}, {5, POOL, 4, 1}, {MOST, POOL, 4, 1}, {3 + (UINT64_C(1) << 32), POOL, 4, 1},
         {3, POOL + 1, 4, 1}, {3, POOL + 2048, 4, 1}, {3, LIMIT - 4 * 4096 + 4096, 4, 1}, {3, LIMIT, 4, 1}, {3, 0 - UINT64_C(4096), 4, 1},
-        {3, MOST, 4, 1}, {3, POOL, 0, 1}, {3, POOL, 0, 0}, {3, POOL, 3, 1}, {3, POOL, 5, 1}, {3, POOL, 65, 1}, {3, POOL, MOST, 1},
+        {3, MOST, 4, 1}, {3, POOL, 0, 1}, {3, POOL, 0, 0}, {3, POOL, 3, 1}, {3, POOL, 5, 1}, {3, POOL, 513, 1}, {3, POOL, 1 + (UINT64_C(1) << 32), 1}, {3, POOL, MOST, 1},
         {3, POOL, 4, 4}, {3, POOL, 4, 5}, {3, POOL, 4, MOST}, {3, POOL, 4, 1 + (UINT64_C(1) << 32)}, {0, 0, 0, 0}, {4, POOL, 4, 4},
     };
     three_mappings();
@@ -294,10 +294,10 @@ static void bad_setups(void) {
         all_refuse_1();
         if (bad[i].free < 4) format_is(bad[i].levels, bad[i].base, bad[i].tables, 1);
     }
-    setup = (oak_setup){3, POOL, 65, 1};
-    lengths_of(65);
+    setup = (oak_setup){3, POOL, 513, 1};
+    lengths_of(513);
     all_refuse_1();
-    format_is(3, POOL, 65, 1);
+    format_is(3, POOL, 513, 1);
 }
 
 /* also no length at all: the pointers are good ones then too */

@@ -1,5 +1,5 @@
 /* No call uses more than 8 KiB of stack. Each call is made on a stack of its own that was painted before, and the paint that is gone is counted:
- * on full pools of 64 tables, cyclic ones and nonsense, three and four levels. The last line is `N passed, M failed`. */
+ * on full pools of 512 tables, cyclic ones and nonsense, three and four levels. The last line is `N passed, M failed`. */
 #define _XOPEN_SOURCE 700
 #include <stdint.h>
 #include <stdio.h>
@@ -8,7 +8,7 @@
 
 #include "oakabut.h"
 
-enum { TABLES = 64, ENTRIES = 512, STACK = 65536, MOST = 8192, PAINT = 0xA5, KNOWN = 4000 };
+enum { TABLES = 512, ENTRIES = 512, STACK = 65536, MOST = 8192, PAINT = 0xA5, KNOWN = 4000 };
 
 static uint64_t words[TABLES * ENTRIES];
 static uint32_t list[TABLES];
@@ -79,7 +79,7 @@ int main(void) {
     make(5), make(6);
     for (levels = 3; levels <= 4; levels++) {
         make(0);
-        for (int i = 0; i < 300; i++) { /* far apart, so that tables run out; then back again */
+        for (int i = 0; i < TABLES + 50; i++) { /* far apart, so that tables run out; then back again */
             address = ((uint64_t)i << 21) + ((uint64_t)i << 12);
             frame = UINT64_C(0x80000000) + ((uint64_t)i << 12);
             size = 4096;
@@ -88,7 +88,7 @@ int main(void) {
             if (i % 50 == 0) make(4);
         }
         make(4);
-        for (int i = 0; i < 300; i++) {
+        for (int i = 0; i < TABLES + 50; i++) {
             address = ((uint64_t)i << 21) + ((uint64_t)i << 12);
             make(2), make(3);
             if (i % 50 == 0) make(4);

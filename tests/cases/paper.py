@@ -21,7 +21,7 @@ ATTRS = [attribute_word(a) for a in range(16)]
 
 
 def bad_numbers(levels, P, n, words, places):
-    return (levels not in (3, 4) or P % 4096 != 0 or not 1 <= n <= 64 or P + 4096 * n > LIMIT
+    return (levels not in (3, 4) or P % 4096 != 0 or not 1 <= n <= 512 or P + 4096 * n > LIMIT
             or len(words) != 512 * n or len(places) != n)
 
 

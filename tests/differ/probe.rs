@@ -76,7 +76,7 @@ fn paths() {
     }
     for levels in 0..7 {
         for base in [0, 1, 2048, PAGE, BASE, TOP - 64 * PAGE, TOP - PAGE, TOP, TOP + PAGE, 0u64.wrapping_sub(PAGE), 0u64.wrapping_sub(64 * PAGE)] {
-            for tables in [0, 1, 2, 3, 4, 63, 64, 65, 1 << 55, u64::MAX] {
+            for tables in [0, 1, 2, 3, 4, 63, 64, 65, 511, 512, 513, 1 << 55, u64::MAX] {
                 for words in [512u64.wrapping_mul(tables), 511u64.wrapping_mul(tables), tables.wrapping_add(1)] {
                     for places in [tables, tables.wrapping_sub(1), levels] {
                         ask!(path::good_numbers, levels, base, tables, words as usize, places as usize);
@@ -424,7 +424,7 @@ fn damage(lent: &mut Lent, kind: u64, random: &mut Random) {
         _ => match random.below(6) {
             0 => lent.setup[0] = random.of(&[0, 1, 2, 3, 4, 5, u64::MAX]),
             1 => lent.setup[1] = random.of(&[0, base + 1, base + PAGE, TOP, u64::MAX - 4095]),
-            2 => lent.setup[2] = random.of(&[0, tables - 1, tables + 1, 65, u64::MAX]),
+            2 => lent.setup[2] = random.of(&[0, tables - 1, tables + 1, 65, 513, u64::MAX]),
             3 => lent.setup[3] = random.of(&[tables, tables + 1, u64::MAX]),
             4 => lent.words.push(0),
             _ => lent.list.push(0),

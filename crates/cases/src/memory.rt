@@ -1,6 +1,6 @@
 // The memory that there is, of which each call is lent the first words and places.
 
-// 64 tables and one more.
+// 65 tables.
 pub(crate) const WORDS: usize = 33280;
 
 pub(crate) const PLACES: usize = 65;

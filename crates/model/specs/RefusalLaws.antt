@@ -180,7 +180,7 @@ module _ {levels base tables words places : ℕ} where
   bad-broken e =
       broke e three-four (λ e.
       broke e (λ q. no-table (leb-false 1 tables q)) (λ e.
-      broke e (λ q. many-tables (leb-false tables 64 q)) (λ e.
+      broke e (λ q. many-tables (leb-false tables 512 q)) (λ e.
       broke e (λ q. base-unaligned (eqb-false (base % 4096) 0 q)) (λ e.
       broke e (λ q. base-high (leb-false (base + 4096 * tables) (2 ^ 48) q)) (λ e.
       broke e (λ q. bad-words (eqb-false words (512 * tables) q)) (λ q. bad-places (eqb-false places tables q)))))))

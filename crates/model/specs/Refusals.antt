@@ -17,12 +17,12 @@ use Rattle.model.specs.Sound.{wordAt, reachedOf, mappingsOf, SoundPool}
 
 -- ---- when a number applies
 
--- 1: a setup number or a length breaks one of the rules: levels 3 or 4, tables 1 to 64, a base that is a multiple of 4096 with base + 4096 × tables at most
+-- 1: a setup number or a length breaks one of the rules: levels 3 or 4, tables 1 to 512, a base that is a multiple of 4096 with base + 4096 × tables at most
 -- 2^48, 512 × tables words, and as many free-list places as tables
 pub data Broken (levels base tables words places : ℕ) : Type 0 where
   bad-levels : levels ≢ 3 → levels ≢ 4 → Broken levels base tables words places
   no-table : tables < 1 → Broken levels base tables words places
-  many-tables : 64 < tables → Broken levels base tables words places
+  many-tables : 512 < tables → Broken levels base tables words places
   base-unaligned : base % 4096 ≢ 0 → Broken levels base tables words places
   base-high : 2 ^ 48 < base + 4096 * tables → Broken levels base tables words places
   bad-words : words ≢ 512 * tables → Broken levels base tables words places

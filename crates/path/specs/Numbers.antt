@@ -24,7 +24,7 @@ withFree s f = setupOf (s .levels) (areaOf s) f
 
 -- the most tables that a pool may have
 abbrev pub mostTables : ℕ
-mostTables = 64
+mostTables = 512
 
 -- levels, pool base and table count are good, there are as many words as the tables have, and as many free-list places as tables
 unfoldable pub goodNumbers : Granule → ℕ → Area → ℕ → ℕ → Bool

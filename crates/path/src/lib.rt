@@ -21,7 +21,7 @@ pub const GIB512: u64 = 549755813888;
 // No frame and no table ends past this address.
 pub const PHYSICAL: u64 = 281474976710656;
 // The most tables that a pool may have.
-pub const MOST_TABLES: u64 = 64;
+pub const MOST_TABLES: u64 = 512;
 
 pub struct Setup {
     pub levels: u64,

@@ -86,7 +86,11 @@ pub fn all(smoke: bool) -> Vec<Case> {
     }
     cases.extend([beside("two entries", 1, share(16_000)), beside("a full table", 511, share(16_000))]);
     cases.extend([map_unmap(3, 1, share(800)), map_unmap(3, 2, share(400)), map_unmap(4, 3, share(400))]);
-    cases.extend([audit(16, share(400)), audit(64, share(100)), audit_free(share(1000)), format(16, share(2000)), format(64, share(500))]);
+    for tables in [64, 512] {
+        cases.push(full_pool(tables, share(400)));
+    }
+    cases.extend([audit(16, share(400)), audit(64, share(100)), audit_full(64, share(100)), audit_full(512, share(16)), audit_free(share(1000))]);
+    cases.extend([format(16, share(2000)), format(64, share(500)), format(512, share(80))]);
     cases
 }
 
@@ -150,6 +154,14 @@ fn beside(what: &str, others: u64, rounds: usize) -> Case {
     Case { name: format!("map + unmap of a page, {what}"), levels: 3, tables: 16, mappings, work: Work::MapUnmap(vec![5 * PAGE]), rounds }
 }
 
+/// Map and unmap of a page in each region of 2 MiB of a pool all of whose tables are in use.
+fn full_pool(tables: u64, rounds: usize) -> Case {
+    let regions = tables - 2;
+    let mappings = (0..regions).map(|i| (i * BLOCK_2M, PAGE)).collect();
+    let pages = (0..regions).map(|i| i * BLOCK_2M + (1 + i % 511) * PAGE).collect();
+    Case { name: format!("map + unmap of a page, all {tables} tables in use"), levels: 3, tables, mappings, work: Work::MapUnmap(pages), rounds }
+}
+
 fn format(tables: u64, rounds: usize) -> Case {
     Case { name: format!("format, {tables} tables"), levels: 3, tables, mappings: vec![], work: Work::Format, rounds }
 }
@@ -158,6 +170,12 @@ fn format(tables: u64, rounds: usize) -> Case {
 fn audit(tables: u64, rounds: usize) -> Case {
     let mappings = (0..(tables - 2) * 256).map(|i| (2 * i * PAGE, PAGE)).collect();
     Case { name: format!("audit, {tables} tables in use"), levels: 3, tables, mappings, work: Work::Audit, rounds }
+}
+
+/// All tables are in use, and every page of the tables of pages is mapped: with 512 tables 261,120 of them.
+fn audit_full(tables: u64, rounds: usize) -> Case {
+    let mappings = (0..(tables - 2) * 512).map(|i| (i * PAGE, PAGE)).collect();
+    Case { name: format!("audit, all pages of {tables} tables"), levels: 3, tables, mappings, work: Work::Audit, rounds }
 }
 
 /// Four of 64 tables are in use, and 60 are free.

@@ -28,6 +28,11 @@ impl<E: Engine> Judge<E> {
         &self.memory
     }
 
+    /// The setup that the last accepted call handed back.
+    pub fn setup(&self) -> plain::Setup {
+        self.world.setup
+    }
+
     /// Carries out the steps of a source, until so many calls are judged. The text of an error is the first difference.
     pub fn run(&mut self, source: &mut Source, calls: u64) -> Result<(), String> {
         while self.coverage.calls() < calls {

@@ -58,7 +58,7 @@ pub fn write(out: &mut impl Write, seed: u64, calls: u64) -> io::Result<()> {
     for step in cases() {
         carry_out(&mut world, &step)?;
     }
-    let mut source = Source::new(seed);
+    let mut source = Source::small(seed);
     let mut made = 0;
     while made < calls {
         let step = source.next(&world);

@@ -20,9 +20,14 @@ enum Kind {
     Wild,
 }
 
+/// The most tables of nearly all pools. All memory is compared after each call, which takes long for larger ones.
+const USUAL_TABLES: u64 = 64;
+
 /// A stream of steps.
 pub struct Source {
     random: Random,
+    /// How many histories of a hundred have up to 512 tables.
+    large: u64,
     kind: Kind,
     /// Steps that come first.
     queue: VecDeque<Step>,
@@ -40,8 +45,14 @@ pub struct Source {
 
 impl Source {
     pub fn new(seed: u64) -> Source {
+        Source { large: 1, ..Source::small(seed) }
+    }
+
+    /// A stream in which no pool has more than 64 tables.
+    pub fn small(seed: u64) -> Source {
         Source {
             random: Random::new(seed),
+            large: 0,
             kind: Kind::Fresh,
             queue: VecDeque::new(),
             left: 0,
@@ -87,7 +98,11 @@ impl Source {
         let random = &self.random;
         self.kind = random.pick(&[Kind::Fresh, Kind::Fresh, Kind::Fresh, Kind::Damaged, Kind::Damaged, Kind::Wild]);
         let levels = 3 + random.below(2);
-        let most = if self.kind == Kind::Wild { 8 } else { MAX_TABLES };
+        let most = match self.kind {
+            Kind::Wild => 8,
+            _ if self.large > 0 && random.percent(self.large) => MAX_TABLES,
+            _ => USUAL_TABLES,
+        };
         let tables = random.pick(&[1, 2, 3, 4, 5, 6, 8, 1 + random.below(12), 1 + random.below(most), most]);
         let base = random.pick(&[0, 0x4000_0000, LIMIT - 4096 * tables, random.below(LIMIT / 2) & !4095]);
         self.left = 20 + random.below(if self.kind == Kind::Fresh { 400 } else { 100 });
@@ -265,7 +280,7 @@ impl Source {
         match self.random.below(4) {
             0 => setup.levels = self.random.pick(&[0, 1, 2, 5, 1 << 32 | 3, u64::MAX]),
             1 => setup.base = self.random.pick(&[1, 4095, LIMIT, LIMIT - 4096 * setup.tables + 4096, u64::MAX, u64::MAX - 4095]),
-            2 => setup.tables = self.random.pick(&[0, setup.tables + 1, setup.tables - 1, 65, 1 << 55, u64::MAX]),
+            2 => setup.tables = self.random.pick(&[0, setup.tables + 1, setup.tables - 1, MAX_TABLES + 1, (1 << 32) + 1, 1 << 55, u64::MAX]),
             _ => setup.free = self.random.pick(&[setup.tables, setup.tables + 1, 1 << 32, u64::MAX]),
         }
         // setups that are right for another pool
@@ -289,7 +304,7 @@ impl Source {
                 base =
                     self.random.pick(&[0, 1, 4096, LIMIT - 4096 * tables, LIMIT - 4096 * tables + 4096, LIMIT, u64::MAX - 4095])
             }
-            2 => tables = self.random.pick(&[0, 1, tables - 1, tables + 1, 64, 65, 1 << 52, u64::MAX]),
+            2 => tables = self.random.pick(&[0, 1, tables - 1, tables + 1, 65, MAX_TABLES, MAX_TABLES + 1, (1 << 32) + 1, 1 << 52, u64::MAX]),
             3 => {}
             _ => (levels, base, tables) = (self.random.number(), self.random.number(), self.random.number()),
         }

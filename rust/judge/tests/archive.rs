@@ -75,6 +75,62 @@ fn one_more_word_in_use() {
     assert_eq!(given, [3 * 2 * 511, 2 * 511, 4 * 2 * 2]);
 }
 
+/// Pools of 65, 511 and 512 tables that end at 2^48, filled to the last table and emptied again, from both ends in turn. The 7 comes where the ledger has
+/// it, and at the end all tables but the root are free.
+#[test]
+fn pools_of_many_tables() {
+    for (levels, tables) in [(3, 65), (4, 511), (3, 512), (4, 512)] {
+        let (words, places) = (512 * tables as usize, tables as usize);
+        let mut judge = Judge::new(Raw);
+        let mut step = |step: Step| {
+            judge.step(&step).unwrap_or_else(|difference| panic!("{difference}"));
+            judge.setup()
+        };
+        step(Step::Memory { words, places });
+        let format = Call::Format { levels, base: plain::LIMIT - 4096 * tables, tables };
+        let mut setup = step(Step::Call { call: format, words, places });
+        // a page in each region of 2 MiB; the last two find no table
+        let pages = tables - levels + 1;
+        for i in 0..pages + 2 {
+            let call = Call::Map { setup, address: i << 21 | i % 512 << 12, frame: i << 12, size: 4096, attributes: i % 16 };
+            setup = step(Step::Call { call, words, places });
+        }
+        assert_eq!((setup.tables, setup.free), (tables, 0));
+        step(Step::Call { call: Call::Audit { setup }, words, places });
+        for i in 0..pages {
+            let i = if i % 2 == 0 { i / 2 } else { pages - 1 - i / 2 };
+            let call = Call::Unmap { setup, address: i << 21 | i % 512 << 12 };
+            setup = step(Step::Call { call, words, places });
+        }
+        assert_eq!(setup.free, tables - 1);
+        step(Step::Call { call: Call::Audit { setup }, words, places });
+    }
+}
+
+/// 0 tables, 513, 2^32 + 1 and 2^64 - 1 get 1 from every call, with the memory of 513 tables lent or with that of none.
+#[test]
+fn numbers_of_tables_past_the_limit() {
+    let (words, places) = (513 * 512, 513);
+    let mut judge = Judge::new(Raw);
+    judge.step(&Step::Memory { words, places }).unwrap();
+    for tables in [0, 513, (1 << 32) + 1, u64::MAX] {
+        let setup = plain::Setup { levels: 3, base: 0x4000_0000, tables, free: 0 };
+        let calls = [
+            Call::Format { levels: 3, base: 0x4000_0000, tables },
+            Call::Map { setup, address: 0, frame: 0x8000_0000, size: 4096, attributes: 3 },
+            Call::Unmap { setup, address: 0 },
+            Call::Query { setup, address: 0 },
+            Call::Audit { setup },
+        ];
+        for (call, tables) in calls.into_iter().flat_map(|call| [(call, 513), (call, 0)]) {
+            let (words, places) = (512 * tables, tables);
+            judge.step(&Step::Call { call, words, places }).unwrap_or_else(|difference| panic!("{difference}"));
+            let mut memory = judge.memory().clone();
+            assert_eq!(Raw.call(&call, &mut memory.words[..words], &mut memory.list[..places]).refusal, 1, "{call:x?}");
+        }
+    }
+}
+
 /// The numbers among the words of a text.
 fn numbers(text: &str) -> Vec<u64> {
     let number = |word: &str| match word.strip_prefix("0x") {

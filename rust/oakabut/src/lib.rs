@@ -62,7 +62,7 @@ pub const EXECUTE: u64 = 4;
 pub const DEVICE: u64 = 8;
 
 /// A pool has at most this many tables.
-pub const MAX_TABLES: u64 = 64;
+pub const MAX_TABLES: u64 = 512;
 
 /// The setup numbers of a pool.
 #[repr(C)]
@@ -72,7 +72,7 @@ pub struct Setup {
     pub levels: u64,
     /// The address of table 0; table t stands at base + 4096 × t.
     pub base: u64,
-    /// The number of tables, 1 to 64.
+    /// The number of tables, 1 to 512.
     pub tables: u64,
     /// How many tables are free: so many first places of the list count.
     pub free: u64,

@@ -24,7 +24,7 @@ impl<'a> Pool<'a> {
     /// Sets up an empty pool in lent memory: all words become zero, and every table but the root is free.
     ///
     /// `levels` is 3 or 4; the space has 2^39 or 2^48 bytes. `base` is the address at which the words stand, a multiple of
-    /// 4096: the processor reads the tables there. There are 1 to 64 `tables`, `words` has 512 times as many elements and
+    /// 4096: the processor reads the tables there. There are 1 to 512 `tables`, `words` has 512 times as many elements and
     /// `list` exactly as many; base + 4096 × tables is at most 2^48. Anything else is [`Refusal::SETUP`], and leaves the memory
     /// as it was.
     pub fn format(levels: u64, base: u64, tables: u64, words: &'a mut [u64], list: &'a mut [u32]) -> Result<Pool<'a>, Refusal> {

@@ -48,7 +48,7 @@ fn the_eleven_cases(mut pool: Pool) -> Result<(), Refusal> {
 #[test]
 fn owned_memory() {
     the_eleven_cases(Pool::owned(3, P, 4).unwrap()).unwrap();
-    for tables in [0, 65, 1 << 40, u64::MAX] {
+    for tables in [0, 513, (1 << 32) + 1, 1 << 40, u64::MAX] {
         assert_eq!(Pool::owned(3, P, tables).unwrap_err(), Refusal::SETUP);
     }
 }

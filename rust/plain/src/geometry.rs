@@ -10,7 +10,7 @@ pub(crate) const PAGE: u64 = SIZES[0];
 pub const LIMIT: u64 = 1 << 48;
 
 /// A pool has at most this many tables.
-pub const MAX_TABLES: u64 = 64;
+pub const MAX_TABLES: u64 = 512;
 
 pub(crate) const MIN_LEVELS: u64 = 3;
 pub(crate) const MAX_LEVELS: u64 = 4;

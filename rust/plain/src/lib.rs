@@ -25,7 +25,7 @@ pub struct Setup {
     pub levels: u64,
     /// The address of table 0.
     pub base: u64,
-    /// 1 to 64.
+    /// 1 to 512.
     pub tables: u64,
     /// How many places of the list count, at most `tables` - 1.
     pub free: u64,

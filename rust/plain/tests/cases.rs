@@ -192,7 +192,7 @@ fn setup_numbers_and_lengths() {
     for (words, places) in [(2047, 4), (2049, 4), (2048, 3), (2048, 5), (0, 0)] {
         assert_eq!(refused(good, words, places), both);
     }
-    for tables in [0, 3, 5, 65, 1 << 55, u64::MAX] {
+    for tables in [0, 3, 5, 513, (1 << 32) + 1, 1 << 55, u64::MAX] {
         assert_eq!(refused(Setup { tables, ..good }, 2048, 4), both);
     }
     for free in [4, 5, 1 << 32, u64::MAX] {
@@ -200,8 +200,8 @@ fn setup_numbers_and_lengths() {
     }
     assert_eq!(refused(Setup { tables: 0, free: 0, ..good }, 0, 0), both);
     assert_eq!(refused(Setup { tables: 1, free: 0, ..good }, 512, 1), fine);
-    assert_eq!(refused(Setup { tables: 64, free: 63, ..good }, 512 * 64, 64), fine);
-    assert_eq!(refused(Setup { tables: 65, free: 63, ..good }, 512 * 65, 65), both);
+    assert_eq!(refused(Setup { tables: 512, free: 511, ..good }, 512 * 512, 512), fine);
+    assert_eq!(refused(Setup { tables: 513, free: 63, ..good }, 512 * 513, 513), both);
 }
 
 #[test]
