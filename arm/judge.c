@@ -3,8 +3,9 @@
  * Runs at EL2 on the board (arm/judge). The pool stands at its own physical address and is the machine's stage 2. Seeded histories of
  * calls change it. After each call, and at the end of a history for every live mapping, the machine is asked by AT S12E1R and
  * AT S12E1W what it makes of an address: inside mappings and outside, at their edges, past the space. Its answer, PAR_EL1, has to be
- * what oak_query says: the frame, memory type and shareability, or a fault of the right kind and level. oak_query has to say what a
- * plain list of the accepted maps says, and the audit has to count as many mappings.
+ * what oak_query says: the frame, memory type and shareability, or a fault of the right kind and level; where nothing is mapped, the
+ * level at which the machine's walk stopped is that of the hole. oak_query has to say what a plain list of the accepted maps says, and
+ * the audit has to count as many mappings.
  *
  * AT does not tell whether an instruction may be fetched. So a guest also loads, stores and fetches, under all sixteen attributes.
  * The last line is 'N passed, M failed': each history is one test, and each of the two parts at the end is one. */
@@ -53,13 +54,13 @@ static const oak_found *live_in(uint64_t base, uint64_t size) {
     return NULL;
 }
 
+static uint64_t size_at(uint64_t level) { return UINT64_C(1) << (39 - 9 * level); }
+
 /* The level of the entry at which a walk for an address that is not mapped must end: the first whose region has no mapping in it, since
  * tables stand exactly where mappings need them. */
 static uint64_t hole_level(uint64_t address) {
-    for (uint64_t level = 4 - setup.levels; level < 3; level++) {
-        uint64_t size = UINT64_C(1) << (39 - 9 * level);
-        if (live_in(address - address % size, size) == NULL) return level;
-    }
+    for (uint64_t level = 4 - setup.levels; level < 3; level++)
+        if (live_in(address - address % size_at(level), size_at(level)) == NULL) return level;
     return 3;
 }
 
@@ -90,8 +91,10 @@ static bool agrees(uint64_t address, bool write, uint64_t refusal, const oak_fou
         return fault && kind <= 1;
     }
     if (refusal == 9) {
+        /* the machine's walk stops at the level of the hole that oak_query answers */
         asked[NOTHING]++;
-        return fault && stage2 && kind == 1 && level == hole_level(address);
+        return fault && stage2 && kind == 1 && level == hole_level(address) && found->hole_size == size_at(level) &&
+               found->hole_base == address - address % size_at(level);
     }
     if (refusal != 0) return false;
     hits[setup.levels - 3][size_number(found->size)][found->attributes][write]++;
@@ -148,7 +151,7 @@ static void map_something(void) {
     uint64_t size = sizes[below(3)], address = some_address(size), last = (UINT64_C(1) << 48) - size;
     uint64_t frame = below(8) == 0 ? last : below(last / size) * size, attributes = below(16);
     if (oak_map(&setup, LENT, address, frame, size, attributes, &answer) == 0)
-        live[lives++] = (oak_found){address, frame, size, attributes};
+        live[lives++] = (oak_found){address, frame, size, attributes, 0, 0};
     setup = answer.setup;
     stage2_changed();
     ask_around(address, size);

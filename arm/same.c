@@ -88,7 +88,7 @@ static void add_memory(uint64_t tables) {
 
 /* takes an answer of count numbers into the hash, and writes it now and then */
 static void answered(unsigned function, const char *name, uint64_t refusal, const void *answer, size_t count) {
-    uint64_t numbers[8];
+    uint64_t numbers[10];
     memcpy(numbers, answer, 8 * count);
     given[function][refusal < 12 ? refusal : function > 4 ? 0 : 11]++;
     add(refusal);
@@ -152,7 +152,7 @@ static void call_unmap(void) {
     memset(&answer, 0x5A, sizeof answer);
     uint64_t address = once_in(2) ? mapped[below(MAPPED)] : some_address(OAK_4_KIB);
     uint64_t refusal = oak_unmap(&l.setup, words, l.words, list, l.list, address, &answer);
-    answered(2, "unmap", refusal, &answer, 8);
+    answered(2, "unmap", refusal, &answer, 10);
     if (refusal == 0) setup = answer.setup;
 }
 
@@ -162,7 +162,7 @@ static void call_query(void) {
     memset(&answer, 0x5A, sizeof answer);
     uint64_t address = once_in(2) ? mapped[below(MAPPED)] + below(4096) : some_address(0);
     uint64_t refusal = oak_query(&l.setup, words, l.words, list, l.list, address, &answer);
-    answered(3, "query", refusal, &answer, 4);
+    answered(3, "query", refusal, &answer, 6);
 }
 
 static void call_audit(void) {

@@ -250,9 +250,11 @@ uint64_t plain_unmap(const oak_setup *s, uint64_t *words, size_t words_len, uint
     ending e = walk(s, words, address, 1, &w);
     if (e.damaged)
         return refuse_unmap(s, OAK_REFUSED_DAMAGED, answer);
-    if (e.word == 0)
-        return refuse_unmap(s, OAK_REFUSED_EMPTY, answer);
     uint64_t size = UINT64_C(1) << shift_of(e.left);
+    if (e.word == 0) {
+        *answer = (oak_unmapped){.setup = *s, .hole_base = address & -size, .hole_size = size};
+        return OAK_REFUSED_EMPTY;
+    }
     if (address & (size - 1))
         return refuse_unmap(s, OAK_REFUSED_INSIDE, answer);
 
@@ -275,7 +277,7 @@ uint64_t plain_unmap(const oak_setup *s, uint64_t *words, size_t words_len, uint
         words[place_of(w.at[e.left + i + 1], address, e.left + i + 1)] = 0;
     }
     *answer = (oak_unmapped){
-        {s->levels, s->base, s->tables, s->free + given}, base_in(e.word), size, attributes_in(e.word), given};
+        {s->levels, s->base, s->tables, s->free + given}, base_in(e.word), size, attributes_in(e.word), given, 0, 0};
     return 0;
 }
 
@@ -295,10 +297,12 @@ uint64_t plain_query(const oak_setup *s, const uint64_t *words, size_t words_len
     ending e = walk(s, words, address, 1, &w);
     if (e.damaged)
         return refuse_query(OAK_REFUSED_DAMAGED, answer);
-    if (e.word == 0)
-        return refuse_query(OAK_REFUSED_EMPTY, answer);
     uint64_t size = UINT64_C(1) << shift_of(e.left);
-    *answer = (oak_found){address & -size, base_in(e.word), size, attributes_in(e.word)};
+    if (e.word == 0) {
+        *answer = (oak_found){.hole_base = address & -size, .hole_size = size};
+        return OAK_REFUSED_EMPTY;
+    }
+    *answer = (oak_found){address & -size, base_in(e.word), size, attributes_in(e.word), 0, 0};
     return 0;
 }
 

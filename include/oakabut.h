@@ -76,7 +76,12 @@ uint64_t oak_word_meaning(uint64_t word, uint64_t size);
 /* ---- the calls on a pool
  *
  * Each returns 0 or the number of a refusal, and always writes the whole answer. Where it refuses, the answer is zeros, but for the
- * setup that oak_map and oak_unmap hand back as it was; and the words and the list stay as they were.
+ * setup that oak_map and oak_unmap hand back as it was, and for the hole that goes with OAK_REFUSED_EMPTY; and the words and the list
+ * stay as they were.
+ *
+ * The hole is the largest aligned region around the address that is empty: that of the empty entry where the walk ended. Its size is
+ * 4 KiB, 2 MiB or 1 GiB, and with four levels also 512 GiB; its base is a multiple of its size. No mapping touches it. In a pool that
+ * oak_audit accepts, the next larger region around the address holds a mapping, unless that region is the whole space.
  *
  * The space is 2^39 for three levels and 2^48 for four. Sums do not wrap. */
 
@@ -98,6 +103,8 @@ typedef struct {
     uint64_t size;       /* its size */
     uint64_t attributes; /* its attributes */
     uint64_t given;      /* how many tables came back */
+    uint64_t hole_base;  /* with OAK_REFUSED_EMPTY the base of the hole, else 0 */
+    uint64_t hole_size;  /* and its size, else 0 */
 } oak_unmapped;
 
 typedef struct {
@@ -105,6 +112,8 @@ typedef struct {
     uint64_t frame; /* the base of its frame */
     uint64_t size;
     uint64_t attributes;
+    uint64_t hole_base; /* with OAK_REFUSED_EMPTY the base of the hole, else 0 */
+    uint64_t hole_size; /* and its size, else 0 */
 } oak_found;
 
 typedef struct {
@@ -142,7 +151,7 @@ uint64_t oak_map(const oak_setup *s, uint64_t *words, size_t words_len, const ui
  *   OAK_REFUSED_END      address is not below the space
  *   OAK_REFUSED_BASE     address is not a multiple of 4096
  *   OAK_REFUSED_DAMAGED  the walk from the root meets a damaged word, or comes to the same table twice
- *   OAK_REFUSED_EMPTY    the walk ends at an empty entry
+ *   OAK_REFUSED_EMPTY    the walk ends at an empty entry; the answer has the hole
  *   OAK_REFUSED_INSIDE   the walk ends at a frame whose mapping does not start at address
  *   OAK_REFUSED_DAMAGED  giving back would make more than tables - 1 free */
 uint64_t oak_unmap(const oak_setup *s, uint64_t *words, size_t words_len, uint32_t *list, size_t list_len, uint64_t address,
@@ -154,7 +163,7 @@ uint64_t oak_unmap(const oak_setup *s, uint64_t *words, size_t words_len, uint32
  *   OAK_REFUSED_SETUP    a setup number breaks its rule, words_len is not 512 * tables, or list_len is not tables
  *   OAK_REFUSED_END      address is not below the space
  *   OAK_REFUSED_DAMAGED  the walk from the root meets a damaged word, or comes to the same table twice
- *   OAK_REFUSED_EMPTY    the walk ends at an empty entry */
+ *   OAK_REFUSED_EMPTY    the walk ends at an empty entry; the answer has the hole */
 uint64_t oak_query(const oak_setup *s, const uint64_t *words, size_t words_len, const uint32_t *list, size_t list_len, uint64_t address,
                    oak_found *answer);
 
@@ -183,17 +192,21 @@ OAK_HOLDS(offsetof(oak_setup, free) == 24);
 OAK_HOLDS(sizeof(oak_mapped) == 40);
 OAK_HOLDS(offsetof(oak_mapped, setup) == 0);
 OAK_HOLDS(offsetof(oak_mapped, taken) == 32);
-OAK_HOLDS(sizeof(oak_unmapped) == 64);
+OAK_HOLDS(sizeof(oak_unmapped) == 80);
 OAK_HOLDS(offsetof(oak_unmapped, setup) == 0);
 OAK_HOLDS(offsetof(oak_unmapped, frame) == 32);
 OAK_HOLDS(offsetof(oak_unmapped, size) == 40);
 OAK_HOLDS(offsetof(oak_unmapped, attributes) == 48);
 OAK_HOLDS(offsetof(oak_unmapped, given) == 56);
-OAK_HOLDS(sizeof(oak_found) == 32);
+OAK_HOLDS(offsetof(oak_unmapped, hole_base) == 64);
+OAK_HOLDS(offsetof(oak_unmapped, hole_size) == 72);
+OAK_HOLDS(sizeof(oak_found) == 48);
 OAK_HOLDS(offsetof(oak_found, base) == 0);
 OAK_HOLDS(offsetof(oak_found, frame) == 8);
 OAK_HOLDS(offsetof(oak_found, size) == 16);
 OAK_HOLDS(offsetof(oak_found, attributes) == 24);
+OAK_HOLDS(offsetof(oak_found, hole_base) == 32);
+OAK_HOLDS(offsetof(oak_found, hole_size) == 40);
 OAK_HOLDS(sizeof(oak_audited) == 16);
 OAK_HOLDS(offsetof(oak_audited, tables) == 0);
 OAK_HOLDS(offsetof(oak_audited, mappings) == 8);

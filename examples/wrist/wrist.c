@@ -7,10 +7,13 @@
  *     scan  0x00001000  its program  r-x                sync  0x40001000  its program      r-x
  *           0x00002000  its data     rw-                      0x40002000  its data         rw-
  *           0x00200000  its store    rw-, on demand           0x40003000  the scan's data  r--
- *                                                             0x40200000  its buffer       rw-, on demand
+ *           0x00400000  its picture  rw-, on demand           0x40200000  its buffer       rw-, on demand
  *
- * Each guest needs a table for its GiB and one for its first 2 MiB, and one more for what comes on demand. With the root that makes
- * seven, and the pool has six: whoever comes last has to wait until the other gives its page up. */
+ * Each guest needs a table for its GiB and one for its first 2 MiB, and one more for the page that comes on demand. With the root that
+ * makes seven, and the pool has six: whoever comes last has to wait until the other gives its page up.
+ *
+ * The picture has 2 MiB. What is mapped on demand is the largest frame that fits both the hole that oak_query tells and what the guest
+ * may have, so the picture comes by one fault and one map, and that needs no table. */
 #include "board.h"
 #include "guest.h"
 #include "oakabut.h"
@@ -39,15 +42,15 @@ static void after_call(void) {
     else say("      AUDIT: %u\n", refusal);
 }
 
-/* Maps a page, and answers the refusal. */
-static uint64_t map(uint64_t address, uint64_t frame, uint64_t attributes) {
+/* Maps a frame, and answers the refusal. */
+static uint64_t map(uint64_t address, uint64_t frame, uint64_t size, uint64_t attributes) {
     static uint64_t words_before[512 * TABLES];
     static uint32_t list_before[TABLES];
     oak_mapped answer;
     memcpy(words_before, words, sizeof words_before);
     memcpy(list_before, list, sizeof list_before);
-    uint64_t refusal = oak_map(&setup, LENT, address, frame, OAK_4_KIB, attributes, &answer);
-    say("   map %x to %x %s: ", address, frame, letters(attributes));
+    uint64_t refusal = oak_map(&setup, LENT, address, frame, size, attributes, &answer);
+    say("   map %x to %x, size %x, %s: ", address, frame, size, letters(attributes));
     if (refusal == 0) {
         say("takes %u\n", answer.taken);
     } else {
@@ -73,16 +76,20 @@ static uint64_t unmap(uint64_t address) {
 
 /* ---- the guests */
 
+struct area {
+    uint64_t first, size, frame;
+};
 struct guest {
     const char *name;
     enum { READY, SHORT_OF_A_TABLE, DONE } state;
-    uint64_t first, last;            /* its part of the space */
-    uint64_t on_demand, frame;       /* the page that it gets when it first uses it, and from where */
+    uint64_t first, last;     /* its part of the space */
+    struct area on_demand[2]; /* what it gets when it first uses it, and from where */
     struct registers registers;
 };
-static struct guest scan = {"scan", READY, 0, 0x3FFFFFFF, 0x00200000, 0x45002000, {.pc = 0x1000, .sp = 0x3000, .pstate = AT_EL1}};
-static struct guest sync = {
-    "sync", READY, 0x40000000, 0x7FFFFFFF, 0x40200000, 0x46002000, {.pc = 0x40001000, .sp = 0x40003000, .pstate = AT_EL1}};
+static struct guest scan = {"scan", READY, 0, 0x3FFFFFFF,
+    {{0x00200000, OAK_4_KIB, 0x45002000}, {0x00400000, OAK_2_MIB, 0x45200000}}, {.pc = 0x1000, .sp = 0x3000, .pstate = AT_EL1}};
+static struct guest sync = {"sync", READY, 0x40000000, 0x7FFFFFFF,
+    {{0x40200000, OAK_4_KIB, 0x46002000}}, {.pc = 0x40001000, .sp = 0x40003000, .pstate = AT_EL1}};
 
 /* Copies a guest's text. The guest names it by an address in its own space: query says where that is, and whether it may be read. */
 static void copy_text(uint64_t address, char *text, uint64_t room) {
@@ -119,6 +126,25 @@ static int called(struct guest *guest) {
     }
 }
 
+/* The area of a guest's that an address is in, or none. */
+static const struct area *area_of(const struct guest *guest, uint64_t address) {
+    for (int i = 0; i < 2; i++)
+        if (address - guest->on_demand[i].first < guest->on_demand[i].size) return &guest->on_demand[i];
+    return 0;
+}
+
+/* Maps the largest frame around an address that lies in the hole and in the area, and answers the refusal. A hole is aligned to its
+ * size, so a frame around the address lies in it when it is no larger. */
+static uint64_t fill(const struct area *area, uint64_t address, uint64_t hole_size) {
+    static const uint64_t sizes[] = {OAK_1_GIB, OAK_2_MIB, OAK_4_KIB};
+    for (int i = 0; i < 3; i++) {
+        uint64_t size = sizes[i], base = address - address % size, frame = area->frame + (base - area->first);
+        if (size <= hole_size && base >= area->first && base + size <= area->first + area->size && frame % size == 0)
+            return map(base, frame, size, OAK_READ | OAK_WRITE);
+    }
+    return OAK_REFUSED_SIZE;
+}
+
 /* An access that stage 2 did not let pass. Answers whether the guest goes on. */
 static int trapped(struct guest *guest, struct trap trap) {
     static const char *const verbs[] = {[READ] = "reads", [WRITE] = "writes", [FETCH] = "executes"};
@@ -127,9 +153,10 @@ static int trapped(struct guest *guest, struct trap trap) {
     say("%s %s %x: ", guest->name, verbs[trap.cause], trap.address);
     if (trap.not_mapped != (refusal != 0)) say("THE MACHINE SEES IT OTHERWISE: ");
 
-    if (refusal != 0 && trap.address - trap.address % OAK_4_KIB == guest->on_demand) {
-        say("query says %u, and the page is its own\n", refusal);
-        if (map(guest->on_demand, guest->frame, OAK_READ | OAK_WRITE) == 0) return 1; /* it makes the access again */
+    const struct area *area = area_of(guest, trap.address);
+    if (refusal == OAK_REFUSED_EMPTY && area) {
+        say("query says %u, a hole of %x at %x, and it may have %x\n", refusal, found.hole_size, found.hole_base, area->size);
+        if (fill(area, trap.address, found.hole_size) == 0) return 1; /* it makes the access again */
         guest->state = SHORT_OF_A_TABLE;
         return 0;
     }
@@ -154,11 +181,11 @@ int main(void) {
     uint64_t refusal = oak_format(LEVELS, POOL, TABLES, LENT, &setup);
     say("format: answers %u, %u levels, %u tables at %x\n", refusal, setup.levels, setup.tables, setup.base);
     after_call();
-    map(0x00001000, 0x45000000, OAK_READ | OAK_EXECUTE); /* guests.ld has the two programs loaded into these frames */
-    map(0x00002000, 0x45001000, OAK_READ | OAK_WRITE);
-    map(0x40001000, 0x46000000, OAK_READ | OAK_EXECUTE);
-    map(0x40002000, 0x46001000, OAK_READ | OAK_WRITE);
-    map(0x40003000, 0x45001000, OAK_READ);
+    map(0x00001000, 0x45000000, OAK_4_KIB, OAK_READ | OAK_EXECUTE); /* guests.ld has the two programs loaded into these frames */
+    map(0x00002000, 0x45001000, OAK_4_KIB, OAK_READ | OAK_WRITE);
+    map(0x40001000, 0x46000000, OAK_4_KIB, OAK_READ | OAK_EXECUTE);
+    map(0x40002000, 0x46001000, OAK_4_KIB, OAK_READ | OAK_WRITE);
+    map(0x40003000, 0x45001000, OAK_4_KIB, OAK_READ);
     stage2_on(LEVELS, POOL);
 
     struct guest *guest = &sync;

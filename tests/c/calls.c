@@ -24,7 +24,7 @@
 typedef struct {
     uint64_t words[GUARD + 512 * MOST_TABLES + GUARD];
     uint64_t setup[GUARD + 4 + GUARD];
-    uint64_t answer[GUARD + 8 + GUARD];
+    uint64_t answer[GUARD + 10 + GUARD];
     uint32_t list[GUARD + MOST_TABLES + GUARD];
 } block;
 
@@ -110,7 +110,7 @@ static void map_is(uint64_t address, uint64_t frame, uint64_t size, uint64_t att
 
 static void unmap_is(uint64_t address, uint64_t frame, uint64_t size, uint64_t attributes, uint64_t gives) {
     char what[120];
-    oak_unmapped a = {setup, frame, size, attributes, gives};
+    oak_unmapped a = {setup, frame, size, attributes, gives, 0, 0};
     a.setup.free += gives;
     before(&a, sizeof a);
     snprintf(what, sizeof what, "unmap %#" PRIx64, address);
@@ -120,7 +120,7 @@ static void unmap_is(uint64_t address, uint64_t frame, uint64_t size, uint64_t a
 
 static void query_is(uint64_t address, uint64_t base, uint64_t frame, uint64_t size, uint64_t attributes) {
     char what[120];
-    oak_found a = {base, frame, size, attributes};
+    oak_found a = {base, frame, size, attributes, 0, 0};
     before(&a, sizeof a);
     snprintf(what, sizeof what, "query %#" PRIx64, address);
     after(what, oak_query(given(), words(), words_len, list(), list_len, address, answer()), 0);
@@ -136,21 +136,27 @@ static void map_refused(uint64_t address, uint64_t frame, uint64_t size, uint64_
     map_is(address, frame, size, attributes, number, 0);
 }
 
-static void unmap_refused(uint64_t address, uint64_t number) {
+static void unmap_carries(uint64_t address, uint64_t number, uint64_t hole_base, uint64_t hole_size) {
     char what[120];
-    oak_unmapped a = {setup, 0, 0, 0, 0};
+    oak_unmapped a = {setup, 0, 0, 0, 0, hole_base, hole_size};
     before(&a, sizeof a);
     snprintf(what, sizeof what, "unmap %#" PRIx64, address);
     after(what, oak_unmap(given(), words(), words_len, list(), list_len, address, answer()), number);
 }
 
-static void query_refused(uint64_t address, uint64_t number) {
+static void query_carries(uint64_t address, uint64_t number, uint64_t hole_base, uint64_t hole_size) {
     char what[120];
-    oak_found a = {0, 0, 0, 0};
+    oak_found a = {0, 0, 0, 0, hole_base, hole_size};
     before(&a, sizeof a);
     snprintf(what, sizeof what, "query %#" PRIx64, address);
     after(what, oak_query(given(), words(), words_len, list(), list_len, address, answer()), number);
 }
+
+/* only 9 carries a hole */
+static void unmap_refused(uint64_t address, uint64_t number) { unmap_carries(address, number, 0, 0); }
+static void query_refused(uint64_t address, uint64_t number) { query_carries(address, number, 0, 0); }
+static void unmap_hole(uint64_t address, uint64_t base, uint64_t size) { unmap_carries(address, 9, base, size); }
+static void query_hole(uint64_t address, uint64_t base, uint64_t size) { query_carries(address, 9, base, size); }
 
 static void audit_refused(uint64_t number) { audit_is(0, 0, number); }
 
@@ -186,7 +192,7 @@ static void the_cases(void) {
     map_refused(0x40000000, FRAME, 4096, 3, 7);
     query_is(0x201234, 0x200000, 0x80200000, OAK_2_MIB, 3);
     unmap_refused(0x201000, 10);
-    unmap_refused(0x3000, 9);
+    unmap_hole(0x3000, 0x3000, 4096);
     writes(1024, 0);
     unmap_is(0, FRAME, 4096, 3, 0);
     audit_is(3, 2, 0);
@@ -257,11 +263,16 @@ static void layout(void) {
          m.setup.levels == 3 && m.setup.base == POOL && m.setup.tables == 7 && m.setup.free == 5 && m.taken == 1);
     test("query", "the number is", oak_query(&m.setup, w, 512 * 7, l, 7, 0x412345, &f) == 0);
     test("query", "the answer is", f.base == 0x400000 && f.frame == 0x80200000 && f.size == OAK_2_MIB && f.attributes == 5);
+    test("query", "no hole is", f.hole_base + f.hole_size == 0);
+    test("query", "the refusal is", oak_query(&m.setup, w, 512 * 7, l, 7, 0x612345, &f) == 9);
+    test("query", "the hole is", f.hole_base == 0x600000 && f.hole_size == OAK_2_MIB && f.base + f.frame + f.size + f.attributes == 0);
+    test("unmap", "the refusal is", oak_unmap(&m.setup, w, 512 * 7, l, 7, 0x612000, &u) == 9);
+    test("unmap", "the hole is", u.hole_base == 0x600000 && u.hole_size == OAK_2_MIB && u.frame + u.size + u.attributes + u.given == 0);
     test("audit", "the number is", oak_audit(&m.setup, w, 512 * 7, l, 7, &a) == 0);
     test("audit", "the answer is", a.tables == 2 && a.mappings == 1);
     test("unmap", "the number is", oak_unmap(&m.setup, w, 512 * 7, l, 7, 0x400000, &u) == 0);
     test("unmap", "the setup is", u.setup.levels == 3 && u.setup.base == POOL && u.setup.tables == 7 && u.setup.free == 6);
-    test("unmap", "the answer is", u.frame == 0x80200000 && u.size == OAK_2_MIB && u.attributes == 5 && u.given == 1);
+    test("unmap", "the answer is", u.frame == 0x80200000 && u.size == OAK_2_MIB && u.attributes == 5 && u.given == 1 && u.hole_base + u.hole_size == 0);
     s = (oak_setup){101, 102, 103, 104};
     test("map", "the refusal is", oak_map(&s, w, 512 * 7, l, 7, 1, 2, 3, 4, &m) == 1);
     test("map", "the setup handed back is", memcmp(&m.setup, &s, sizeof s) == 0 && m.taken == 0);
@@ -419,9 +430,10 @@ static void unmap_refusals(void) {
     unmap_refused(0x800, 5);
     unmap_refused(SPACE_3 - 1, 5);
     unmap_refused(0x201001, 5);
-    unmap_refused(0x2000, 9);
-    unmap_refused(0x400000, 9);
-    unmap_refused(SPACE_3 - 4096, 9);
+    unmap_hole(0x2000, 0x2000, 4096);
+    unmap_hole(0x400000, 0x400000, OAK_2_MIB);
+    unmap_hole(0x5FF000, 0x400000, OAK_2_MIB);
+    unmap_hole(SPACE_3 - 4096, SPACE_3 - OAK_1_GIB, OAK_1_GIB);
     unmap_refused(0x3FF000, 10);
     writes(513, 0);
     unmap_is(0x200000, 0x80200000, OAK_2_MIB, 3, 0);
@@ -446,20 +458,48 @@ static void query_refusals(void) {
     query_refused(SPACE_3, 4);
     query_refused(LIMIT, 4);
     query_refused(MOST, 4);
-    query_refused(0x2000, 9);
-    query_refused(0x2FFF, 9);
-    query_refused(0x400000, 9);
-    query_refused(SPACE_3 - 1, 9);
+    query_hole(0x2000, 0x2000, 4096);
+    query_hole(0x2FFF, 0x2000, 4096);
+    query_hole(0x400000, 0x400000, OAK_2_MIB);
+    query_hole(SPACE_3 - 1, SPACE_3 - OAK_1_GIB, OAK_1_GIB);
     query_is(0, 0, FRAME, 4096, 3);
     query_is(0x1FFF, 0x1000, 0x80001000, 4096, 5);
     query_is(0x3FFFFF, 0x200000, 0x80200000, OAK_2_MIB, 3);
     fresh(4, POOL, 4);
-    query_refused(SPACE_3, 9);
-    query_refused(LIMIT - 1, 9);
+    query_hole(SPACE_3, SPACE_3, SPACE_3);
+    query_hole(LIMIT - 1, LIMIT - SPACE_3, SPACE_3);
     query_refused(LIMIT, 4);
-    unmap_refused(LIMIT - 4096, 9);
+    unmap_hole(LIMIT - 4096, LIMIT - SPACE_3, SPACE_3);
     unmap_refused(LIMIT, 4);
     map_refused(LIMIT, FRAME, OAK_1_GIB, 3, 4);
+}
+
+/* ---- holes: as large as the walk saw them, and larger again once a table is pruned */
+
+static void holes(void) {
+    fresh(3, POOL, 4);
+    query_hole(0, 0, OAK_1_GIB);
+    unmap_hole(0, 0, OAK_1_GIB);
+    query_hole(0x7FFFFFFF, 0x40000000, OAK_1_GIB);
+    three_mappings();
+    query_hole(0x400000, 0x400000, OAK_2_MIB);
+    query_hole(0x3000, 0x3000, 4096);
+    query_hole(0x1FFFFF, 0x1FF000, 4096);
+    query_hole(0x40000000, 0x40000000, OAK_1_GIB);
+    writes(1024, 0);
+    unmap_is(0, FRAME, 4096, 3, 0);
+    query_hole(0, 0, 4096);
+    writes(1025, 0);
+    writes(512, 0);
+    writes_place(1, 2);
+    unmap_is(0x1000, 0x80001000, 4096, 5, 1);
+    query_hole(0, 0, OAK_2_MIB);
+    unmap_hole(0x1000, 0, OAK_2_MIB);
+    writes(513, 0);
+    writes(0, 0);
+    writes_place(2, 1);
+    unmap_is(0x200000, 0x80200000, OAK_2_MIB, 3, 1);
+    query_hole(0x200000, 0, OAK_1_GIB);
 }
 
 /* ---- each rule of the audit, broken alone where it can be */
@@ -516,6 +556,7 @@ int main(void) {
     damaged_words();
     unmap_refusals();
     query_refusals();
+    holes();
     audit_refusals();
     printf("%lu passed, %lu failed\n", passed, failed);
     return failed != 0;

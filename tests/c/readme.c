@@ -19,8 +19,9 @@ int main(void) {
     setup = mapped.setup;
 
     passed += oak_query(&setup, words, 4 * 512, list, 4, 0x123, &found) == 0 && found.frame == 0x80000000;
-    passed += oak_query(&setup, words, 4 * 512, list, 4, 0x1000, &found) == 9; /* nothing is mapped there */
+    passed += oak_query(&setup, words, 4 * 512, list, 4, 0x201000, &found) == 9; /* nothing is mapped there */
+    passed += found.hole_base == 0x200000 && found.hole_size == OAK_2_MIB;       /* and so much around it is free */
 
-    printf("%d passed, %d failed\n", passed, 4 - passed);
-    return passed != 4;
+    printf("%d passed, %d failed\n", passed, 5 - passed);
+    return passed != 5;
 }

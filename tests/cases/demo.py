@@ -46,6 +46,10 @@ def un(s, at):
 def qu(s, at):
     say(f'Query {at:#x}.')
     r = query_(s, W, L, at)
+    if r[0] == 'refused':
+        assert r[1] == 9
+        say(f'  Refused with 9: nothing is mapped there, and {NAMES[r[3]]} at {r[2]:#x} would fit.')
+        return
     say(f'  It lies in {NAMES[r[3]]} at {r[1]:#x}, mapped to memory {r[2]:#x}{rights(r[4])}.')
     say(f'  So it is memory {r[2] + at - r[1]:#x}.')
 
@@ -58,6 +62,9 @@ say('\nThe scan guest gets its program and a buffer for pictures.')
 s = mp(s, 0x1000, 0x80001000, 4096, 5)
 s = mp(s, 0x200000, 0x80200000, 2 ** 21, 3)
 qu(s, 0x201234)
+say('\nHow large a frame fits where nothing is mapped? Query says it.')
+qu(s, 0x401234)
+qu(s, 0x2345)
 say('\nThe scan guest asks for a page far away. It needs two tables more, and one is free.')
 s = mp(s, 0x40000000, 0x80400000, 4096, 3)
 say('\nNo empty table is left there: even 1 GiB fits at the same address.')
@@ -73,6 +80,7 @@ s = un(s, 0x200000)
 s = un(s, 0x1000)
 assert s.free == 3
 say('\nThe map that was refused is done now.')
+qu(s, 0x40000000)
 s = mp(s, 0x40000000, 0x80400000, 4096, 3)
 qu(s, 0x40000FFF)
 sys.stdout.write(''.join(l + '\n' for l in out))

@@ -16,11 +16,14 @@ def nums(s): return f'levels {s.levels}, base {s.base:#x}, tables {s.tables}, fr
 def fr(f, z, a): return f'frame {f:#x}, size {z:#x}, attributes {a}'
 
 
+def refused(k, *hole): return f'refused {k}' + (', hole {:#x}, size {:#x}'.format(*hole) if hole else '')
+
+
 def said(head, a, done, ow, op):
     """What a call answers, the setup after it, and what is not as it was."""
     words = [f'; word {i}={w:#x}' for i, (w, o) in enumerate(zip(W, ow)) if w != o]
     places = [f'; place {i}={t}' for i, (t, o) in enumerate(zip(L, op)) if t != o]
-    answer = f'refused {a[1]}' if a[0] == 'refused' else done(*a[1:])
+    answer = refused(*a[1:]) if a[0] == 'refused' else done(*a[1:])
     line(head, f' -> {answer}; {nums(cur)}' + (''.join(words + places) or '; kept'))
 
 
@@ -136,6 +139,55 @@ qu('last byte', 2 ** 48 - 1)
 qu('past the space', 2 ** 48)
 mp('past the space', 2 ** 48, FRAME, PAGE, 3)
 un('last page', 2 ** 48 - 4096)
+
+heading('Holes.')
+lend('an empty pool', 2048, 7, 4, 9)
+fmt('an empty pool', 3, BASE, 4)
+qu('an empty pool', 0)
+un('an empty pool', 0)
+qu('inside the region', GIB + 0x12345)
+qu('last page', 2 ** 39 - 4096)
+qu('past the space', 2 ** 39)
+mp('case 2', 0, FRAME, PAGE, 3)
+qu('after case 2', 0x200000)
+qu('after case 2', 0x2000)
+qu('the last byte of a page', 0x2FFF)
+un('after case 2', 0x2000)
+un('a page of a larger hole', 0x3FF000)
+qu('after case 2', GIB)
+un('the page beside it is no hole', 0)
+qu('pruned, the hole is the larger one again', 0)
+mp('two pages of two tables', 0x1000, FRAME, PAGE, 3)
+mp('two pages of two tables', 0x400000, FRAME, PAGE, 3)
+qu('two pages of two tables', 0)
+qu('two pages of two tables', 0x401000)
+un('one of them', 0x400000)
+qu('its table is pruned, and the table above stays', 0x401000)
+un('the other', 0x1000)
+qu('both are', 0x401000)
+mp('a page short of the last', 2 ** 39 - 8192, FRAME, PAGE, 3)
+qu('the last page of the space', 2 ** 39 - 1)
+un('the last page of the space', 2 ** 39 - 4096)
+mp('the last page of the space', 2 ** 39 - 4096, FRAME, PAGE, 3)
+un('a page short of the last', 2 ** 39 - 8192)
+qu('a page short of the last', 2 ** 39 - 8192)
+mp('1 GiB', 0, FRAME, GIB, 3)
+qu('beside 1 GiB', GIB)
+fmt('four levels', 4, BASE, 4)
+qu('four levels', 0)
+qu('four levels', 2 ** 48 - 1)
+un('four levels', 2 ** 39 + 4096)
+mp('four levels', 0, FRAME, GIB, 3)
+qu('beside 1 GiB', GIB)
+qu('beside 512 GiB', 2 ** 39)
+mp('four levels', 2 ** 39 - 4096, FRAME, PAGE, 3)
+qu('beside the page', 2 ** 39 - 4097)
+qu('beside its 2 MiB', 2 ** 39 - 2 ** 21 - 1)
+qu('beside its 1 GiB', 2 ** 39 - 2 ** 30 - 1)
+qu('beside its 512 GiB', 2 ** 39)
+un('four levels', 2 ** 39 - 4096)
+un('four levels', 0)
+qu('four levels', 0)
 
 heading('The sixteen attributes. A page with device attributes 11 has the low 12 bits 0x4c3.')
 fmt('attributes', 3, BASE, 4)

@@ -59,6 +59,12 @@ def walk(s, words, address, target):
         met.append(t)
 
 
+def hole(address, h):
+    """Refusal 9, with the base and the size of the region of the entry where the walk ended."""
+    size = 2 ** (12 + 9 * h)
+    return ('refused', 9, address // size * size, size)
+
+
 def format_(levels, P, n, words, places):
     if bad_numbers(levels, P, n, words, places): return ('refused', 1), Setup(0, 0, 0, 0)
     words[:] = [0] * len(words)
@@ -97,7 +103,7 @@ def unmap_(s, words, places, address):
     if address % 4096: return ('refused', 5), s
     met, h, e = walk(s, words, address, 0)
     if e[0] in ('damaged', 'table'): return ('refused', 8), s
-    if e[0] == 'empty': return ('refused', 9), s
+    if e[0] == 'empty': return hole(address, h), s
     if address % SIZE[h]: return ('refused', 10), s
     trial, given, hh = list(words), [], h
     trial[512 * met[-1] + index(address, h)] = 0
@@ -118,7 +124,7 @@ def query_(s, words, places, address):
     if address >= SPACE[s.levels]: return ('refused', 4)
     met, h, e = walk(s, words, address, 0)
     if e[0] in ('damaged', 'table'): return ('refused', 8)
-    if e[0] == 'empty': return ('refused', 9)
+    if e[0] == 'empty': return hole(address, h)
     return ('found', address - address % SIZE[h], e[1], SIZE[h], e[2])
 
 

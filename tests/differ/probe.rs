@@ -282,7 +282,7 @@ impl Lent {
     }
 
     fn unmap(&mut self, address: u64) {
-        let mut answer = [55; 8];
+        let mut answer = [55; 10];
         let r = tried(|| oakabut::oak_unmap(&self.setup, &mut self.words, &mut self.list, address, &mut answer));
         told(&format!("{} unmap {address:#x}", self.name), format!("{r} {answer:?}"), &self.words, &self.list);
         if r == "0" {
@@ -292,7 +292,7 @@ impl Lent {
 
     // All that changes nothing, at an address.
     fn asked(&self, address: u64) {
-        let mut answer = [55; 4];
+        let mut answer = [55; 6];
         let r = tried(|| oakabut::oak_query(&self.setup, &self.words, &self.list, address, &mut answer));
         line(&format!("{} query {address:#x} = {r} {answer:?}", self.name));
         let [levels, base, tables, free] = self.setup;

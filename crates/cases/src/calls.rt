@@ -12,7 +12,7 @@ use model::UnmapAnswer;
 use model::Unmapped;
 use path::Setup;
 
-// An answer as numbers: the refusal or 0, the setup that is handed back, and the rest, followed by zeros.
+// An answer as numbers: the refusal or 0, the setup that is handed back, and the rest, which with 9 is the hole, followed by zeros.
 pub(crate) type Told = [u64; 9];
 
 // A call on the memory that is lent, which is the first words and places.
@@ -104,6 +104,7 @@ fn unmapped(r: Unmapped) -> Told {
             attributes,
             tables,
         } => told(0, r.setup, frame, size, attributes, tables),
+        UnmapAnswer::Hole { base, size } => told(9, r.setup, base, size, 0, 0),
         UnmapAnswer::Refused(k) => told(k, r.setup, 0, 0, 0, 0),
     }
 }
@@ -118,6 +119,7 @@ fn query(line: &Line, words: &[u64], list: &[u32]) -> Told {
             size,
             attributes,
         } => told(0, s, base, frame, size, attributes),
+        QueryAnswer::Hole { base, size } => told(9, s, base, size, 0, 0),
         QueryAnswer::Refused(k) => told(k, s, 0, 0, 0, 0),
     }
 }

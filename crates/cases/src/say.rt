@@ -35,11 +35,20 @@ fn hex(before: &[u8], n: u64) {
 // What a call answers.
 pub(crate) fn answer(call: u8, told: Told) {
     if told[0] != 0 {
-        number(b" -> refused ", told[0]);
+        refused(told);
     } else {
         done(call, told);
     }
     setup(told);
+}
+
+// A refusal's number, and with 9 the hole.
+fn refused(told: Told) {
+    number(b" -> refused ", told[0]);
+    if told[0] == 9 {
+        hex(b", hole ", told[5]);
+        hex(b", size ", told[6]);
+    }
 }
 
 // What a call answers that refuses nothing.

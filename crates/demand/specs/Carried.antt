@@ -25,7 +25,8 @@ use Rattle.tree.specs.Tree.{Ent, empty, frame, table, Geo, Rendered}
 use Rattle.tree.specs.Inv.{Store}
 use Rattle.tree.specs.Ops.{grow, mem, Mem}
 use Rattle.tree.specs.Prune.{Bare, bare?, Pool, pool, prune}
-use Rattle.demand.specs.Shown.{and-true, pg, baseOf, attrsOf}
+use Rattle.model.specs.LedgerLaws.{and-true}
+use Rattle.demand.specs.Shown.{pg, baseOf, attrsOf}
 use Rattle.demand.specs.Arm.{geo}
 use Rattle.demand.specs.Memories as memories
 use Rattle.demand.specs.Memories.{readAt, placeAt, table-ends, in-table}

@@ -8,11 +8,12 @@ use lib.ListN.{take}
 use Rattle.path.specs.Geometry.{Granule, sizeAt}
 use Rattle.path.specs.Areas.{Area, total}
 use Rattle.entry.specs.declared.Entry.the-variants.{Table}
-use Rattle.model.specs.Answers.{Answer, answered, refusal, refused, Pool, pool, Done, done}
+use Rattle.model.specs.Answers.{Answer, answered, refusal, refused, hole, Pool, pool, Done, done}
 use Rattle.model.specs.Calls.{walkTo, formatW, queryW, mapW, unmapW}
 use Rattle.model.specs.Audit.{auditW, freeOf}
 use Rattle.model.specs.Sound.{reachedOf}
 use Rattle.model.specs.Ledger.{Ledger, region, regionsNeeded, freeTables, Entered, entered, formatL, queryL, mapL, unmapL, auditL}
+use Rattle.model.specs.Holes.{IsHole}
 use Rattle.laws.specs.Lists.{Distinct}
 use Rattle.demand.specs.Holds.{Holds}
 
@@ -106,6 +107,9 @@ pub record Rests (G : Granule) (p : Pool) (A : Ledger) : Type 0 where
   pub one-region : (h a h′ a′ t : ℕ) → NeededBy G A h a → NeededBy G A h′ a′ → StandsFor G p h a t → StandsFor G p h′ a′ t → (h ≡ h′) × (a ≡ a′)
   -- the audit accepts, with the ledger's counts
   pub audit : auditW G p ≡ auditL G A
+  -- where query or unmap answers 9 with a base and a size, no live mapping touches that region, and the next larger one holds one
+  pub query-hole : (a b s : ℕ) → queryW G p a ≡ hole b s → IsHole G A a (region s b)
+  pub unmap-hole : (a b s : ℕ) → unmapW G p a .answer ≡ hole b s → IsHole G A a (region s b)
 
 -- the promise, for a pool p, the ledger A that it holds, and any calls cs
 pub record Demand3 (G : Granule) (p : Pool) (A : Ledger) (cs : List Call) : Type 0 where

@@ -15,11 +15,12 @@ use Rattle.entry.specs.declared.Entry.{Entry}
 use Rattle.entry.specs.declared.Entry.the-variants.{Empty, Table, Frame, Damaged}
 use Rattle.model.specs.Answers.{Pool}
 use Rattle.model.specs.declared.Walked.{Walked}
-use Rattle.model.specs.Calls.{walkTo}
+use Rattle.model.specs.Calls.{walkTo, unmapW}
 use Rattle.model.specs.Audit.{freeOf}
 use Rattle.model.specs.Sound.{reachedOf}
 use Rattle.model.specs.AuditLaws.{pool-reached-low}
-use Rattle.model.specs.Ledger.{Ledger, Region, region, regionsNeeded}
+use Rattle.model.specs.Ledger.{Ledger, Region, region, regionsNeeded, unmapL}
+use Rattle.model.specs.HoleLaws.{query-hole, unmap-hole}
 use Rattle.tree.specs.Region.{anc, page}
 use Rattle.tree.specs.Tree.{Ent, table, table≢empty, readOf, rTable}
 use Rattle.tree.specs.Walk.{chain, nonzero}
@@ -31,7 +32,7 @@ use Rattle.demand.specs.Arm.{readEntry}
 use Rattle.demand.specs.Walks.{Ended}
 use Rattle.demand.specs.Holds.{Holds}
 use Rattle.demand.specs.Sims.{SimIf, Sim, sim-holds, reached-is}
-use Rattle.demand.specs.Queries.{k₀, R, own, pool-good, root-at, space-is, walk-ended, tables-above}
+use Rattle.demand.specs.Queries.{k₀, R, own, pool-good, root-at, space-is, walk-ended, tables-above, own-shaped, query-own}
 use Rattle.demand.specs.Maps.{own-sim, free-is}
 use Rattle.demand.specs.Others.{audit-own}
 use Rattle.demand.specs.Demand3.{StandsFor, NeededBy, Rests}
@@ -118,8 +119,11 @@ module _ (G : Granule) (Z : Sane G) {p : Pool} {A : Ledger} (I : Sim G Z p A) wh
   free-long : length (freeOf p) ≡ p .numbers .free
   free-long = length-take-le (p .numbers .free) (p .list) (omega (arith, I .good .numbers .places-are, I .good .room))
 
-  pub rests-own : Rests G p (own G Z I)
-  rests-own = record {
+  some-level : 0 < p .numbers .levels
+  some-level = omega (arith, root-at G Z I)
+
+  pub rests-own : ((a : ℕ) → unmapW G p a .answer ≡ unmapL G (own G Z I) a .answer) → Rests G p (own G Z I)
+  rests-own unmap-own = record {
     holds = H;
     free-count = sym (free-is G Z I tt tt);
     once = all-distinct;
@@ -137,4 +141,6 @@ module _ (G : Granule) (Z : Sane G) {p : Pool} {A : Ledger} (I : Sim G Z p A) wh
         let (c, d) = R G Z I .inj h r h′ r′ s s′ (cc) in
         (c, sym e ∙ (λ i. d i * sizeAt G (c i)) ∙ e′);
     audit = audit-own G Z I;
+    query-hole = λ a b s e. query-hole G (own G Z I) (own-shaped G Z I) a some-level b s (sym (query-own G Z I tt a) ∙ e);
+    unmap-hole = λ a b s e. unmap-hole G (own G Z I) (own-shaped G Z I) a some-level b s (sym (unmap-own a) ∙ e);
   }

@@ -15,6 +15,7 @@ use Rattle.path.specs.Geometry.{Granule, pageSize, entries, sizeAt, Sane}
 use Rattle.path.specs.Paths.{baseAt}
 use Rattle.path.specs.Laws.{page-pos, entries-pos, size-pos, size-le, size-rises, size-injective, size-add}
 use Rattle.model.specs.Answers as answers
+use Rattle.model.specs.LedgerLaws.{and-true, true-and, or-true, true-or}
 use Rattle.model.specs.Ledger.{overlaps, anyOverlap, holdsAddress, coverOf, dropAt, Region, region, regionsOf, hasRegion, newRegions, regionsNeeded, tablesNeeded, tablesLacking}
 use Rattle.tree.specs.Region.{anc, Same, same?, page, anc-page, anc-address, page-address}
 use Rattle.tree.specs.Inv.{Mapping, mapping, without, drop-if}
@@ -28,22 +29,6 @@ cond-ite x y true (yes p) f g = refl
 cond-ite x y true (no n) f g = absurd (n (f refl))
 cond-ite x y false (yes p) f g = absurd (false≢true (g p))
 cond-ite x y false (no n) f g = refl
-
-pub and-true : (a b : Bool) → (a && b) ≡ true → (a ≡ true) × (b ≡ true)
-and-true true b e = (refl, e)
-and-true false b e = absurd (false≢true e)
-
-pub true-and : {a b : Bool} → a ≡ true → b ≡ true → (a && b) ≡ true
-true-and {a} {b} p q = rw (p, q) refl
-
-pub or-true : (a b : Bool) → (a || b) ≡ true → (a ≡ true) ⊎ (b ≡ true)
-or-true true b e = inl refl
-or-true false b e = inr e
-
-pub true-or : (a b : Bool) → (a ≡ true) ⊎ (b ≡ true) → (a || b) ≡ true
-true-or true b e = refl
-true-or false b (inl e) = absurd (false≢true e)
-true-or false b (inr e) = e
 
 -- a frame's payload is its base and its attributes in one number
 abbrev pub baseOf : ℕ → ℕ

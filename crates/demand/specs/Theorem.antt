@@ -87,7 +87,7 @@ module _ (G : Granule) (Z : Sane G) where
         go y e = rw (sym same) (on (goodNumbers G levels area (length (p .words)) (length (p .list))) refl)
 
     ask-own : (q : Ask) → askW G p q ≡ askL G (own G Z I) q
-    ask-own (query a) = query-own G Z I a
+    ask-own (query a) = query-own G Z I tt a
     ask-own audit = audit-own G Z I
 
     step-own : (c : Call) → Alike G Z (stepW G p c) (stepL G (own G Z I) c)
@@ -100,7 +100,7 @@ module _ (G : Granule) (Z : Sane G) where
     step-alike c = subst (λ (B : Ledger). Alike G Z (stepW G p c) (stepL G B c)) (sym (ledger-is G Z I)) (step-own c)
 
     pub rests : Rests G p A
-    rests = subst (λ (B : Ledger). Rests G p B) (sym (ledger-is G Z I)) (rests-own G Z I)
+    rests = subst (λ (B : Ledger). Rests G p B) (sym (ledger-is G Z I)) (rests-own G Z I (λ a. unmap-step a .answer))
 
   -- any sequence
   pub after-sim : (cs : List Call) {p : Pool} {A : Ledger} → Sim G Z p A → Sim G Z (poolAfter G p cs) (ledgerAfter G A cs)
@@ -150,7 +150,7 @@ module _ (G : Granule) (Z : Sane G) where
   unfolding queryL auditL
   ask-never-eight A (query a) = go (leb (spaceOf G (A .levels)) a) (coverOf a (A .live))
     where
-      go : (y : Bool) (m : Option Mapping) → cond y (refused 4) (queryOf m) ≢ refused 8
+      go : (y : Bool) (m : Option Mapping) → cond y (refused 4) (queryOf G A a m) ≢ refused 8
       go true m = small 4 (omega arith)
       go false none = other (λ e. cc)
       go false (some m) = other (λ e. cc)

@@ -27,7 +27,7 @@ use Rattle.model.specs.declared.Walked.{Walked}
 use Rattle.model.specs.Walk.{slot, atHeight}
 use Rattle.model.specs.Writes.{Memory, memory, performAll, freed, pruneWrites, unmapWrites}
 use Rattle.model.specs.Calls.{walkTo, written, unmapTests, unmapHere, unmapAt, unmapW}
-use Rattle.model.specs.Ledger.{Ledger, ledger, withLive, coverOf, dropAt, freeTables, Entered, entered, unmapOf, unmapL}
+use Rattle.model.specs.Ledger.{Ledger, ledger, withLive, coverOf, dropAt, freeTables, holeAt, Entered, entered, unmapOf, unmapL}
 use Rattle.tree.specs.Region.{anc, page, Same, same?, upd, upd-other}
 use Rattle.tree.specs.Tree.{Ent, empty, frame, table, table≢empty, table≢frame, empty≢frame, readOf, Geo, Rendered}
 use Rattle.tree.specs.Walk.{chain, Ends, unmet}
@@ -43,7 +43,7 @@ use Rattle.demand.specs.Memories.{readAt, placeAt, rd-wr}
 use Rattle.demand.specs.Walks.{Ended, spot, wayAt, never-bad, entry-table}
 use Rattle.demand.specs.Carried.{A, Cleared, clear-first, prune-carried}
 use Rattle.demand.specs.Sims.{SimIf}
-use Rattle.demand.specs.Queries.{area, n, k₀, al, X, R, own, few, root-at, walk-ended, tables-above, entry-empty, entry-frame}
+use Rattle.demand.specs.Queries.{area, n, k₀, al, X, R, own, few, root-at, walk-ended, tables-above, hole-own, entry-empty, entry-frame}
 use Rattle.demand.specs.Maps.{AlikeIf, own-sim, free-is, regood}
 
 -- without one mapping nothing stands twice that did not before
@@ -218,7 +218,10 @@ module _ (G : Granule) (Z : Sane G) {C D : Type 0} {p : Pool} {B : Ledger} (I : 
           rw (covered b k z, ne-eqb _ _ away) (record { answer = refl; sim = own-sim G Z I })
 
       at : (e : Entry) → o .entry ≡ e → readEntry e ≡ readOf (I .S h r) (I .T h r) → AlikeIf C D G Z (unmapAt G p a o e) ledgerSays
-      at Empty q z = rw (cover-lookup G Z a (I .L) ∙ ap (Option·map (shown G Z)) (query-none (R G Z I) (I .inv .holds) (E .ends) (entry-empty (I .S h r) (I .T h r) z))) (record { answer = refl; sim = own-sim G Z I })
+      at Empty q z =
+          let y = entry-empty (I .S h r) (I .T h r) z in
+          let c = cover-lookup G Z a (I .L) ∙ ap (Option·map (shown G Z)) (query-none (R G Z I) (I .inv .holds) (E .ends) y) in
+          rw c (record { answer = ap holeAt (sym (hole-own G Z I all a o E y c)); sim = own-sim G Z I })
       at (Frame b k) q z = frees b k (entry-frame (I .S h r) (I .T h r) (b + k) z) q (eqb (a % sizeAt G h) 0) refl
       at (Table c) q z = absurd (ended (R G Z I) (E .ends) (entry-table (I .S h r) (I .T h r) c z .0))
       at Damaged q z = absurd (never-bad (I .S h r) (I .T h r) z)

@@ -78,6 +78,14 @@ fn refused(k: u64) {
     text(b".\n");
 }
 
+// Refusal 9, with the hole.
+fn nothing(base: u64, bytes: u64) {
+    text(b"  Refused with 9: nothing is mapped there, and ");
+    size(bytes);
+    address(b" at ", base);
+    text(b" would fit.\n");
+}
+
 // Whether the memory and the setup are as they were.
 
 fn same_words(words: &Words, old: &Words) -> bool {
@@ -194,6 +202,10 @@ fn unmap(s: Setup, words: &mut Words, list: &mut List, at: u64) -> Setup {
             number(b" is the host's again; tables given back ", tables);
             text(b".\n");
         }
+        UnmapAnswer::Hole { base, size } => {
+            nothing(base, size);
+            compared(same_setup(s, back) && same_words(words, &old) && same_list(list, &places));
+        }
         UnmapAnswer::Refused(k) => {
             refused(k);
             compared(same_setup(s, back) && same_words(words, &old) && same_list(list, &places));
@@ -217,6 +229,7 @@ fn query(s: Setup, words: &Words, list: &List, at: u64) {
             found(base, frame, size, attributes);
             leads_to(wrapping_add_u64(frame, wrapping_sub_u64(at, base)));
         }
+        QueryAnswer::Hole { base, size } => nothing(base, size),
         QueryAnswer::Refused(k) => refused(k),
     }
 }
@@ -241,6 +254,9 @@ fn scan_starts(s: Setup, words: &mut Words, list: &mut List) -> Setup {
     let s = map(s, words, list, 0x1000, 0x8000_1000, PAGE, 5);
     let s = map(s, words, list, 0x20_0000, 0x8020_0000, MIB2, 3);
     query(s, words, list, 0x20_1234);
+    text(b"\nHow large a frame fits where nothing is mapped? Query says it.\n");
+    query(s, words, list, 0x40_1234);
+    query(s, words, list, 0x2345);
     s
 }
 
@@ -270,6 +286,7 @@ fn scan_gives_back(s: Setup, words: &mut Words, list: &mut List) -> Setup {
 
 fn scan_asks_again(s: Setup, words: &mut Words, list: &mut List) {
     text(b"\nThe map that was refused is done now.\n");
+    query(s, words, list, 0x4000_0000);
     let s = map(s, words, list, 0x4000_0000, 0x8040_0000, PAGE, 3);
     query(s, words, list, 0x4000_0FFF);
 }

@@ -15,7 +15,7 @@ use Rattle.hardware.specs.Machine.{nGnRnE, writeBack, device, normal, ou
 
 -- the cases, and a device page beside them
 abbrev pages : Both
-pages = map (map (map format 0 0x80000000 4096 3) 0x1000 0x80001000 4096 5) 0x200000 0x80200000 0x200000 3
+pages = map (map (map (format 3) 0 0x80000000 4096 3) 0x1000 0x80001000 4096 5) 0x200000 0x80200000 0x200000 3
 
 abbrev all : Both
 all = map pages 0x3000 0x9000000 4096 11
@@ -62,7 +62,7 @@ pub record Examples : Type 0 where
   pub hole : translated 0x2000 ≡ none
   pub past : translated 0x8000000000 ≡ none
   -- the single writes of case 2: two tables wiped and linked, and the frame's word
-  pub writes : length (writesOf four (format .pool .after) (mapC 0 0x80000000 4096 3)) ≡ 1027
+  pub writes : length (writesOf four (format 3 .pool .after) (mapC 0 0x80000000 4096 3)) ≡ 1027
   -- a refused call has none: case 5
   pub refused : writesOf four (all .pool .after) (mapC 0x201000 0x80000000 4096 3) ≡ []
   -- what an unmap may change: what its mapping's addresses read

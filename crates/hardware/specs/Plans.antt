@@ -17,7 +17,7 @@ use Rattle.path.specs.Areas.{Area, areaOf, total, tableAt, GoodArea}
 use Rattle.model.specs.Walk.{slot}
 use Rattle.model.specs.Writes.{Write, store, wipe, give, Memory, memory, perform, performAll, mapWrites, mayTake, pruneWrites}
 use Rattle.model.specs.LeftLaws.{perform-length}
-use Rattle.demand.specs.Shown.{and-true}
+use Rattle.model.specs.LedgerLaws.{and-true}
 use Rattle.demand.specs.Memories.{table-ends}
 use Rattle.hardware.specs.Machine.{zerosFrom, placesFrom, single, singles, visible}
 

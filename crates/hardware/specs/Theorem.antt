@@ -162,7 +162,7 @@ module _ (G : Granule) (Z : Sane G) {p : Pool} {A : Ledger} (I : Sim G Z p A) wh
     where
       go : (d : Done) → UnmapView G p a d → By (unmapC a) d
       go d (unmap-gives b k Y) = unmap-seen G Z I a b k Y (Unit {0})
-      go d (unmap-refuses j) = idle (Unit {0})
+      go d (unmap-refuses j v) = idle (Unit {0})
   seen (askC q) = idle-or (accepts (askW G p q)) (Unit {0})
 
   -- and outside the mapping concerned
@@ -178,7 +178,7 @@ module _ (G : Granule) (Z : Sane G) {p : Pool} {A : Ledger} (I : Sim G Z p A) wh
     where
       go : (d : Done) → UnmapView G p a d → told (cond (accepts (d .answer)) (dropAt a live) live) x ≡ told live x
       go d (unmap-gives b k Y) = unmap-outside G Z I a b k Y x e
-      go d (unmap-refuses j) = refl
+      go d (unmap-refuses j v) = refl
   elsewhere (askC q) x e = refl
 
   -- the ledger's mappings after the call

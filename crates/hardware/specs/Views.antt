@@ -14,12 +14,12 @@ use Rattle.path.specs.Geometry.{Granule, entries, sizeAt, heightOf}
 use Rattle.path.specs.Areas.{Area, areaOf, total, tableAt, GoodArea}
 use Rattle.path.specs.Numbers.{noSetup, setupOf, goodNumbers, GoodNumbers}
 use Rattle.path.specs.Laws.{good-numbers, good-setup}
-use Rattle.path.specs.Paths.{pathOf}
+use Rattle.path.specs.Paths.{baseAt, pathOf}
 use Rattle.entry.specs.Words.{frameWord}
 use Rattle.entry.specs.declared.Entry.{Entry}
 use Rattle.entry.specs.declared.Entry.the-variants.{Empty, Table, Frame, Damaged}
 use Rattle.model.specs.declared.Walked.{Walked}
-use Rattle.model.specs.Answers.{Mapping, mapping, formatted, took, gave, refused, Pool, pool, Done, done, refuse}
+use Rattle.model.specs.Answers.{Mapping, mapping, formatted, took, gave, refusal, refused, Pool, pool, Done, done, refuse}
 use Rattle.model.specs.Walk.{atHeight}
 use Rattle.model.specs.Writes.{Write, memory, performAll, mapWrites, mayTake, freed, unmapWrites}
 use Rattle.model.specs.Calls.{goodPool, written, walkTo, formatW, mapTests, mapHere, mapAt, mapW, unmapTests, unmapHere, unmapAt, unmapW}
@@ -145,7 +145,7 @@ module _ (G : Granule) (p : Pool) where
     -- what an unmap comes to
     pub data UnmapView : Done → Type 0 where
       unmap-gives : (b k : ℕ) → Gave b k → UnmapView (giving b k)
-      unmap-refuses : (n : ℕ) → UnmapView (refuse n p)
+      unmap-refuses : (n : ℕ) (v : List ℕ) → UnmapView (done (refusal n v) p)
 
     pub unmap-view : UnmapView (unmapW G p a)
     unfolding unmapW unmapAt unmapHere
@@ -155,34 +155,34 @@ module _ (G : Granule) (p : Pool) where
         no = unmapTests G (p .numbers .levels) a
 
         room : (b k : ℕ) → Gave b k → (y : Bool) → UnmapView (cond y (refuse 8 p) (giving b k))
-        room b k R true = unmap-refuses 8
+        room b k R true = unmap-refuses 8 []
         room b k R false = unmap-gives b k R
 
         start : (b k : ℕ) → goodPool G p ≡ true → no ≡ 0 → o₀ .entry ≡ Frame b k → (y : Bool) → eqb (a % sizeAt G (o₀ .left)) 0 ≡ y
             → UnmapView (cond y (unmapHere G p a b k o₀ given) (refuse 10 p))
         start b k q r e true s =
             room b k (record { good = q; tests = r; framed = e; starts = eqb-true _ 0 s }) (ltb (total (areaOf (p .numbers)) - 1) (f + given))
-        start b k q r e false s = unmap-refuses 10
+        start b k q r e false s = unmap-refuses 10 []
 
         at : goodPool G p ≡ true → no ≡ 0 → (e : Entry) → o₀ .entry ≡ e → UnmapView (unmapAt G p a o₀ e)
         at q r (Frame b k) e = start b k q r e (eqb (a % sizeAt G (o₀ .left)) 0) refl
-        at q r Empty e = unmap-refuses 9
-        at q r (Table c) e = unmap-refuses 8
-        at q r Damaged e = unmap-refuses 8
+        at q r Empty e = unmap-refuses 9 (baseAt G a (o₀ .left) ∷ sizeAt G (o₀ .left) ∷ [])
+        at q r (Table c) e = unmap-refuses 8 []
+        at q r Damaged e = unmap-refuses 8 []
 
         second : goodPool G p ≡ true → (y : Bool) → eqb no 0 ≡ y → UnmapView (cond y (unmapAt G p a o₀ (o₀ .entry)) (refuse no p))
         second q true r = at q (eqb-true no 0 r) (o₀ .entry) refl
-        second q false r = unmap-refuses no
+        second q false r = unmap-refuses no []
 
         first : (y : Bool) → goodPool G p ≡ y → UnmapView (cond y (cond (eqb no 0) (unmapAt G p a o₀ (o₀ .entry)) (refuse no p)) (refuse 1 p))
         first true q = second q (eqb no 0) refl
-        first false q = unmap-refuses 1
+        first false q = unmap-refuses 1 []
 
     pub unmap-carries : (d : Done) → UnmapView d → Carries G p (unmapC a) d
     unfolding performAll
     unmap-carries d (unmap-gives b k R) =
         singles-carried G planned₀ (memory (p .words) (p .list)) (tt, prune-range G (length (p .words)) (o₀ .tables) (pathOf G a) given (o₀ .left) f)
-    unmap-carries d (unmap-refuses n) = refl
+    unmap-carries d (unmap-refuses n v) = refl
 
   -- ---- format
 

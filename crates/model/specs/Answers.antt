@@ -54,6 +54,10 @@ audited t m = answered (t ∷ m ∷ [])
 abbrev pub refused : ℕ → Answer
 refused k = refusal k []
 
+-- refusal 9, with the hole around the address: the base and the size of the empty region
+abbrev pub hole : ℕ → ℕ → Answer
+hole b s = refusal 9 (b ∷ s ∷ [])
+
 -- the paper's answer for each case of the code's answers
 abbrev pub saysFormat : FormatAnswer → Answer
 saysFormat F.Done = formatted
@@ -65,10 +69,12 @@ saysMap (M.Refused k) = refused k
 
 abbrev pub saysUnmap : UnmapAnswer → Answer
 saysUnmap (U.Given b s a t) = gave b s a t
+saysUnmap (U.Hole b s) = hole b s
 saysUnmap (U.Refused k) = refused k
 
 abbrev pub saysQuery : QueryAnswer → Answer
 saysQuery (Q.Found v b s a) = found (mapping v b s a)
+saysQuery (Q.Hole b s) = hole b s
 saysQuery (Q.Refused k) = refused k
 
 abbrev pub saysAudit : AuditAnswer → Answer

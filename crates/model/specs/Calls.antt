@@ -14,7 +14,7 @@ use Rattle.entry.specs.Words.{frameWord}
 use Rattle.entry.specs.declared.Entry.{Entry}
 use Rattle.entry.specs.declared.Entry.the-variants.{Empty, Table, Frame, Damaged}
 use Rattle.model.specs.declared.Walked.{Walked}
-use Rattle.model.specs.Answers.{Answer, formatted, took, gave, found, refused, mapping, Pool, pool, Done, done, refuse}
+use Rattle.model.specs.Answers.{Answer, formatted, took, gave, found, refused, hole, mapping, Pool, pool, Done, done, refuse}
 use Rattle.model.specs.Walk.{noWay, atHeight, walkFrom}
 use Rattle.model.specs.Writes.{Memory, memory, Write, performAll, mapWrites, mayTake, freed, unmapWrites}
 
@@ -39,10 +39,10 @@ formatW G levels area ws list =
     (done formatted (pool (setupOf levels area (total area - 1)) (replicate (length ws) 0) (down (total area))))
     (refuse 1 (pool noSetup ws list))
 
--- Query: the entry where the walk to the last level ends
+-- Query: the entry where the walk to the last level ends; an empty one is a hole of its region
 unfoldable pub foundAt : Granule → ℕ → Entry → ℕ → Answer
 foundAt G a (Frame b k) h = found (mapping (baseAt G a h) b (sizeAt G h) k)
-foundAt G a Empty h = refused 9
+foundAt G a Empty h = hole (baseAt G a h) (sizeAt G h)
 foundAt G a (Table c) h = refused 8
 foundAt G a Damaged h = refused 8
 
@@ -103,7 +103,7 @@ unmapAt G p a o (Frame b k) =
     cond (eqb (a % sizeAt G (o .left)) 0)
     (unmapHere G p a b k o (freed G (p .words) (o .tables) (pathOf G a) (o .left) (p .numbers .levels - 1 - o .left)))
     (refuse 10 p)
-unmapAt G p a o Empty = refuse 9 p
+unmapAt G p a o Empty = done (hole (baseAt G a (o .left)) (sizeAt G (o .left))) p
 unmapAt G p a o (Table _) = refuse 8 p
 unmapAt G p a o Damaged = refuse 8 p
 

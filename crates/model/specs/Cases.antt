@@ -1,4 +1,5 @@
--- Document 01's eleven cases, as one statement over the definitions: the calls over a pool and over a ledger, each on what the last one left.
+-- Document 01's eleven cases, as one statement over the definitions: the calls over a pool and over a ledger, each on what the last one left. The holes of
+-- request 2 stand beside them.
 use Prim.Native.Nat.{ℕ}
 use mathlib.Core.Path.{_≡_, refl}
 use mathlib.Core.Bool.{true}
@@ -10,24 +11,24 @@ use Rattle.path.specs.Areas.{areaAt}
 use Rattle.path.specs.Numbers.{goodNumbers, goodSetup}
 use Rattle.path.specs.Paths.{indexAt, baseAt, indices, pathOf}
 use Rattle.entry.specs.Words.{typeAt, frameWord, tableWord, childAt, frameAt, entryAt}
-use Rattle.model.specs.Answers.{Mapping, mapping, Answer, formatted, took, gave, found, refused, Done, refuse}
+use Rattle.model.specs.Answers.{Mapping, mapping, Answer, formatted, took, gave, found, refused, hole, Done, done, refuse}
 use Rattle.model.specs.Walk.{onward, walkFrom}
 use Rattle.model.specs.Writes.{performAll, mapWrites, mayTake, onlyEntry, freed, pruneWrites}
 use Rattle.model.specs.Calls.{formatW, foundAt, queryW, mapTests, mapHere, mapAt, mapW, unmapTests, unmapHere, unmapAt, unmapW}
-use Rattle.model.specs.Ledger.{Entered, entered, ledger, anyOverlap, coverOf, dropAt, regionsOf, hasRegion, newRegions, regionsNeeded, tablesNeeded, tablesLacking, freeTables, formatL, mapL, unmapOf, unmapL, queryL}
+use Rattle.model.specs.Ledger.{Entered, entered, ledger, anyOverlap, coverOf, dropAt, regionsOf, hasRegion, newRegions, regionsNeeded, tablesNeeded, tablesLacking, freeTables, holeFrom, holeOf, formatL, mapL, unmapOf, unmapL, queryL}
 
 -- a call's answer and the pool after it, and the same by the ledger
 pub record Both : Type 0 where
   pub pool : Done
   pub ledger : Entered
 
--- a format, three levels, P = 0x40000000, n = 4, of memory and of a ledger that hold anything
-unfoldable pub format : Both
+-- a format, P = 0x40000000, n = 4, of memory and of a ledger that hold anything
+unfoldable pub format : ℕ → Both
 unfolding goodLevels goodNumbers down formatW formatL
-format =
+format levels =
     record {
-      pool = formatW four 3 (areaAt 0x40000000 4) (replicate 2048 7) (replicate 4 9);
-      ledger = formatL four (ledger 9 (areaAt 9 4) (mapping 1 2 3 4 ∷ [])) 3 (areaAt 0x40000000 4);
+      pool = formatW four levels (areaAt 0x40000000 4) (replicate 2048 7) (replicate 4 9);
+      ledger = formatL four (ledger 9 (areaAt 9 4) (mapping 1 2 3 4 ∷ [])) levels (areaAt 0x40000000 4);
     }
 
 -- a map, and an unmap, of what a call left
@@ -36,12 +37,12 @@ unfolding goodSetup sizeAt spaceOf seek heightOf mapTests indexAt indices pathOf
 map B a b size k = record { pool = mapW four (B .pool .after) a b size k; ledger = mapL four (B .ledger .after) a b size k }
 
 unfoldable pub unmap : Both → ℕ → Both
-unfolding unmapTests part allZero onlyEntry freed pruneWrites unmapHere unmapAt unmapW coverOf dropAt unmapOf unmapL
+unfolding unmapTests part allZero onlyEntry freed pruneWrites unmapHere unmapAt unmapW coverOf dropAt holeFrom holeOf unmapOf unmapL
 unmap B a = record { pool = unmapW four (B .pool .after) a; ledger = unmapL four (B .ledger .after) a }
 
 -- The calls, numbered as the cases are.
 abbrev case1 : Both
-case1 = format
+case1 = format 3
 
 abbrev case2 : Both
 case2 = map case1 0 0x80000000 4096 3
@@ -90,6 +91,10 @@ Answers B x = (B .pool .answer ≡ x) × (B .ledger .answer ≡ x)
 abbrev Refuses : Both → Both → ℕ → Type 0
 Refuses B C k = (C .pool ≡ refuse k (B .pool .after)) × (C .ledger ≡ entered (refused k) (B .ledger .after))
 
+-- both refuse with 9 and this hole, and leave all as the call before left it
+abbrev Holes : Both → Both → ℕ → ℕ → Type 0
+Holes B C b s = (C .pool ≡ done (hole b s) (B .pool .after)) × (C .ledger ≡ entered (hole b s) (B .ledger .after))
+
 -- so many tables are free, by the setup number and by the ledger
 abbrev Free : Both → ℕ → Type 0
 Free B f = (B .pool .after .numbers .free ≡ f) × (freeTables four (B .ledger .after) ≡ f)
@@ -110,12 +115,22 @@ pub record Cases : Type 0 where
   pub formats : Answers case1 formatted
   pub list-1 : case1 .pool .after .list ≡ 3 ∷ 2 ∷ 1 ∷ 0 ∷ []
   pub free-1 : Free case1 3
+  -- the hole of an empty pool: a root entry's region, 1 GiB with three levels, 512 GiB with four; at the end of the space too
+  pub hole-1 : Finds case1 0 (hole 0 0x40000000)
+  pub hole-last : Finds case1 0x7FFFFFFFFF (hole 0x7FC0000000 0x40000000)
+  pub hole-four : Finds (format 4) 0 (hole 0 0x8000000000)
+  pub hole-four-last : Finds (format 4) 0xFFFFFFFFF000 (hole 0xFF8000000000 0x8000000000)
   -- 2: a page that takes two tables
   pub takes-2 : Answers case2 (took 2)
   pub free-2 : Free case2 1
   pub word-0 : word case2 0 ≡ 0x40001003
   pub word-512 : word case2 512 ≡ 0x40002003
   pub word-1024 : word case2 1024 ≡ 0x00400000800007FF
+  -- the holes beside it
+  pub hole-2 : Finds case2 0x200000 (hole 0x200000 0x200000)
+  pub hole-2-inside : Finds case2 0x3FFFFF (hole 0x200000 0x200000)
+  pub hole-2-page : Finds case2 0x2000 (hole 0x2000 4096)
+  pub hole-2-root : Finds case2 0x40000000 (hole 0x40000000 0x40000000)
   -- 3: a page beside it
   pub takes-3 : Answers case3 (took 0)
   pub word-1025 : word case3 1025 ≡ 0x8000177F
@@ -133,20 +148,24 @@ pub record Cases : Type 0 where
   pub finds-7 : Finds case6 0x201234 (found (mapping 0x200000 0x80200000 0x200000 3))
   -- 8: an unmap inside it; an unmap of nothing
   pub refuses-8 : Refuses case6 case8 10
-  pub refuses-8b : Refuses case8 case8b 9
-  -- 9: the two pages go, and with the second their table
+  pub refuses-8b : Holes case8 case8b 0x3000 4096
+  -- 9: the two pages go, and with the second their table: the hole is the larger one again
   pub gives-9 : Answers case9 (gave 0x80000000 4096 3 0)
   pub gives-9b : Answers case9b (gave 0x80001000 4096 5 1)
+  pub hole-9 : Finds case9 0 (hole 0 4096)
+  pub hole-9b : Finds case9b 0 (hole 0 0x200000)
   pub place-9b : place case9b 1 ≡ 2
   pub free-9b : Free case9b 2
   -- 10: the frame of 2 MiB goes with its table, and the empty root stays
   pub gives-10 : Answers case10 (gave 0x80200000 0x200000 3 1)
   pub place-10 : place case10 2 ≡ 1
   pub free-10 : Free case10 3
+  pub hole-10 : Finds case10 0 (hole 0 0x40000000)
   pub root-10 : allZero (part (case10 .pool .after .words) 0 512) ≡ true
   -- 11: the last page of the space; the first past it
   pub takes-11 : Answers case11 (took 2)
   pub free-11 : Free case11 1
+  pub hole-11 : Finds case11 0x7FFFFFE000 (hole 0x7FFFFFE000 4096)
   pub refuses-11b : Refuses case11 case11b 4
 
 pub cases : Cases
@@ -156,11 +175,19 @@ cases =
       formats = (refl, refl);
       list-1 = refl;
       free-1 = (refl, refl);
+      hole-1 = (refl, refl);
+      hole-last = (refl, refl);
+      hole-four = (refl, refl);
+      hole-four-last = (refl, refl);
       takes-2 = (refl, refl);
       free-2 = (refl, refl);
       word-0 = refl;
       word-512 = refl;
       word-1024 = refl;
+      hole-2 = (refl, refl);
+      hole-2-inside = (refl, refl);
+      hole-2-page = (refl, refl);
+      hole-2-root = (refl, refl);
       takes-3 = (refl, refl);
       word-1025 = refl;
       takes-4 = (refl, refl);
@@ -175,13 +202,17 @@ cases =
       refuses-8b = (refl, refl);
       gives-9 = (refl, refl);
       gives-9b = (refl, refl);
+      hole-9 = (refl, refl);
+      hole-9b = (refl, refl);
       place-9b = refl;
       free-9b = (refl, refl);
       gives-10 = (refl, refl);
       place-10 = refl;
       free-10 = (refl, refl);
+      hole-10 = (refl, refl);
       root-10 = refl;
       takes-11 = (refl, refl);
       free-11 = (refl, refl);
+      hole-11 = (refl, refl);
       refuses-11b = (refl, refl);
     }

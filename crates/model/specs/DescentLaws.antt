@@ -23,8 +23,9 @@ use Rattle.model.specs.declared.Walked.{Walked}
 use Rattle.model.specs.Answers.{Pool}
 use Rattle.model.specs.Walk.{slot, atHeight, noWay, stop, onward, walkFrom}
 use Rattle.model.specs.Calls.{goodPool, walkTo}
-use Rattle.model.specs.Descent.{Reads, Descends, WalkEnds}
+use Rattle.model.specs.Descent.{Reads, Descends, WalkEnds, Comes, StopsAt}
 use Rattle.model.specs.Descent.Descends.{at-entry, at-target, come-again, go-down}
+use Rattle.model.specs.Descent.Comes.{at-root, further}
 
 -- the four places hold the tables seen, and 0 at height h and below
 record Holds (h : ℕ) (way seen : List ℕ) : Type 0 where
@@ -132,3 +133,35 @@ module _ {G : Granule} (S : Sane G) (p : Pool) (good : goodPool G p ≡ true) (a
   -- so the walk ends with an entry exactly when the descent does
   pub ends-exactly : (e : Entry) → (walkTo G p g a .entry ≡ e) ↔ ((l : ℕ) × WalkEnds G p a g e l)
   ends-exactly e = (λ q. (walkTo G p g a .left, subst (λ (x : Entry). WalkEnds G p a g x (walkTo G p g a .left)) q walk-ends), λ (l, E). ends-walk E .0)
+
+-- ---- the level where a walk stops, for each ending
+
+-- what ends from a table that the walk comes to ends the walk
+comes-ends : {G : Granule} {p : Pool} {a g h t : ℕ} {seen : List ℕ} {e : Entry} {l : ℕ} → Comes G p a g h t seen → Descends G p a g h t seen e l → WalkEnds G p a g e l
+comes-ends at-root D = D
+comes-ends (further C r m n) D = comes-ends C (go-down r m n D)
+
+module _ {G : Granule} (S : Sane G) (p : Pool) (good : goodPool G p ≡ true) (a g : ℕ) where
+  stops : {h t : ℕ} {seen : List ℕ} {e : Entry} {l : ℕ} → Comes G p a g h t seen → Descends G p a g h t seen e l → StopsAt G p a g e l
+  stops C D = ends-walk S p good a g (comes-ends C D)
+
+  module _ {h t : ℕ} {seen : List ℕ} where
+    -- at an empty entry: the level of the entry
+    pub stops-empty : Comes G p a g h t seen → Reads G p a h t Empty → StopsAt G p a g Empty h
+    stops-empty C r = stops C (at-entry r (λ c z. clash (cc)))
+
+    -- at a frame: the level of its entry
+    pub stops-frame : {b k : ℕ} → Comes G p a g h t seen → Reads G p a h t (Frame b k) → StopsAt G p a g (Frame b k) h
+    stops-frame C r = stops C (at-entry r (λ c z. clash (cc)))
+
+    -- at a table, at the target: the level of the entry that names it
+    pub stops-target : {c : ℕ} → Comes G p a g h t seen → Reads G p a h t (Table c) → h ≤ g → StopsAt G p a g (Table c) h
+    stops-target C r m = stops C (at-target r m)
+
+    -- at a damaged word: the level of its entry
+    pub stops-damaged : Comes G p a g h t seen → Reads G p a h t Damaged → StopsAt G p a g Damaged h
+    stops-damaged C r = stops C (at-entry r (λ c z. clash (cc)))
+
+    -- where a table is come to again: the level of that table, one below the entry that names it
+    pub stops-again : {c : ℕ} → Comes G p a g (suc h) t seen → Reads G p a (suc h) t (Table c) → g ≤ h → List·Memᴰ c (t ∷ seen) → StopsAt G p a g Damaged h
+    stops-again C r m n = stops C (come-again r m n)

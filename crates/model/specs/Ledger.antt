@@ -9,7 +9,7 @@ use Rattle.path.specs.Geometry.{Granule, pageSize, entries, sizeAt, spaceOf}
 use Rattle.path.specs.Areas.{Area, total}
 use Rattle.path.specs.Numbers.{goodNumbers}
 use Rattle.path.specs.Paths.{baseAt}
-use Rattle.model.specs.Answers.{Mapping, mapping, Answer, formatted, took, gave, found, audited, refused}
+use Rattle.model.specs.Answers.{Mapping, mapping, Answer, formatted, took, gave, found, audited, refused, hole}
 use Rattle.model.specs.Calls.{mapTests, unmapTests}
 
 -- the pool's numbers, and the live mappings
@@ -86,6 +86,21 @@ tablesLacking G levels L m = length (newRegions (regionsOf G m (levels - 1)) (re
 unfoldable pub freeTables : Granule → Ledger → ℕ
 freeTables G A = total (A .area) - 1 - tablesNeeded G (A .levels) (A .live)
 
+-- The hole around an address: the largest region of the tree's sizes that holds it and that no live mapping touches. Of the regions around it, each an
+-- entry's at one level, from height k down, it is the first without an overlap; the page is the last that there is.
+unfoldable pub holeFrom : Granule → ℕ → List Mapping → ℕ → Region
+holeFrom G a L zero = region (sizeAt G zero) (baseAt G a zero)
+holeFrom G a L (suc k) =
+    cond (anyOverlap (baseAt G a (suc k)) (sizeAt G (suc k)) L) (holeFrom G a L k) (region (sizeAt G (suc k)) (baseAt G a (suc k)))
+
+-- from the root's entries down
+unfoldable pub holeOf : Granule → Ledger → ℕ → Region
+holeOf G A a = holeFrom G a (A .live) (A .levels - 1)
+
+-- refusal 9 by the ledger
+abbrev pub holeAt : Region → Answer
+holeAt r = hole (r .first) (r .size)
+
 -- a call's answer, and the ledger after it
 pub record Entered : Type 0 where
   pub answer : Answer
@@ -112,9 +127,9 @@ mapL G A a b size k =
     (entered (took need) (withLive A (mapping a b size k ∷ A .live)))))
     (entered (refused no) A)
 
--- Unmap: 9 where no mapping holds the address, 10 where the one that does starts elsewhere
+-- Unmap: 9 and the hole where no mapping holds the address, 10 where the one that does starts elsewhere
 unfoldable pub unmapOf : Granule → Ledger → ℕ → Option Mapping → Entered
-unmapOf G A a none = entered (refused 9) A
+unmapOf G A a none = entered (holeAt (holeOf G A a)) A
 unmapOf G A a (some m) =
     let B = withLive A (dropAt a (A .live)) in
     cond (eqb (m .at) a) (entered (gave (m .frame) (m .size) (m .attributes) (freeTables G B - freeTables G A)) B) (entered (refused 10) A)
@@ -124,13 +139,13 @@ unmapL G A a =
     let no = unmapTests G (A .levels) a in
     cond (eqb no 0) (unmapOf G A a (coverOf a (A .live))) (entered (refused no) A)
 
--- Query: the mapping that holds the address
-abbrev pub queryOf : Option Mapping → Answer
-queryOf none = refused 9
-queryOf (some m) = found m
+-- Query: the mapping that holds the address, or 9 and the hole
+abbrev pub queryOf : Granule → Ledger → ℕ → Option Mapping → Answer
+queryOf G A a none = holeAt (holeOf G A a)
+queryOf G A a (some m) = found m
 
 unfoldable pub queryL : Granule → Ledger → ℕ → Answer
-queryL G A a = cond (leb (spaceOf G (A .levels)) a) (refused 4) (queryOf (coverOf a (A .live)))
+queryL G A a = cond (leb (spaceOf G (A .levels)) a) (refused 4) (queryOf G A a (coverOf a (A .live)))
 
 -- Audit: the root and the tables needed, and the live mappings
 unfoldable pub auditL : Granule → Ledger → Answer

@@ -4,6 +4,9 @@ pub mod Writes
 pub mod Calls
 pub mod Audit
 pub mod Ledger
+pub mod Holes
+pub mod LedgerLaws
+pub mod HoleLaws
 pub mod Refusing
 pub mod Unique
 pub mod Cases

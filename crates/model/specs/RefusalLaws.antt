@@ -22,7 +22,7 @@ use Rattle.entry.specs.Laws.{table-only}
 use Rattle.entry.specs.declared.Entry.{Entry}
 use Rattle.entry.specs.declared.Entry.the-variants.{Empty, Table, Frame, Damaged}
 use Rattle.model.specs.declared.Walked.{Walked}
-use Rattle.model.specs.Answers.{Answer, formatted, took, gave, found, audited, refused, Mapping, mapping, Pool, pool, Done, done, refuse}
+use Rattle.model.specs.Answers.{Answer, formatted, took, gave, found, audited, refusal, refused, hole, Mapping, mapping, Pool, pool, Done, done, refuse}
 use Rattle.model.specs.Walk.{slot, atHeight, stop, onward, walkFrom, noWay}
 use Rattle.model.specs.Writes.{mayTake, onlyEntry, freed}
 use Rattle.model.specs.Unique.{found-same}
@@ -34,7 +34,7 @@ use Rattle.model.specs.DescentLaws.{clash}
 use Rattle.model.specs.Refusals.{Broken, Breaks, NoSize, NoAttributes, NotBelow, Above, Outside, Misplaced, Occupied, Damage, Vacant}
 use Rattle.model.specs.Refusals.{mapWalk, needed, taken, BadTaken, BadList, lastWalk, OffPage, OffStart, Starts, Emptied, GivesBack, FullList}
 use Rattle.model.specs.Refusals.{Row, row, First, None, mapTable, unmapTable, queryTable, auditTable, formatTable}
-use Rattle.model.specs.Refusals.{ByTable, FormatNumbers, WellFormedMap, MapNumbers, UnmapNumbers, QueryNumbers, AuditNumbers}
+use Rattle.model.specs.Refusals.{bare, withHole, ByTable, FormatNumbers, WellFormedMap, MapNumbers, UnmapNumbers, QueryNumbers, AuditNumbers}
 use Rattle.model.specs.Refusals.Broken.{bad-levels, no-table, many-tables, base-unaligned, base-high, bad-words, bad-places}
 use Rattle.model.specs.Refusals.Outside.{starts-outside, ends-outside, frame-outside}
 use Rattle.model.specs.Refusals.BadTaken.{root-taken, beyond-taken, taken-twice, taken-on-path}
@@ -53,42 +53,50 @@ first-some [] n f z = f
 first-some (r ∷ rows) n (inl (x, e)) z = z .0 x
 first-some (r ∷ rows) n (inr (x, f)) z = first-some rows n f (z .1)
 
--- a call keeps a table: it is refused by the first row that applies, or none applies and it is accepted
-data Told (rows : List Row) (p : Pool) (Good : Done → Type 0) (d : Done) : Type 0 where
-  refused-by : (n : ℕ) → First rows n → d ≡ refuse n p → Told rows p Good d
-  accepted-by : None rows → Good d → Told rows p Good d
+-- a call keeps a table: it is refused by the first row that applies, with what goes with the number, or none applies and it is accepted
+data Told (rows : List Row) (more : ℕ → List ℕ) (p : Pool) (Good : Done → Type 0) (d : Done) : Type 0 where
+  refused-by : (n : ℕ) → First rows n → d ≡ done (refusal n (more n)) p → Told rows more p Good d
+  accepted-by : None rows → Good d → Told rows more p Good d
 
-same-number : {m n : ℕ} → refused m ≡ refused n → m ≡ n
+same-number : {m n : ℕ} {u v : List ℕ} → refusal m u ≡ refusal n v → m ≡ n
 same-number e = cc
 
-module _ {rows : List Row} {p : Pool} {Good : Done → Type 0} {d : Done} where
-  by-table : Told rows p Good d → ((n : ℕ) → Good d → d .answer ≡ refused n → ⊥) → ByTable rows p d
+same-values : {m n : ℕ} {u v : List ℕ} → refusal m u ≡ refusal n v → v ≡ u
+same-values e = cc
+
+module _ {rows : List Row} {more : ℕ → List ℕ} {p : Pool} {Good : Done → Type 0} {d : Done} where
+  by-table : Told rows more p Good d → ((n : ℕ) (v : List ℕ) → Good d → d .answer ≡ refusal n v → ⊥) → ByTable rows more p d
   by-table (refused-by m f e) other = record {
-    gives = λ n. (λ q. subst (First rows) (number n q) f, λ g. ap (λ (c : Done). c .answer) e ∙ ap refused (first-unique rows f g));
-    kept = λ n q. ap (λ (c : Done). c .after) e;
+    gives = λ n. (λ q. subst (First rows) (number n (more n) q) f, λ g. said ∙ ap (λ (k : ℕ). refusal k (more k)) (first-unique rows f g));
+    carries = λ n v q. same-values (sym said ∙ q) ∙ ap more (number n v q);
+    kept = λ n v q. ap (λ (c : Done). c .after) e;
   }
     where
-      number : (n : ℕ) → d .answer ≡ refused n → m ≡ n
-      number n q = same-number (sym (ap (λ (c : Done). c .answer) e) ∙ q)
+      said : d .answer ≡ refusal m (more m)
+      said = ap (λ (c : Done). c .answer) e
+
+      number : (n : ℕ) (v : List ℕ) → d .answer ≡ refusal n v → m ≡ n
+      number n v q = same-number (sym said ∙ q)
   by-table (accepted-by z g) other = record {
-    gives = λ n. (λ q. absurd (other n g q), λ f. absurd (first-some rows n f z));
-    kept = λ n q. absurd (other n g q);
+    gives = λ n. (λ q. absurd (other n (more n) g q), λ f. absurd (first-some rows n f z));
+    carries = λ n v q. absurd (other n v g q);
+    kept = λ n v q. absurd (other n v g q);
   }
 
   -- what is no refusal is answered exactly when no row applies
-  by-none : Told rows p Good d → (x : Answer) → ((n : ℕ) → x ≢ refused n) → (d .answer ≡ x → None rows × Good d)
-  by-none (refused-by m f e) x other q = absurd (other m (sym q ∙ ap (λ (c : Done). c .answer) e))
+  by-none : Told rows more p Good d → (x : Answer) → ((n : ℕ) (v : List ℕ) → x ≢ refusal n v) → (d .answer ≡ x → None rows × Good d)
+  by-none (refused-by m f e) x other q = absurd (other m (more m) (sym q ∙ ap (λ (c : Done). c .answer) e))
   by-none (accepted-by z g) x other q = (z, g)
 
-  none-by : Told rows p Good d → None rows → Good d
+  none-by : Told rows more p Good d → None rows → Good d
   none-by (refused-by m f e) z = absurd (first-some rows m f z)
   none-by (accepted-by z′ g) z = g
 
-module _ {rows : List Row} {p : Pool} {Good : Done → Type 0} where
-  hit : {n : ℕ} {P : Type 0} → P → Told (row n P ∷ rows) p Good (refuse n p)
+module _ {rows : List Row} {more : ℕ → List ℕ} {p : Pool} {Good : Done → Type 0} where
+  hit : {n : ℕ} {P : Type 0} → P → Told (row n P ∷ rows) more p Good (done (refusal n (more n)) p)
   hit {n} x = refused-by n (inl (x, refl)) refl
 
-  miss : {n : ℕ} {P : Type 0} {d : Done} → (¬ P) → Told rows p Good d → Told (row n P ∷ rows) p Good d
+  miss : {n : ℕ} {P : Type 0} {d : Done} → (¬ P) → Told rows more p Good d → Told (row n P ∷ rows) more p Good d
   miss x (refused-by m f e) = refused-by m (inr (x, f)) e
   miss x (accepted-by z g) = accepted-by (x, z) g
 
@@ -451,12 +459,12 @@ module _ (levels base tables : ℕ) (ws list : List ℕ) where
   abbrev lent : Pool
   lent = pool noSetup ws list
 
-  format-told : Told (formatTable levels base tables ws list) lent (λ d. d .answer ≡ formatted) (formatW four levels (areaAt base tables) ws list)
+  format-told : Told (formatTable levels base tables ws list) bare lent (λ d. d .answer ≡ formatted) (formatW four levels (areaAt base tables) ws list)
   unfolding formatW
   format-told = go (goodNumbers four levels (areaAt base tables) (length ws) (length list)) refl (done formatted _) refl
     where
       go : (x : Bool) → goodNumbers four levels (areaAt base tables) (length ws) (length list) ≡ x → (d : Done) → d .answer ≡ formatted
-          → Told (formatTable levels base tables ws list) lent (λ d. d .answer ≡ formatted) (cond x d (refuse 1 lent))
+          → Told (formatTable levels base tables ws list) bare lent (λ d. d .answer ≡ formatted) (cond x d (refuse 1 lent))
       go true e d q = miss (good-unbroken (good-numbers e)) (accepted-by tt q)
       go false e d q = hit (bad-broken e)
 
@@ -478,22 +486,22 @@ module _ (p : Pool) (a b size k : ℕ) where
   abbrev Walks : List Row
   Walks = row 6 (Occupied o) ∷ row 8 (Damage o) ∷ Empties
 
-  here-told : Told Empties p Took (mapHere four p a b g k o (needed p a size))
+  here-told : Told Empties bare p Took (mapHere four p a b g k o (needed p a size))
   unfolding mapHere
   here-told = go (ltb (p .numbers .free) (needed p a size)) (mayTake (p .list) (p .numbers .tables) (o .tables) (p .numbers .free) (needed p a size)) refl refl (done (took (needed p a size)) _) refl
     where
       go : (x y : Bool) → ltb (p .numbers .free) (needed p a size) ≡ x
           → mayTake (p .list) (p .numbers .tables) (o .tables) (p .numbers .free) (needed p a size) ≡ y
-          → (d : Done) → Took d → Told Empties p Took (cond x (refuse 7 p) (cond y d (refuse 8 p)))
+          → (d : Done) → Took d → Told Empties bare p Took (cond x (refuse 7 p) (cond y d (refuse 8 p)))
       go true y e t d q = hit (ltb-true (p .numbers .free) (needed p a size) e)
       go false y e t d q = miss (λ l. omega (arith, ltb-false (p .numbers .free) (needed p a size) e)) (last y t)
         where
           last : (y : Bool) → mayTake (p .list) (p .numbers .tables) (o .tables) (p .numbers .free) (needed p a size) ≡ y
-              → Told (row 8 (BadList p a size) ∷ []) p Took (cond y d (refuse 8 p))
+              → Told (row 8 (BadList p a size) ∷ []) bare p Took (cond y d (refuse 8 p))
           last true t = miss (may-not-bad (p .list) (p .numbers .tables) (o .tables) (p .numbers .free) (needed p a size) t) (accepted-by tt q)
           last false t = hit (cannot-take (p .list) (p .numbers .tables) (o .tables) (p .numbers .free) (needed p a size) t)
 
-  walk-told : (e : Entry) → o .entry ≡ e → Told Walks p Took (mapAt four p a b g k o e)
+  walk-told : (e : Entry) → o .entry ≡ e → Told Walks bare p Took (mapAt four p a b g k o e)
   unfolding mapAt
   walk-told (Frame c d) q = hit (inl (c, d, q))
   walk-told (Table c) q = hit (inr (c, q))
@@ -506,8 +514,8 @@ module _ (p : Pool) (a b size k : ℕ) where
   abbrev Arguments : List Row → List Row
   Arguments rows = row 2 (NoSize size) ∷ row 3 (NoAttributes k) ∷ row 4 (Outside (p .numbers .levels) a b size) ∷ row 5 (Misplaced a b size) ∷ rows
 
-  tests-told : (p .numbers .levels ≡ 3) ⊎ (p .numbers .levels ≡ 4) → (d : Done) → Told Walks p Took d
-      → Told (Arguments Walks) p Took
+  tests-told : (p .numbers .levels ≡ 3) ⊎ (p .numbers .levels ≡ 4) → (d : Done) → Told Walks bare p Took d
+      → Told (Arguments Walks) bare p Took
       (cond (eqb (mapTests four (p .numbers .levels) a b size k) 0) d (refuse (mapTests four (p .numbers .levels) a b size k) p))
   unfolding mapTests
   tests-told levels d T =
@@ -522,14 +530,14 @@ module _ (p : Pool) (a b size k : ℕ) where
 
       go : (x₁ x₂ x₃ x₄ x₅ x₆ x₇ : Bool) → ltb 2 g ≡ x₁ → ltb 15 k ≡ x₂ → leb space a ≡ x₃ → ltb space (a + size) ≡ x₄ → ltb physical (b + size) ≡ x₅
           → eqb (a % size) 0 ≡ x₆ → eqb (b % size) 0 ≡ x₇
-          → Told (Arguments Walks) p Took (cond (eqb (number x₁ x₂ x₃ x₄ x₅ x₆ x₇) 0) d (refuse (number x₁ x₂ x₃ x₄ x₅ x₆ x₇) p))
+          → Told (Arguments Walks) bare p Took (cond (eqb (number x₁ x₂ x₃ x₄ x₅ x₆ x₇) 0) d (refuse (number x₁ x₂ x₃ x₄ x₅ x₆ x₇) p))
       go true x₂ x₃ x₄ x₅ x₆ x₇ e₁ e₂ e₃ e₄ e₅ e₆ e₇ = hit (no-size size e₁)
       go false true x₃ x₄ x₅ x₆ x₇ e₁ e₂ e₃ e₄ e₅ e₆ e₇ = miss (some-size size e₁) (hit (ltb-true 15 k e₂))
       go false false x₃ x₄ x₅ x₆ x₇ e₁ e₂ e₃ e₄ e₅ e₆ e₇ =
           miss (some-size size e₁) (miss (λ m. omega (arith, ltb-false 15 k e₂)) (range x₃ x₄ x₅ e₃ e₄ e₅))
         where
           aligned : (x₆ x₇ : Bool) → eqb (a % size) 0 ≡ x₆ → eqb (b % size) 0 ≡ x₇
-              → Told (row 5 (Misplaced a b size) ∷ Walks) p Took (cond (eqb (cond x₆ (cond x₇ 0 5) 5) 0) d (refuse (cond x₆ (cond x₇ 0 5) 5) p))
+              → Told (row 5 (Misplaced a b size) ∷ Walks) bare p Took (cond (eqb (cond x₆ (cond x₇ 0 5) 5) 0) d (refuse (cond x₆ (cond x₇ 0 5) 5) p))
           aligned false x₇ e₆ e₇ = hit (inl (eqb-false (a % size) 0 e₆))
           aligned true false e₆ e₇ = hit (inr (eqb-false (b % size) 0 e₇))
           aligned true true e₆ e₇ = miss (⊎-elim (λ z. z (eqb-true (a % size) 0 e₆)) (λ z. z (eqb-true (b % size) 0 e₇))) T
@@ -540,20 +548,20 @@ module _ (p : Pool) (a b size k : ℕ) where
           within e₃ e₄ e₅ (frame-outside z) = let m = ltb-false (2 ^ 48) (b + size) e₅ in omega arith
 
           range : (x₃ x₄ x₅ : Bool) → leb space a ≡ x₃ → ltb space (a + size) ≡ x₄ → ltb physical (b + size) ≡ x₅
-              → Told (row 4 (Outside l a b size) ∷ row 5 (Misplaced a b size) ∷ Walks) p Took (cond (eqb (number false false x₃ x₄ x₅ x₆ x₇) 0) d (refuse (number false false x₃ x₄ x₅ x₆ x₇) p))
+              → Told (row 4 (Outside l a b size) ∷ row 5 (Misplaced a b size) ∷ Walks) bare p Took (cond (eqb (number false false x₃ x₄ x₅ x₆ x₇) 0) d (refuse (number false false x₃ x₄ x₅ x₆ x₇) p))
           range true x₄ x₅ e₃ e₄ e₅ = hit (starts-outside (not-below l a levels e₃))
           range false true x₅ e₃ e₄ e₅ = hit (ends-outside (above l (a + size) levels e₄))
           range false false true e₃ e₄ e₅ = hit (frame-outside (ltb-true (2 ^ 48) (b + size) e₅))
           range false false false e₃ e₄ e₅ = miss (within e₃ e₄ e₅) (aligned x₆ x₇ e₆ e₇)
 
-  map-told : Told (mapTable p a b size k) p Took (mapW four p a b size k)
+  map-told : Told (mapTable p a b size k) bare p Took (mapW four p a b size k)
   unfolding mapW
   map-told = go (goodPool four p) refl
     where
       no : ℕ
       no = mapTests four (p .numbers .levels) a b size k
 
-      go : (x : Bool) → goodPool four p ≡ x → Told (mapTable p a b size k) p Took (cond x (cond (eqb no 0) (mapAt four p a b g k o (o .entry)) (refuse no p)) (refuse 1 p))
+      go : (x : Bool) → goodPool four p ≡ x → Told (mapTable p a b size k) bare p Took (cond x (cond (eqb no 0) (mapAt four p a b g k o (o .entry)) (refuse no p)) (refuse 1 p))
       go true e = miss (good-keeps p e) (tests-told (three-or-four p e) (mapAt four p a b g k o (o .entry)) (walk-told (o .entry) refl))
       go false e = hit (bad-breaks p e)
 
@@ -573,14 +581,14 @@ module _ (p : Pool) (a : ℕ) where
   abbrev givesUp : ℕ → ℕ → Answer
   givesUp b k = gave b (sizeAt four (w .left)) k (given p a w)
 
-  found-told : (e : Entry) → w .entry ≡ e → Told (row 8 (Damage w) ∷ row 9 (Vacant w) ∷ []) p (AtFrame finds) (done (foundAt four a e (w .left)) p)
-  unfolding foundAt
+  found-told : (e : Entry) → w .entry ≡ e → Told (row 8 (Damage w) ∷ row 9 (Vacant w) ∷ []) (withHole a w) p (AtFrame finds) (done (foundAt four a e (w .left)) p)
+  unfolding foundAt baseAt
   found-told (Frame b k) q = miss (λ z. clash (cc)) (miss (λ z. clash (cc)) (accepted-by tt (b, k, q, refl)))
   found-told Empty q = miss (λ z. clash (cc)) (hit q)
   found-told (Table c) q = absurd (no-table-last p a c q)
   found-told Damaged q = hit q
 
-  query-told : Told (queryTable p a) p (AtFrame finds) (done (queryW four p a) p)
+  query-told : Told (queryTable p a) (withHole a w) p (AtFrame finds) (done (queryW four p a) p)
   unfolding queryW
   query-told = go (goodPool four p) refl
     where
@@ -588,44 +596,44 @@ module _ (p : Pool) (a : ℕ) where
       space = spaceOf four (p .numbers .levels)
 
       range : (p .numbers .levels ≡ 3) ⊎ (p .numbers .levels ≡ 4) → (y : Bool) → leb space a ≡ y
-          → Told (row 4 (NotBelow (p .numbers .levels) a) ∷ row 8 (Damage w) ∷ row 9 (Vacant w) ∷ []) p (AtFrame finds)
+          → Told (row 4 (NotBelow (p .numbers .levels) a) ∷ row 8 (Damage w) ∷ row 9 (Vacant w) ∷ []) (withHole a w) p (AtFrame finds)
           (done (cond y (refused 4) (foundAt four a (w .entry) (w .left))) p)
       range l true e = hit (not-below (p .numbers .levels) a l e)
       range l false e = miss (is-below (p .numbers .levels) a e) (found-told (w .entry) refl)
 
       go : (x : Bool) → goodPool four p ≡ x
-          → Told (queryTable p a) p (AtFrame finds) (done (cond x (cond (leb space a) (refused 4) (foundAt four a (w .entry) (w .left))) (refused 1)) p)
+          → Told (queryTable p a) (withHole a w) p (AtFrame finds) (done (cond x (cond (leb space a) (refused 4) (foundAt four a (w .entry) (w .left))) (refused 1)) p)
       go true e = miss (good-keeps p e) (range (three-or-four p e) (leb space a) refl)
       go false e = hit (bad-breaks p e)
 
   abbrev Ends : List Row
   Ends = row 8 (Damage w) ∷ row 9 (Vacant w) ∷ row 10 (OffStart a w) ∷ row 8 (FullList p a) ∷ []
 
-  give-told : (b k : ℕ) → w .entry ≡ Frame b k → Told (row 8 (FullList p a) ∷ []) p (AtFrame givesUp) (unmapHere four p a b k w (given p a w))
+  give-told : (b k : ℕ) → w .entry ≡ Frame b k → Told (row 8 (FullList p a) ∷ []) (withHole a w) p (AtFrame givesUp) (unmapHere four p a b k w (given p a w))
   unfolding unmapHere
   give-told b k q = go (ltb (p .numbers .tables - 1) (p .numbers .free + given p a w)) refl (done (givesUp b k) _) refl
     where
       go : (x : Bool) → ltb (p .numbers .tables - 1) (p .numbers .free + given p a w) ≡ x → (d : Done) → d .answer ≡ givesUp b k
-          → Told (row 8 (FullList p a) ∷ []) p (AtFrame givesUp) (cond x (refuse 8 p) d)
+          → Told (row 8 (FullList p a) ∷ []) (withHole a w) p (AtFrame givesUp) (cond x (refuse 8 p) d)
       go true e d z = hit (given p a w, gives-back p a w, ltb-true (p .numbers .tables - 1) (p .numbers .free + given p a w) e)
       go false e d z = miss full (accepted-by tt (b, k, q, z))
         where
           full : FullList p a → ⊥
           full (n, B, l) = omega (arith, gives-one p a w B (gives-back p a w), ltb-false (p .numbers .tables - 1) (p .numbers .free + given p a w) e)
 
-  end-told : (e : Entry) → w .entry ≡ e → Told Ends p (AtFrame givesUp) (unmapAt four p a w e)
-  unfolding unmapAt
+  end-told : (e : Entry) → w .entry ≡ e → Told Ends (withHole a w) p (AtFrame givesUp) (unmapAt four p a w e)
+  unfolding unmapAt baseAt
   end-told Empty q = miss (λ z. clash (cc)) (hit q)
   end-told (Table c) q = absurd (no-table-last p a c q)
   end-told Damaged q = hit q
   end-told (Frame b k) q = miss (λ z. clash (cc)) (miss (λ z. clash (cc)) (go (eqb (a % sizeAt four (w .left)) 0) refl))
     where
       go : (x : Bool) → eqb (a % sizeAt four (w .left)) 0 ≡ x
-          → Told (row 10 (OffStart a w) ∷ row 8 (FullList p a) ∷ []) p (AtFrame givesUp) (cond x (unmapHere four p a b k w (given p a w)) (refuse 10 p))
+          → Told (row 10 (OffStart a w) ∷ row 8 (FullList p a) ∷ []) (withHole a w) p (AtFrame givesUp) (cond x (unmapHere four p a b k w (given p a w)) (refuse 10 p))
       go true e = miss (λ (c, d, z, n). n (eqb-true (a % sizeAt four (w .left)) 0 e)) (give-told b k q)
       go false e = hit (b, k, q, eqb-false (a % sizeAt four (w .left)) 0 e)
 
-  unmap-told : Told (unmapTable p a) p (AtFrame givesUp) (unmapW four p a)
+  unmap-told : Told (unmapTable p a) (withHole a w) p (AtFrame givesUp) (unmapW four p a)
   unfolding unmapW unmapTests
   unmap-told = go (goodPool four p) refl
     where
@@ -636,14 +644,14 @@ module _ (p : Pool) (a : ℕ) where
       no x y = cond x 4 (cond y 0 5)
 
       tests : (p .numbers .levels ≡ 3) ⊎ (p .numbers .levels ≡ 4) → (x y : Bool) → leb space a ≡ x → eqb (a % 4096) 0 ≡ y
-          → Told (row 4 (NotBelow (p .numbers .levels) a) ∷ row 5 (OffPage a) ∷ Ends) p (AtFrame givesUp)
+          → Told (row 4 (NotBelow (p .numbers .levels) a) ∷ row 5 (OffPage a) ∷ Ends) (withHole a w) p (AtFrame givesUp)
           (cond (eqb (no x y) 0) (unmapAt four p a w (w .entry)) (refuse (no x y) p))
       tests l true y e q = hit (not-below (p .numbers .levels) a l e)
       tests l false true e q = miss (is-below (p .numbers .levels) a e) (miss (λ z. z (eqb-true (a % 4096) 0 q)) (end-told (w .entry) refl))
       tests l false false e q = miss (is-below (p .numbers .levels) a e) (hit (eqb-false (a % 4096) 0 q))
 
       go : (x : Bool) → goodPool four p ≡ x
-          → Told (unmapTable p a) p (AtFrame givesUp)
+          → Told (unmapTable p a) (withHole a w) p (AtFrame givesUp)
           (cond x (cond (eqb (no (leb space a) (eqb (a % 4096) 0)) 0) (unmapAt four p a w (w .entry)) (refuse (no (leb space a) (eqb (a % 4096) 0)) p)) (refuse 1 p))
       go true e = miss (good-keeps p e) (tests (three-or-four p e) (leb space a) (eqb (a % 4096) 0) refl refl)
       go false e = hit (bad-breaks p e)
@@ -654,50 +662,57 @@ module _ (p : Pool) where
   abbrev Counts : Done → Type 0
   Counts d = d .answer ≡ audited (length (reachedOf four p)) (length (mappingsOf four p))
 
-  audit-told : Told (auditTable p) p Counts (done (auditW four p) p)
+  audit-told : Told (auditTable p) bare p Counts (done (auditW four p) p)
   unfolding auditW
   audit-told = go (goodPool four p) (soundPool four p) refl refl
     where
       go : (x y : Bool) → goodPool four p ≡ x → soundPool four p ≡ y
-          → Told (auditTable p) p Counts (done (cond x (cond y (audited (length (reachedOf four p)) (length (mappingsOf four p))) (refused 8)) (refused 1)) p)
+          → Told (auditTable p) bare p Counts (done (cond x (cond y (audited (length (reachedOf four p)) (length (mappingsOf four p))) (refused 8)) (refused 1)) p)
       go true true e q = miss (good-keeps p e) (miss (λ f. f (sound-only four p q)) (accepted-by tt refl))
       go true false e q = miss (good-keeps p e) (hit (λ s. true≢false (sym (sound-all four p s) ∙ q)))
       go false y e q = hit (bad-breaks p e)
 
 -- ---- each call keeps its table
 
-pub format-table : (levels base tables : ℕ) (ws list : List ℕ) → ByTable (formatTable levels base tables ws list) (pool noSetup ws list) (formatW four levels (areaAt base tables) ws list)
-format-table levels base tables ws list = by-table (format-told levels base tables ws list) (λ n q e. clash (cc))
+pub format-table : (levels base tables : ℕ) (ws list : List ℕ) → ByTable (formatTable levels base tables ws list) bare (pool noSetup ws list) (formatW four levels (areaAt base tables) ws list)
+format-table levels base tables ws list = by-table (format-told levels base tables ws list) (λ n v q e. clash (cc))
 
-pub map-table : (p : Pool) (a b size k : ℕ) → ByTable (mapTable p a b size k) p (mapW four p a b size k)
-map-table p a b size k = by-table (map-told p a b size k) (λ n q e. clash (cc))
+pub map-table : (p : Pool) (a b size k : ℕ) → ByTable (mapTable p a b size k) bare p (mapW four p a b size k)
+map-table p a b size k = by-table (map-told p a b size k) (λ n v q e. clash (cc))
 
-pub unmap-table : (p : Pool) (a : ℕ) → ByTable (unmapTable p a) p (unmapW four p a)
-unmap-table p a = by-table (unmap-told p a) (λ n (b, k, f, q) e. clash (cc))
+pub unmap-table : (p : Pool) (a : ℕ) → ByTable (unmapTable p a) (withHole a (lastWalk p a)) p (unmapW four p a)
+unmap-table p a = by-table (unmap-told p a) (λ n v (b, k, f, q) e. clash (cc))
 
-pub query-table : (p : Pool) (a : ℕ) → ByTable (queryTable p a) p (done (queryW four p a) p)
-query-table p a = by-table (query-told p a) (λ n (b, k, f, q) e. clash (cc))
+pub query-table : (p : Pool) (a : ℕ) → ByTable (queryTable p a) (withHole a (lastWalk p a)) p (done (queryW four p a) p)
+query-table p a = by-table (query-told p a) (λ n v (b, k, f, q) e. clash (cc))
 
-pub audit-table : (p : Pool) → ByTable (auditTable p) p (done (auditW four p) p)
-audit-table p = by-table (audit-told p) (λ n q e. clash (cc))
+pub audit-table : (p : Pool) → ByTable (auditTable p) bare p (done (auditW four p) p)
+audit-table p = by-table (audit-told p) (λ n v q e. clash (cc))
 
 -- ---- number by number
 
-module _ {rows : List Row} {p : Pool} {d : Done} (T : ByTable rows p d) where
+module _ {rows : List Row} {more : ℕ → List ℕ} {p : Pool} {d : Done} (T : ByTable rows more p d) where
   -- the number of row i; of rows i and j
-  row-of : (i n : ℕ) → alone rows i n ≡ true → (d .answer ≡ refused n) ↔ At rows i
+  row-of : (i n : ℕ) → alone rows i n ≡ true → (d .answer ≡ refusal n (more n)) ↔ At rows i
   row-of i n t = Iff·trans (T .gives n) (line rows i n t)
 
-  rows-of : (i j n : ℕ) → pair rows i j n ≡ true → (d .answer ≡ refused n) ↔ (At rows i ⊎ At rows j)
+  rows-of : (i j n : ℕ) → pair rows i j n ≡ true → (d .answer ≡ refusal n (more n)) ↔ (At rows i ⊎ At rows j)
   rows-of i j n t = Iff·trans (T .gives n) (lines rows i j n t)
+
+  -- with what it carries
+  row-with : (i n : ℕ) (v : List ℕ) → alone rows i n ≡ true → (d .answer ≡ refusal n v) ↔ (At rows i × (v ≡ more n))
+  row-with i n v t = (
+    λ e. let c = T .carries n v e in (row-of i n t .0 (e ∙ ap (refusal n) c), c),
+    λ (x, c). row-of i n t .1 x ∙ ap (refusal n) (sym c),
+  )
 
 pub format-numbers : (levels base tables : ℕ) (ws list : List ℕ) → FormatNumbers levels base tables ws list
 format-numbers levels base tables ws list = record {
   no-1 = row-of (format-table levels base tables ws list) 0 1 refl;
-  accepted = (λ e. by-none told formatted (λ n z. clash (cc)) e .0 .0, λ x. none-by told (x, tt));
+  accepted = (λ e. by-none told formatted (λ n v z. clash (cc)) e .0 .0, λ x. none-by told (x, tt));
 }
   where
-    told : Told (formatTable levels base tables ws list) (pool noSetup ws list) (λ d. d .answer ≡ formatted) (formatW four levels (areaAt base tables) ws list)
+    told : Told (formatTable levels base tables ws list) bare (pool noSetup ws list) (λ d. d .answer ≡ formatted) (formatW four levels (areaAt base tables) ws list)
     told = format-told levels base tables ws list
 
 pub audit-numbers : (p : Pool) → AuditNumbers p
@@ -730,6 +745,17 @@ module _ (p : Pool) (a : ℕ) where
   frame-there : {b k : ℕ} → lastWalk p a .entry ≡ Frame b k → ¬ Vacant (lastWalk p a)
   frame-there f v = clash (cc)
 
+  -- the two numbers of a hole
+  hole-is : (base size : ℕ) → ((base ∷ size ∷ []) ≡ withHole a (lastWalk p a) 9)
+      ↔ ((size ≡ sizeAt four (lastWalk p a .left)) × (base ≡ a - a % size))
+  hole-is base size = (λ e. let s : size ≡ sizeAt four (lastWalk p a .left) = cc in (s, start e ∙ ap (λ (z : ℕ). a - a % z) (sym s)), λ (s, b). both (b ∙ ap (λ (z : ℕ). a - a % z) s) s)
+    where
+      start : {b s c t : ℕ} → (b ∷ s ∷ []) ≡ (c ∷ t ∷ []) → b ≡ c
+      start e = cc
+
+      both : {b s c t : ℕ} → b ≡ c → s ≡ t → (b ∷ s ∷ []) ≡ (c ∷ t ∷ [])
+      both e f = λ i. e i ∷ f i ∷ []
+
   -- the walk ends at one frame
   frame-one : {b k c d : ℕ} → lastWalk p a .entry ≡ Frame b k → lastWalk p a .entry ≡ Frame c d → (b ≡ c) × (k ≡ d)
   frame-one f g = (cc, cc)
@@ -740,11 +766,14 @@ module _ (p : Pool) (a : ℕ) where
     no-1 = row-of T 0 1 refl;
     no-4 = row-of T 1 4 refl;
     no-8 = Iff·trans (row-of T 2 8 refl) (λ (x, (y, z)). (x, y, z), λ (x, y, z). (x, (y, z)));
-    no-9 = Iff·trans (row-of T 3 9 refl) (λ (x, (y, (_, z))). (x, y, z), λ (x, y, z). (x, (y, (vacant-sound z, z))));
-    accepted = λ at b size k. (λ e. forth at b size k e (by-none (query-told p a) (found (mapping at b size k)) (λ n z. clash (cc)) e), back at b size k);
+    no-9 = λ base size. Iff·trans (row-with T 3 9 (base ∷ size ∷ []) refl) (
+      λ ((x, (y, (_, z))), c). let (s, b) = hole-is base size .0 c in (x, y, z, s, b),
+      λ (x, y, z, s, b). ((x, (y, (vacant-sound z, z))), hole-is base size .1 (s, b)),
+    );
+    accepted = λ at b size k. (λ e. forth at b size k e (by-none (query-told p a) (found (mapping at b size k)) (λ n v z. clash (cc)) e), back at b size k);
   }
     where
-      T : ByTable (queryTable p a) p (done (queryW four p a) p)
+      T : ByTable (queryTable p a) (withHole a (lastWalk p a)) p (done (queryW four p a) p)
       T = query-table p a
 
       own : ℕ → ℕ → Mapping
@@ -776,16 +805,19 @@ module _ (p : Pool) (a : ℕ) where
     no-1 = row-of T 0 1 refl;
     no-4 = row-of T 1 4 refl;
     no-5 = Iff·trans (row-of T 2 5 refl) (λ (x, (y, z)). (x, y, z), λ (x, y, z). (x, (y, z)));
-    no-9 = Iff·trans (row-of T 4 9 refl) (λ (x, (y, (z, (_, v)))). (x, y, z, v), λ (x, y, z, v). (x, (y, (z, (vacant-sound v, v)))));
+    no-9 = λ base size. Iff·trans (row-with T 4 9 (base ∷ size ∷ []) refl) (
+      λ ((x, (y, (z, (_, v)))), c). let (s, b) = hole-is base size .0 c in (x, y, z, v, s, b),
+      λ (x, y, z, v, s, b). ((x, (y, (z, (vacant-sound v, v)))), hole-is base size .1 (s, b)),
+    );
     no-10 = Iff·trans (row-of T 5 10 refl) (
       λ (x, (y, (z, (_, (_, v))))). (x, y, z, v),
       λ (x, y, z, v). (x, (y, (z, (frame-sound (v .2), (frame-there (v .2), v))))),
     );
     no-8 = Iff·trans (rows-of T 3 6 8 refl) (forth, back);
-    accepted = λ b size k t. (λ e. given-forth b size k t e (by-none (unmap-told p a) (gave b size k t) (λ n z. clash (cc)) e), given-back b size k t);
+    accepted = λ b size k t. (λ e. given-forth b size k t e (by-none (unmap-told p a) (gave b size k t) (λ n v z. clash (cc)) e), given-back b size k t);
   }
     where
-      T : ByTable (unmapTable p a) p (unmapW four p a)
+      T : ByTable (unmapTable p a) (withHole a (lastWalk p a)) p (unmapW four p a)
       T = unmap-table p a
 
       W : Walked
@@ -854,10 +886,10 @@ map-numbers p a b size k = record {
     λ ((x, y, z, v, u), m, l). (x, (y, (z, (v, (u, (free m, (sound m, l))))))),
   );
   no-8 = Iff·trans (rows-of T 6 8 8 refl) (forth, back);
-  accepted = λ t. (λ e. taken-forth t e (by-none (map-told p a b size k) (took t) (λ n z. clash (cc)) e), taken-back t);
+  accepted = λ t. (λ e. taken-forth t e (by-none (map-told p a b size k) (took t) (λ n v z. clash (cc)) e), taken-back t);
 }
   where
-    T : ByTable (mapTable p a b size k) p (mapW four p a b size k)
+    T : ByTable (mapTable p a b size k) bare p (mapW four p a b size k)
     T = map-table p a b size k
 
     W : Walked

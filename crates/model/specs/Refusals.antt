@@ -2,14 +2,16 @@
 use Prim.Native.Nat.{ℕ, _+_, _-_, _*_, _%_, _^_, _≤_, _<_}
 use mathlib.Core.Path.{_≡_}
 use mathlib.Core.Logic.{_≢_, _⊎_, _↔_}
+use mathlib.Core.Bool.{cond}
 use mathlib.Core.List.{List, [], _∷_, List·Memᴰ}
+use lib.Dec.{eqb}
 use lib.ListN.{length, getD}
 use Rattle.path.specs.Geometry.{four, sizeAt, heightOf}
 use Rattle.path.specs.Areas.{Area, areaAt, areaOf, total, GoodArea}
 use Rattle.path.specs.Paths.{pathOf}
 use Rattle.entry.specs.declared.Entry.the-variants.{Empty, Table, Frame, Damaged}
 use Rattle.model.specs.declared.Walked.{Walked}
-use Rattle.model.specs.Answers.{formatted, took, gave, found, audited, refused, mapping, Pool, Done}
+use Rattle.model.specs.Answers.{formatted, took, gave, found, audited, refusal, refused, hole, mapping, Pool, Done}
 use Rattle.model.specs.Walk.{atHeight}
 use Rattle.model.specs.Calls.{walkTo, formatW, queryW, mapW, unmapW}
 use Rattle.model.specs.Audit.{auditW}
@@ -184,10 +186,19 @@ formatTable levels base tables ws list = row 1 (Broken levels base tables (lengt
 
 -- ---- what is promised
 
--- a call gives exactly the number of the first row that applies, and then leaves everything as it was
-pub record ByTable (rows : List Row) (p : Pool) (d : Done) : Type 0 where
-  pub gives : (n : ℕ) → (d .answer ≡ refused n) ↔ First rows n
-  pub kept : (n : ℕ) → d .answer ≡ refused n → d .after ≡ p
+-- what goes with a number: nothing
+abbrev pub bare : ℕ → List ℕ
+bare n = []
+
+-- or, with 9 alone, the base and the size of the region of the entry where the walk ended
+abbrev pub withHole : ℕ → Walked → ℕ → List ℕ
+withHole a o n = cond (eqb n 9) ((a - a % sizeAt four (o .left)) ∷ sizeAt four (o .left) ∷ []) []
+
+-- a call gives exactly the number of the first row that applies, with what goes with that number and no more, and then leaves everything as it was
+pub record ByTable (rows : List Row) (more : ℕ → List ℕ) (p : Pool) (d : Done) : Type 0 where
+  pub gives : (n : ℕ) → (d .answer ≡ refusal n (more n)) ↔ First rows n
+  pub carries : (n : ℕ) (v : List ℕ) → d .answer ≡ refusal n v → v ≡ more n
+  pub kept : (n : ℕ) (v : List ℕ) → d .answer ≡ refusal n v → d .after ≡ p
 
 -- Number by number.
 
@@ -234,9 +245,14 @@ pub record UnmapNumbers (p : Pool) (a : ℕ) : Type 0 where
   pub no-4 : (unmapW four p a .answer ≡ refused 4) ↔ ((¬ Breaks p) × NotBelow (p .numbers .levels) a)
   pub no-5 : (unmapW four p a .answer ≡ refused 5) ↔ ((¬ Breaks p) × (¬ NotBelow (p .numbers .levels) a) × OffPage a)
   -- then the walk
-  pub no-9 :
-      (unmapW four p a .answer ≡ refused 9)
-      ↔ ((¬ Breaks p) × (¬ NotBelow (p .numbers .levels) a) × (¬ OffPage a) × Vacant (lastWalk p a))
+  pub no-9 : (base size : ℕ)
+      → (unmapW four p a .answer ≡ hole base size)
+      ↔ ((¬ Breaks p)
+      × (¬ NotBelow (p .numbers .levels) a)
+      × (¬ OffPage a)
+      × Vacant (lastWalk p a)
+      × (size ≡ sizeAt four (lastWalk p a .left))
+      × (base ≡ a - a % size))
   pub no-10 :
       (unmapW four p a .answer ≡ refused 10)
       ↔ ((¬ Breaks p) × (¬ NotBelow (p .numbers .levels) a) × (¬ OffPage a) × OffStart a (lastWalk p a))
@@ -263,7 +279,13 @@ pub record QueryNumbers (p : Pool) (a : ℕ) : Type 0 where
   pub no-4 : (queryW four p a ≡ refused 4) ↔ ((¬ Breaks p) × NotBelow (p .numbers .levels) a)
   -- then the walk
   pub no-8 : (queryW four p a ≡ refused 8) ↔ ((¬ Breaks p) × (¬ NotBelow (p .numbers .levels) a) × Damage (lastWalk p a))
-  pub no-9 : (queryW four p a ≡ refused 9) ↔ ((¬ Breaks p) × (¬ NotBelow (p .numbers .levels) a) × Vacant (lastWalk p a))
+  pub no-9 : (base size : ℕ)
+      → (queryW four p a ≡ hole base size)
+      ↔ ((¬ Breaks p)
+      × (¬ NotBelow (p .numbers .levels) a)
+      × Vacant (lastWalk p a)
+      × (size ≡ sizeAt four (lastWalk p a .left))
+      × (base ≡ a - a % size))
   pub accepted : (at b size k : ℕ)
       → (queryW four p a ≡ found (mapping at b size k))
       ↔ ((¬ Breaks p)

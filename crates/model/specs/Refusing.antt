@@ -1,14 +1,23 @@
 -- A refusal as code makes it, and what is known past a test that leads to one.
-use Prim.Native.Nat.{ℕ}
+use Prim.Native.Nat.{ℕ, _<_}
 use mathlib.Core.Path.{_≡_, sym, _∙_}
 use mathlib.Core.Bool.{Bool, true, false, not}
 use mathlib.Core.List.{List}
 use borrow.Author.Tests.{not-false}
+use Rattle.path.specs.Geometry.{four, sizeAt, atLevel}
+use Rattle.path.specs.Paths.{baseAt}
+use Rattle.path.specs.Laws.{level-some}
 use Rattle.path.specs.declared.Setup.{Setup}
-use Rattle.model.specs.Answers.{Answer, refused, pool, done, refuse}
+use Rattle.model.specs.Answers.{Answer, hole, pool, done}
 
-pub refusing : {x : Answer} {no : ℕ} {t s : Setup} (ws list : List ℕ) → (x ≡ refused no) × (t ≡ s) → done x (pool t ws list) ≡ refuse no (pool s ws list)
+pub refusing : {x y : Answer} {t s : Setup} (ws list : List ℕ) → (x ≡ y) × (t ≡ s) → done x (pool t ws list) ≡ done y (pool s ws list)
 refusing ws list e = λ i. done (e .0 i) (pool (e .1 i) ws list)
 
 pub passed : {r b : Bool} → r ≡ b → not r ≡ false → b ≡ true
 passed e n = sym e ∙ not-false _ n
+
+-- the hole that code finds at a height
+pub hole-known :
+    (a h : ℕ) {b s : ℕ} → h < 4 → b ≡ atLevel four h (baseAt four a h) → s ≡ atLevel four h (sizeAt four h)
+    → hole b s ≡ hole (baseAt four a h) (sizeAt four h)
+hole-known a h l x y = rw (x ∙ level-some four l _, y ∙ level-some four l _)

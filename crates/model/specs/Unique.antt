@@ -32,8 +32,13 @@ map-unique (M.Refused j) (M.Refused k) e = cc
 
 pub unmap-unique : (a b : UnmapAnswer) → saysUnmap a ≡ saysUnmap b → a ≡ b
 unmap-unique (U.Given b s k t) (U.Given b′ s′ k′ t′) e = cc
+unmap-unique (U.Given b s k t) (U.Hole c z) e = cc
 unmap-unique (U.Given b s k t) (U.Refused j) e = cc
+unmap-unique (U.Hole c z) (U.Given b s k t) e = cc
+unmap-unique (U.Hole c z) (U.Hole c′ z′) e = cc
+unmap-unique (U.Hole c z) (U.Refused j) e = cc
 unmap-unique (U.Refused j) (U.Given b s k t) e = cc
+unmap-unique (U.Refused j) (U.Hole c z) e = cc
 unmap-unique (U.Refused j) (U.Refused k) e = cc
 
 -- the values of a mapping tell it
@@ -47,8 +52,13 @@ found-same m k e =
 
 pub query-unique : (a b : QueryAnswer) → saysQuery a ≡ saysQuery b → a ≡ b
 query-unique (Q.Found v b s k) (Q.Found v′ b′ s′ k′) e = cc
+query-unique (Q.Found v b s k) (Q.Hole c z) e = cc
 query-unique (Q.Found v b s k) (Q.Refused j) e = cc
+query-unique (Q.Hole c z) (Q.Found v b s k) e = cc
+query-unique (Q.Hole c z) (Q.Hole c′ z′) e = cc
+query-unique (Q.Hole c z) (Q.Refused j) e = cc
 query-unique (Q.Refused j) (Q.Found v b s k) e = cc
+query-unique (Q.Refused j) (Q.Hole c z) e = cc
 query-unique (Q.Refused j) (Q.Refused k) e = cc
 
 pub audit-unique : (a b : AuditAnswer) → saysAudit a ≡ saysAudit b → a ≡ b

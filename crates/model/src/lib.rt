@@ -32,13 +32,17 @@ pub struct Mapped {
     pub setup: Setup,
 }
 
-// Unmap's answer: the frame removed, and the tables given back.
+// Unmap's answer: the frame removed, and the tables given back. Refusal 9 comes with the hole, the empty region around the address.
 pub enum UnmapAnswer {
     Given {
         frame: u64,
         size: u64,
         attributes: u64,
         tables: u64,
+    },
+    Hole {
+        base: u64,
+        size: u64,
     },
     Refused(u64),
 }
@@ -48,13 +52,17 @@ pub struct Unmapped {
     pub setup: Setup,
 }
 
-// Query's answer: the mapping that holds the address.
+// Query's answer: the mapping that holds the address. Refusal 9 comes with the hole.
 pub enum QueryAnswer {
     Found {
         base: u64,
         frame: u64,
         size: u64,
         attributes: u64,
+    },
+    Hole {
+        base: u64,
+        size: u64,
     },
     Refused(u64),
 }

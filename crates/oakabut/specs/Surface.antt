@@ -1,6 +1,6 @@
 -- The calls' answers in plain numbers, as a caller in C finds them: the returned number, and the places behind the pointer `answer`.
 use Prim.Native.Nat.{ℕ}
-use mathlib.Core.List.{List, [], _∷_}
+use mathlib.Core.List.{List, [], _∷_, _++_}
 use lib.ListN.{getD}
 use mathlib.Core.Path.{_≡_}
 use Rattle.path.specs.Numbers.{setup}
@@ -16,6 +16,15 @@ numberOf (refusal k values) = k
 abbrev pub toldOf : (zeros : List ℕ) → Answer → List ℕ
 toldOf zeros (answered values) = values
 toldOf zeros (refusal k values) = zeros
+
+-- two places more for what a refusal carries, which is 9's hole; zeros where there is none
+abbrev pub carriedOf : List ℕ → List ℕ
+carriedOf [] = 0 ∷ 0 ∷ []
+carriedOf (x ∷ l) = x ∷ l
+
+abbrev pub holedOf : (zeros : List ℕ) → Answer → List ℕ
+holedOf zeros (answered values) = values ++ (0 ∷ 0 ∷ [])
+holedOf zeros (refusal k values) = zeros ++ carriedOf values
 
 -- the setup numbers in four places
 abbrev pub setupAt : List ℕ → Setup
@@ -37,10 +46,10 @@ abbrev pub mapPlaces : Setup → Answer → List ℕ
 mapPlaces s a = after s (toldOf (0 ∷ []) a)
 
 abbrev pub unmapPlaces : Setup → Answer → List ℕ
-unmapPlaces s a = after s (toldOf (0 ∷ 0 ∷ 0 ∷ 0 ∷ []) a)
+unmapPlaces s a = after s (holedOf (0 ∷ 0 ∷ 0 ∷ 0 ∷ []) a)
 
 abbrev pub queryPlaces : Answer → List ℕ
-queryPlaces = toldOf (0 ∷ 0 ∷ 0 ∷ 0 ∷ [])
+queryPlaces = holedOf (0 ∷ 0 ∷ 0 ∷ 0 ∷ [])
 
 abbrev pub auditPlaces : Answer → List ℕ
 auditPlaces = toldOf (0 ∷ 0 ∷ [])

@@ -66,10 +66,10 @@ fn mapped(a: MapAnswer, s: Setup, answer: &mut [u64; 5]) -> u64
     }
 }
 
-fn unmapped(a: UnmapAnswer, s: Setup, answer: &mut [u64; 8]) -> u64
+fn unmapped(a: UnmapAnswer, s: Setup, answer: &mut [u64; 10]) -> u64
     ensures { λ r. ⌜ Told (saysUnmap a) (unmapPlaces s) r (now (answer .exit)) ⌝ }
 {
-    *answer = [s.levels, s.base, s.tables, s.free, 0, 0, 0, 0];
+    *answer = [s.levels, s.base, s.tables, s.free, 0, 0, 0, 0, 0, 0];
     match a {
         UnmapAnswer::Given {
             frame,
@@ -83,11 +83,16 @@ fn unmapped(a: UnmapAnswer, s: Setup, answer: &mut [u64; 8]) -> u64
             answer[7] = tables;
             0
         }
+        UnmapAnswer::Hole { base, size } => {
+            answer[8] = base;
+            answer[9] = size;
+            9
+        }
         UnmapAnswer::Refused(k) => k,
     }
 }
 
-fn found(a: QueryAnswer, answer: &mut [u64; 4]) -> u64
+fn found(a: QueryAnswer, answer: &mut [u64; 6]) -> u64
     ensures { λ r. ⌜ Told (saysQuery a) queryPlaces r (now (answer .exit)) ⌝ }
 {
     match a {
@@ -97,11 +102,15 @@ fn found(a: QueryAnswer, answer: &mut [u64; 4]) -> u64
             size,
             attributes,
         } => {
-            *answer = [base, frame, size, attributes];
+            *answer = [base, frame, size, attributes, 0, 0];
             0
         }
+        QueryAnswer::Hole { base, size } => {
+            *answer = [0, 0, 0, 0, base, size];
+            9
+        }
         QueryAnswer::Refused(k) => {
-            *answer = [0, 0, 0, 0];
+            *answer = [0, 0, 0, 0, 0, 0];
             k
         }
     }
@@ -160,14 +169,14 @@ pub extern "C" fn oak_map(
     mapped(a, d.setup, answer)
 }
 
-// Removes the mapping that starts at an address, and answers the setup, its frame and how many tables came back.
+// Removes the mapping that starts at an address, and answers the setup, its frame and how many tables came back; with 9 the hole.
 #[no_mangle]
 pub extern "C" fn oak_unmap(
     s: &[u64; 4],
     words: &mut [u64],
     list: &mut [u32],
     address: u64,
-    answer: &mut [u64; 8],
+    answer: &mut [u64; 10],
 ) -> u64
     ensures { λ r. ⌜ Left (unmapW four (poolAt (now (s .entry)) (now (words .entry)) (now (list .entry))) address)
         unmapPlaces r (now (answer .exit)) (now (words .exit)) (now (list .exit)) ⌝ }
@@ -177,14 +186,14 @@ pub extern "C" fn oak_unmap(
     unmapped(a, d.setup, answer)
 }
 
-// Answers the mapping that holds an address.
+// Answers the mapping that holds an address; with 9 the hole.
 #[no_mangle]
 pub extern "C" fn oak_query(
     s: &[u64; 4],
     words: &[u64],
     list: &[u32],
     address: u64,
-    answer: &mut [u64; 4],
+    answer: &mut [u64; 6],
 ) -> u64
     ensures { λ r. ⌜ Told (queryW four (poolAt (now (s .entry)) (now (words .entry)) (now (list .entry))) address)
         queryPlaces r (now (answer .exit)) ⌝ }

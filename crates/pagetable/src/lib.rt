@@ -45,7 +45,7 @@ pub fn map(
 }
 
 // Removes the mapping that starts at an address, and answers its frame and how many tables came back. Refused, it changes nothing and hands the
-// setup back.
+// setup back; 9 comes with the hole, the largest empty region around the address.
 pub fn unmap(s: Setup, words: &mut [u64], list: &mut [u32], address: u64) -> Unmapped
     ensures whole { λ r. ⌜ unmapDid r (now (words .exit)) (now (list .exit))
         ≡ unmapW four (pool s (now (words .entry)) (now (list .entry))) address ⌝ }
@@ -55,7 +55,7 @@ pub fn unmap(s: Setup, words: &mut [u64], list: &mut [u32], address: u64) -> Unm
     unmaps::unmap(s, words, list, address)
 }
 
-// Answers the mapping that holds an address.
+// Answers the mapping that holds an address, or 9 and the hole around it.
 pub fn query(s: Setup, words: &[u64], list: &[u32], address: u64) -> QueryAnswer
     ensures whole { λ r. ⌜ saysQuery r ≡ queryW four (pool s (now (words .entry)) (now (list .entry))) address ⌝ }
     ensures ledger { λ r. ⌜ AskedByLedger four (pool s (now (words .entry)) (now (list .entry))) (question.query address) (saysQuery r) ⌝ }

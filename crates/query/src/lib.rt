@@ -5,16 +5,27 @@ use path::Setup;
 ghost use mathlib.Core.Path.{_≡_};
 ghost use Prim.Native.Nat.{_-_, _*_, _≤_};
 ghost use lib.ListN.{length};
-ghost use Rattle.path.specs.Geometry.{four, entries};
+ghost use Rattle.path.specs.Geometry.{four, entries, sizeAt};
 ghost use Rattle.path.specs.Areas.{areaAt};
-ghost use Rattle.path.specs.Paths.{pathOf};
+ghost use Rattle.path.specs.Paths.{baseAt, pathOf};
 ghost use Rattle.entry.specs.Words.{frameAt};
-ghost use Rattle.model.specs.Answers.{saysQuery, pool};
+ghost use Rattle.model.specs.Answers.{saysQuery, hole, pool};
 ghost use Rattle.model.specs.Walk.{noWay, walkFrom};
 ghost use Rattle.model.specs.Calls.{foundAt, queryW};
 ghost use Rattle.query.specs.Asks.{answerOf, endsAt};
 
-// What a word that names no table answers of an address at a height: a refusal, or 0 and the mapping in four places.
+// An empty entry at a height: 9, and the hole around the address in the first two places.
+fn hole_told(height: usize, address: u64, places: &mut [u64; 4]) -> u64
+    requires { ⌜ height ≤ 3 ⌝ }
+    ensures { λ r. ⌜ answerOf r (now (places .exit)) ≡ hole (baseAt four address height) (sizeAt four height) ⌝ }
+{
+    let base = path::base_at(address, height);
+    let bytes = path::size_at(height);
+    *places = [base, bytes, 0, 0];
+    9
+}
+
+// What a word that names no table answers of an address at a height: a refusal, with 9 the hole in two places, or 0 and the mapping in four.
 fn frame_told(w: u64, height: usize, address: u64, places: &mut [u64; 4]) -> u64
     requires { ⌜ height ≤ 3 ⌝ }
     ensures { λ r. ⌜ answerOf r (now (places .exit)) ≡ foundAt four address (frameAt four height w) height ⌝ }
@@ -27,14 +38,14 @@ fn frame_told(w: u64, height: usize, address: u64, places: &mut [u64; 4]) -> u64
             *places = [start, base, size, attributes];
             0
         }
-        Entry::Empty => 9,
+        Entry::Empty => hole_told(height, address, places),
         Entry::Table(_) => 8,
         Entry::Damaged => 8,
     }
 }
 
-// What the walk to the last level answers of an address, as a loop over the heights: a refusal, or 0 and the mapping in four places. The loop begins
-// above every tree, so that its turns are as many for each; a turn above this tree's root does nothing.
+// What the walk to the last level answers of an address, as a loop over the heights: a refusal, with 9 the hole in two places, or 0 and the mapping in
+// four. The loop begins above every tree, so that its turns are as many for each; a turn above this tree's root does nothing.
 fn ask(
     words: &[u64],
     base: u64,
@@ -58,7 +69,7 @@ fn ask(
             let place = (path::ENTRIES * (t as u64) + (i as u64)) as usize;
             let w = words[place];
             if w == 0 {
-                return 9;
+                return hole_told(h, address, places);
             }
             if h == 0 {
                 return frame_told(w, h, address, places);
@@ -77,7 +88,7 @@ fn ask(
     8
 }
 
-// The mapping that holds an address, or a refusal: 1, 4, 8 or 9.
+// The mapping that holds an address, or a refusal: 1, 4, 8, or 9 with the hole around the address.
 pub fn query(s: Setup, words: &[u64], list: &[u32], address: u64) -> QueryAnswer
     ensures { λ r. ⌜ saysQuery r ≡ queryW four (pool s (now (words .entry)) (now (list .entry))) address ⌝ }
 {
@@ -99,6 +110,12 @@ pub fn query(s: Setup, words: &[u64], list: &[u32], address: u64) -> QueryAnswer
         address,
         &mut places,
     );
+    if no == 9 {
+        return QueryAnswer::Hole {
+            base: places[0],
+            size: places[1],
+        };
+    }
     if no != 0 {
         return QueryAnswer::Refused(no);
     }

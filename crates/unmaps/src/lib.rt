@@ -10,10 +10,10 @@ ghost use Prim.Native.Nat.{_+_, _-_, _/_, _%_, _^_, _≤_, _<_};
 ghost use lib.Dec.{leb};
 ghost use lib.ListN.{length};
 ghost use Rattle.path.specs.Geometry.{four, sizeAt};
-ghost use Rattle.path.specs.Paths.{pathOf};
+ghost use Rattle.path.specs.Paths.{baseAt, pathOf};
 ghost use Rattle.path.specs.Numbers.{mostTables, goodSetup};
 ghost use Rattle.entry.specs.declared.Entry.the-variants.{Frame};
-ghost use Rattle.model.specs.Answers.{saysUnmap, refused, pool, unmapDid};
+ghost use Rattle.model.specs.Answers.{saysUnmap, refused, hole, pool, unmapDid};
 ghost use Rattle.model.specs.Walk.{slot, atHeight, stop};
 ghost use Rattle.model.specs.Writes.{onlyEntry, freed, unmapWrites};
 ghost use Rattle.model.specs.Calls.{unmapTests, unmapAt, unmapW};
@@ -87,6 +87,19 @@ fn unmap_refused(no: u64, s: Setup) -> Unmapped
 {
     Unmapped {
         answer: UnmapAnswer::Refused(no),
+        setup: s,
+    }
+}
+
+// An unmap that is refused at an empty entry of this height: 9, and the hole around the address.
+fn unmap_hole(s: Setup, address: u64, height: usize) -> Unmapped
+    requires { ⌜ height ≤ 3 ⌝ }
+    ensures { λ r. ⌜ (saysUnmap (r .answer) ≡ hole (baseAt four address height) (sizeAt four height)) × (r .setup ≡ s) ⌝ }
+{
+    let base = path::base_at(address, height);
+    let size = path::size_at(height);
+    Unmapped {
+        answer: UnmapAnswer::Hole { base, size },
         setup: s,
     }
 }
@@ -177,7 +190,7 @@ fn unmap_frame(
 }
 
 // The mapping that starts at an address goes, and so does each table that is empty then. Answers the frame and the tables given back, or a refusal:
-// 1, 4, 5, 8, 9 or 10.
+// 1, 4, 5, 8, 10, or 9 with the hole around the address.
 pub fn unmap(s: Setup, words: &mut [u64], list: &mut [u32], address: u64) -> Unmapped
     ensures { λ r. ⌜ unmapDid r (now (words .exit)) (now (list .exit))
         ≡ unmapW four (pool s (now (words .entry)) (now (list .entry))) address ⌝ }
@@ -210,7 +223,7 @@ pub fn unmap(s: Setup, words: &mut [u64], list: &mut [u32], address: u64) -> Unm
             left,
             place,
         ),
-        Entry::Empty => unmap_refused(9, s),
+        Entry::Empty => unmap_hole(s, address, left),
         Entry::Table(_) => unmap_refused(8, s),
         Entry::Damaged => unmap_refused(8, s),
     }

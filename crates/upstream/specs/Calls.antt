@@ -2,7 +2,7 @@
 use mathlib.Core.Path.{_≡_, refl, ap, sym, _∙_}
 use mathlib.Core.Logic.{_⊎_, inl, inr, ⊎-elim}
 use mathlib.Core.Bool.{Bool, true, false, cond}
-use mathlib.Core.List.{List}
+use mathlib.Core.List.{List, [], _∷_}
 use Prim.Native.Nat.{ℕ, _+_, _-_, _%_, _≤_, _<_}
 use native.Mathlib.Omega.{arith}
 use lib.Dec.{ltb, eqb}
@@ -12,11 +12,11 @@ use Rattle.laws.specs.Lists.{down}
 use Rattle.path.specs.Geometry.{Granule, sizeAt, spaceOf, heightOf}
 use Rattle.path.specs.Areas.{Area, areaOf, total, tableAt, GoodArea}
 use Rattle.path.specs.Numbers.{noSetup, setupOf, goodNumbers}
-use Rattle.path.specs.Paths.{pathOf}
+use Rattle.path.specs.Paths.{baseAt, pathOf}
 use Rattle.entry.specs.Words.{frameWord}
 use Rattle.entry.specs.declared.Entry.{Entry}
 use Rattle.entry.specs.declared.Entry.the-variants.{Empty, Table, Frame, Damaged}
-use Rattle.model.specs.Answers.{formatted, took, gave, refused, Pool, pool, Done, done, refuse}
+use Rattle.model.specs.Answers.{formatted, took, gave, refusal, refused, Pool, pool, Done, done, refuse}
 use Rattle.model.specs.declared.Walked.{Walked}
 use Rattle.model.specs.Walk.{atHeight}
 use Rattle.model.specs.Writes.{Write, mapWrites, mayTake, freed, unmapWrites}
@@ -45,7 +45,7 @@ pub took-not : {t k : ℕ} → took t ≡ refused k → ⊥
 took-not e = let z : _≡_ {A = ℕ} 0 1 = cc in omega arith
 
 -- nor is a frame removed
-pub gave-not : {b s x t k : ℕ} → gave b s x t ≡ refused k → ⊥
+pub gave-not : {b s x t k : ℕ} {v : List ℕ} → gave b s x t ≡ refusal k v → ⊥
 gave-not e = let z : _≡_ {A = ℕ} 0 1 = cc in omega arith
 
 module _ (G : Granule) (p : Pool) where
@@ -85,7 +85,7 @@ module _ (G : Granule) (p : Pool) where
       go true true Damaged q = inl (8, refl)
 
   -- unmap refuses and leaves the pool, or removes the frame where its walk ended and carries out its writes
-  pub unmap-does : (a : ℕ) → ((n : ℕ) × (unmapW G p a ≡ refuse n p))
+  pub unmap-does : (a : ℕ) → ((n : ℕ) × (v : List ℕ) × (unmapW G p a ≡ done (refusal n v) p))
       ⊎ ((b : ℕ) × (x : ℕ) × (walkTo G p 0 a .entry ≡ Frame b x) × (a % sizeAt G (walkTo G p 0 a .left) ≡ 0)
       × (unmapW G p a ≡ done (gave b (sizeAt G (walkTo G p 0 a .left)) x (giving G p a)) (written G p (writesOfUnmap G p a) (p .numbers .free + giving G p a))))
   unfolding unmapW unmapAt unmapHere
@@ -101,19 +101,19 @@ module _ (G : Granule) (p : Pool) where
       gone b x = done (gave b (sizeAt G (o .left)) x (giving G p a)) (written G p (writesOfUnmap G p a) (p .numbers .free + giving G p a))
 
       Does : Done → Type 0
-      Does d = ((n : ℕ) × (d ≡ refuse n p)) ⊎ ((b : ℕ) × (x : ℕ) × (o .entry ≡ Frame b x) × (a % sizeAt G (o .left) ≡ 0) × (d ≡ gone b x))
+      Does d = ((n : ℕ) × (v : List ℕ) × (d ≡ done (refusal n v) p)) ⊎ ((b : ℕ) × (x : ℕ) × (o .entry ≡ Frame b x) × (a % sizeAt G (o .left) ≡ 0) × (d ≡ gone b x))
 
       at : (b x : ℕ) → o .entry ≡ Frame b x → (y : Bool) → eqb (a % sizeAt G (o .left)) 0 ≡ y → (z : Bool) → Does (cond y (cond z (refuse 8 p) (gone b x)) (refuse 10 p))
-      at b x q false r z = inl (10, refl)
-      at b x q true r true = inl (8, refl)
+      at b x q false r z = inl (10, [], refl)
+      at b x q true r true = inl (8, [], refl)
       at b x q true r false = inr (b, x, q, eqb-true _ _ r, refl)
 
       go : (w y : Bool) (e : Entry) → o .entry ≡ e → Does (cond w (cond y (unmapAt G p a o e) (refuse no p)) (refuse 1 p))
-      go false y e q = inl (1, refl)
-      go true false e q = inl (no, refl)
-      go true true Empty q = inl (9, refl)
-      go true true (Table _) q = inl (8, refl)
-      go true true Damaged q = inl (8, refl)
+      go false y e q = inl (1, [], refl)
+      go true false e q = inl (no, [], refl)
+      go true true Empty q = inl (9, baseAt G a (o .left) ∷ sizeAt G (o .left) ∷ [], refl)
+      go true true (Table _) q = inl (8, [], refl)
+      go true true Damaged q = inl (8, [], refl)
       go true true (Frame b x) q = at b x q (eqb (a % sizeAt G (o .left)) 0) refl (ltb (total (areaOf (p .numbers)) - 1) (p .numbers .free + giving G p a))
 
   -- a map that succeeds passed its tests: good numbers, 2 to 5, and the tables that it takes
@@ -191,8 +191,8 @@ module _ (G : Granule) (p : Pool) where
   map-refused a b size k n e = ⊎-elim (λ (_, q). ap (λ (d : Done). d .after) q) (λ (_, _, q). absurd (took-not (ap (λ (d : Done). d .answer) (sym q) ∙ e))) (map-does a b size k)
 
   -- remove: `res is Err ⇒ old(self)@ == self@`, and all of unmap's refusals
-  pub unmap-refused : (a n : ℕ) → unmapW G p a .answer ≡ refused n → unmapW G p a .after ≡ p
-  unmap-refused a n e = ⊎-elim (λ (_, q). ap (λ (d : Done). d .after) q) (λ (b, x, _, _, q). absurd (gave-not (ap (λ (d : Done). d .answer) (sym q) ∙ e))) (unmap-does a)
+  pub unmap-refused : (a n : ℕ) (v : List ℕ) → unmapW G p a .answer ≡ refusal n v → unmapW G p a .after ≡ p
+  unmap-refused a n v e = ⊎-elim (λ (_, _, q). ap (λ (d : Done). d .after) q) (λ (b, x, _, _, q). absurd (gave-not (ap (λ (d : Done). d .answer) (sym q) ∙ e))) (unmap-does a)
 
   -- insert: a map that succeeds found an empty entry, has carried out its writes, and answers the tables that were lacking
   pub map-took : (a b size k t : ℕ) → mapW G p a b size k .answer ≡ took t
@@ -215,7 +215,7 @@ module _ (G : Granule) (p : Pool) where
   pub unmap-gave : (a b s x t : ℕ) → unmapW G p a .answer ≡ gave b s x t
       → (walkTo G p 0 a .entry ≡ Frame b x) × (s ≡ sizeAt G (walkTo G p 0 a .left)) × (a % sizeAt G (walkTo G p 0 a .left) ≡ 0) × (t ≡ giving G p a)
       × (unmapW G p a .after ≡ written G p (writesOfUnmap G p a) (p .numbers .free + t))
-  unmap-gave a b s x t e = ⊎-elim (λ (_, q). absurd (gave-not (sym e ∙ ap (λ (d : Done). d .answer) q))) by (unmap-does a)
+  unmap-gave a b s x t e = ⊎-elim (λ (_, _, q). absurd (gave-not (sym e ∙ ap (λ (d : Done). d .answer) q))) by (unmap-does a)
     where
       o : Walked
       o = walkTo G p 0 a

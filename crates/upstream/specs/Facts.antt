@@ -1,54 +1,16 @@
 -- The ledger's tests, as facts about its mappings.
 use mathlib.Core.Path.{_≡_, refl, ap, sym, _∙_}
-use mathlib.Core.Logic.{_≢_, _⊎_, inl, inr, ⊎-elim, _↔_}
-use mathlib.Core.Bool.{Bool, true, false, cond, false≢true}
+use mathlib.Core.Logic.{_≢_, _⊎_, ⊎-elim, _↔_}
+use mathlib.Core.Bool.{Bool, true, false, cond}
 use mathlib.Core.List.{List, [], _∷_, List·Memᴰ, List·Memᴰ·head as here, List·Memᴰ·tail as there, List·Memᴰ·not-nil, List·Memᴰ·cases-cons, List·Memᴰ·append-cases}
-use mathlib.Core.Option.{some, none}
 use Prim.Native.Nat.{ℕ, zero, suc, _<_}
-use native.Mathlib.Omega.{arith}
 use lib.Dec.{ltb, eqb}
-use borrow.Author.Tests.{ltb-true, leb-true, lt-ltb, le-leb, eqb-true, eqb-false}
+use borrow.Author.Tests.{ltb-true, eqb-true, eqb-false}
 use Rattle.path.specs.Geometry.{Granule, sizeAt, Sane}
 use Rattle.path.specs.Laws.{size-injective}
 use Rattle.path.specs.Paths.{baseAt}
 use Rattle.model.specs.Answers.{Mapping}
-use Rattle.model.specs.Ledger.{overlaps, anyOverlap, holdsAddress, coverOf, dropAt, Region, region, regionsOf, hasRegion, newRegions, regionsNeeded}
-use Rattle.demand.specs.Shown.{and-true, true-and, or-true, true-or}
-use Rattle.upstream.specs.State.{Overlap, Within}
-
--- some mapping shares a byte with the range exactly where the test says so
-pub any-overlap : (a size : ℕ) (L : List Mapping) → (anyOverlap a size L ≡ true) ↔ ((m : Mapping) × List·Memᴰ m L × Overlap (m .at) (m .size) a size)
-unfolding anyOverlap
-any-overlap a size L = (from L, to L)
-  where
-    from : (L : List Mapping) → anyOverlap a size L ≡ true → (m : Mapping) × List·Memᴰ m L × Overlap (m .at) (m .size) a size
-    from [] e = absurd (false≢true e)
-    from (k ∷ L) e = ⊎-elim (λ d. let (p, q) = and-true _ _ d in (k, here refl, (ltb-true _ _ q, ltb-true _ _ p))) (λ d. let (m, i, o) = from L d in (m, there i, o)) (or-true _ _ e)
-
-    to : (L : List Mapping) → (m : Mapping) × List·Memᴰ m L × Overlap (m .at) (m .size) a size → anyOverlap a size L ≡ true
-    to [] (m, i, o) = absurd (List·Memᴰ·not-nil i)
-    to (k ∷ L) (m, i, (p, q)) = true-or (overlaps a size k) (anyOverlap a size L)
-        (⊎-elim (λ e. inl (ap (overlaps a size) (sym e) ∙ true-and (lt-ltb _ _ q) (lt-ltb _ _ p))) (λ j. inr (to L (m, j, (p, q)))) (List·Memᴰ·cases-cons i))
-
--- the mapping that the search for an address finds is one that holds it
-pub cover-some : (a : ℕ) (L : List Mapping) (m : Mapping) → coverOf a L ≡ some m → List·Memᴰ m L × Within a m
-unfolding coverOf
-cover-some a [] m e = let z : _≡_ {A = ℕ} 0 1 = cc in absurd (omega arith)
-cover-some a (k ∷ L) m e = go (holdsAddress a k) refl e (cover-some a L m)
-  where
-    go : (b : Bool) → holdsAddress a k ≡ b → cond b (some k) (coverOf a L) ≡ some m → (coverOf a L ≡ some m → List·Memᴰ m L × Within a m) → List·Memᴰ m (k ∷ L) × Within a m
-    go true q e ih = let z : k ≡ m = cc in let (x, y) = and-true _ _ q in let w : Within a k = (leb-true _ _ x, ltb-true _ _ y) in (here (sym z), rw z at w)
-    go false q e ih = let (x, y) = ih e in (there x, y)
-
--- where it finds none, no mapping holds the address
-pub cover-none : (a : ℕ) (L : List Mapping) → coverOf a L ≡ none → (m : Mapping) → List·Memᴰ m L → Within a m → ⊥
-unfolding coverOf
-cover-none a [] e m i w = List·Memᴰ·not-nil i
-cover-none a (k ∷ L) e m i w = go (holdsAddress a k) refl e (cover-none a L)
-  where
-    go : (b : Bool) → holdsAddress a k ≡ b → cond b (some k) (coverOf a L) ≡ none → (coverOf a L ≡ none → (m : Mapping) → List·Memᴰ m L → Within a m → ⊥) → ⊥
-    go true q e ih = let z : _≡_ {A = ℕ} 0 1 = cc in omega arith
-    go false q e ih = ⊎-elim (λ z. false≢true (sym q ∙ rw (← z) (true-and (le-leb _ _ (w .0)) (lt-ltb _ _ (w .1))))) (λ j. ih e m j w) (List·Memᴰ·cases-cons i)
+use Rattle.model.specs.Ledger.{dropAt, Region, region, regionsOf, hasRegion, newRegions, regionsNeeded}
 
 -- the ledger without the mapping at an address has the others, and nothing else
 pub drop-has : (a : ℕ) (L : List Mapping) (m : Mapping) → List·Memᴰ m (dropAt a L) ↔ (List·Memᴰ m L × (m .at ≢ a))

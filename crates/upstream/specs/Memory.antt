@@ -99,7 +99,7 @@ map-memory-wf G p a b size k w =
 
 pub unmap-memory-wf : (G : Granule) (p : Pool) (a : ℕ) → MemoryWf G (areaOf (p .numbers)) (p .words) → MemoryWf G (areaOf (p .numbers)) (unmapW G p a .after .words)
 unmap-memory-wf G p a w =
-    ⊎-elim (λ (_, q). subst (λ (d : Done). MemoryWf G (areaOf (p .numbers)) (d .after .words)) (sym q) w)
+    ⊎-elim (λ (_, _, q). subst (λ (d : Done). MemoryWf G (areaOf (p .numbers)) (d .after .words)) (sym q) w)
     (λ (_, _, _, _, q). subst (λ (d : Done). MemoryWf G (areaOf (p .numbers)) (d .after .words)) (sym q) (writes-preserve-wf G (areaOf (p .numbers)) (writesOfUnmap G p a) (memory (p .words) (p .list)) w))
     (unmap-does G p a)
 

@@ -8,7 +8,7 @@ use Prim.Native.Nat.{ℕ, zero, suc, _+_, _-_, _*_, _%_, _≤_, _<_}
 use native.Mathlib.Omega.{arith}
 use native.Mathlib.Decide.{ℕ-discrete}
 use lib.Dec.{ltb}
-use lib.ListN.{length, getD, set, take}
+use lib.ListN.{length, getD, take}
 use borrow.Author.Tests.{le-ltb}
 use Rattle.path.specs.Geometry.{Granule, entries, sizeAt, heightOf, Sane}
 use Rattle.path.specs.Areas.{Area, areaOf, total}
@@ -16,14 +16,16 @@ use Rattle.path.specs.Numbers.{GoodSetup}
 use Rattle.path.specs.Laws.{size-rises, good-setup}
 use Rattle.path.specs.Paths.{pathOf, indexAt, baseAt}
 use Rattle.path.specs.PathLaws.{index-below, path-of-at}
-use Rattle.entry.specs.Words.{entryAt}
+use Rattle.entry.specs.Words.{entryAt, says-empty}
 use Rattle.entry.specs.Laws.{entry-zero}
 use Rattle.entry.specs.declared.Entry.{Entry}
 use Rattle.entry.specs.declared.Entry.the-variants.{Empty, Table, Frame, Damaged}
 use Rattle.model.specs.Answers as answers
-use Rattle.model.specs.Answers.{took, gave, refused, Pool, Done, done, refuse}
+use Rattle.model.specs.Answers.{took, gave, refused, hole, Pool, Done, done, refuse}
 use Rattle.model.specs.declared.Walked.{Walked}
-use Rattle.model.specs.Walk.{slot, atHeight, noWay, onward, walkFrom}
+use Rattle.model.specs.Walk.{atHeight}
+use Rattle.model.specs.Descent.{StopsAt, at-root}
+use Rattle.model.specs.DescentLaws.{stops-empty}
 use Rattle.model.specs.Writes.{mayTake}
 use Rattle.model.specs.Calls.{goodPool, walkTo, written, mapTests, mapHere, mapAt, mapW, unmapAt, unmapW}
 use Rattle.model.specs.AuditLaws.{empty-root}
@@ -49,7 +51,7 @@ use Rattle.demand.specs.Maps.{Fine, tests-fine, met-any, Takes, low, map-after}
 use Rattle.demand.specs.Rest.{table-stands}
 use Rattle.demand.specs.Demand3.{StandsFor}
 use Rattle.upstream.specs.State.{Mappable, UnmapPre}
-use Rattle.upstream.specs.Facts.{any-overlap}
+use Rattle.model.specs.LedgerLaws.{any-overlap}
 use Rattle.upstream.specs.Calls.{lacking, writesOfMap, took-not, map-does, map-took, took-passed, unmap-gave}
 use Rattle.upstream.specs.Trait.{map-pre, unmap-pre}
 use Rattle.upstream.specs.Tree.{InTree, Inside, overlap-nested, path-mappings-valid}
@@ -288,17 +290,16 @@ module _ (G : Granule) (Z : Sane G) where
     remove-ok-implies-visit-reaches-frame a b s x t e = let (u, v, w, _, _) = unmap-gave G p a b s x t e in (u, v, w)
 
   module _ (p : Pool) (good : goodPool G p ≡ true) where
-    -- from a root with no entry a walk ends at once
-    pub empty-visits-empty : EmptyTable G (p .words) 0 → (g a : ℕ) → walkTo G p g a .entry ≡ Empty
-    unfolding walkFrom onward indexAt
-    empty-visits-empty z g a = go (p .numbers .levels - 1) (omega (arith, good-setup good .numbers .enough, good-setup good .numbers .not-more, Z .most-four))
+    -- from a root with no entry a walk ends at once, at the root's level
+    pub empty-visits-empty : EmptyTable G (p .words) 0 → (g a : ℕ) → StopsAt G p a g Empty (p .numbers .levels - 1)
+    unfolding indexAt
+    empty-visits-empty z g a = stops-empty Z p good a g at-root (says-empty (z (atHeight (pathOf G a) top) (subst (λ (i : ℕ). i < entries G) (sym (path-of-at G a {h = top} low)) (index-below G a top))))
       where
-        word : (h : ℕ) → h < 4 → entryAt G (areaOf (p .numbers)) h (getD (p .words) (slot G 0 (atHeight (pathOf G a) h)) 0) ≡ Empty
-        word h l = ap (entryAt G (areaOf (p .numbers)) h) (z (atHeight (pathOf G a) h) (subst (λ (i : ℕ). i < entries G) (sym (path-of-at G a {h = h} l)) (index-below G a h))) ∙ entry-zero G (areaOf (p .numbers)) h
+        top : ℕ
+        top = p .numbers .levels - 1
 
-        go : (h : ℕ) → h < 4 → walkFrom G (p .words) (areaOf (p .numbers)) g (pathOf G a) h noWay 0 .entry ≡ Empty
-        go zero l = word zero l
-        go (suc h) l = ap (λ (n : Entry). onward n g h (set noWay (3 - suc h) 0) (λ c. walkFrom G (p .words) (areaOf (p .numbers)) g (pathOf G a) h (set noWay (3 - suc h) 0) c) .entry) (word (suc h) l)
+        low : top < 4
+        low = omega (arith, good-setup good .numbers .enough, good-setup good .numbers .not-more, Z .most-four)
 
     module _ (m : answers.Mapping) (ok : Mappable G (p .numbers .levels) m) where
       -- the tables that it would take may be taken: refusals 7, and 8 for the free list, are not given
@@ -315,9 +316,12 @@ module _ (G : Granule) (Z : Sane G) where
 
       -- lemma_empty_implies_insert_ok
       pub empty-implies-insert-ok : Room → EmptyTable G (p .words) 0 → mapW G p (m .at) (m .frame) (m .size) (m .attributes) .answer ≡ took (lacking G p (m .at) (m .size))
-      empty-implies-insert-ok r z = empty-entry-implies-insert-ok r (empty-visits-empty z (heightOf G (m .size)) (m .at))
+      empty-implies-insert-ok r z = empty-entry-implies-insert-ok r (empty-visits-empty z (heightOf G (m .size)) (m .at) .0)
 
-    -- lemma_empty_implies_remove_fail
-    pub empty-implies-remove-fail : (a : ℕ) → UnmapPre G (ledgerOf G p) a → EmptyTable G (p .words) 0 → unmapW G p a ≡ refuse 9 p
+    -- lemma_empty_implies_remove_fail: 9, with the region of the root's entry
+    pub empty-implies-remove-fail : (a : ℕ) → UnmapPre G (ledgerOf G p) a → EmptyTable G (p .words) 0
+        → unmapW G p a ≡ done (hole (baseAt G a (p .numbers .levels - 1)) (sizeAt G (p .numbers .levels - 1))) p
     unfolding unmapW unmapAt
-    empty-implies-remove-fail a pre z = rw (good, unmap-pre G Z (ledgerOf G p) a .1 pre, empty-visits-empty z 0 a)
+    empty-implies-remove-fail a pre z =
+        let (e, l) = empty-visits-empty z 0 a in
+        rw (good, unmap-pre G Z (ledgerOf G p) a .1 pre, e) (ap (λ (h : ℕ). done (hole (baseAt G a h) (sizeAt G h)) p) l)

@@ -5,7 +5,7 @@ use mathlib.Core.List.{[], List·Memᴰ}
 use Prim.Native.Nat.{ℕ, _+_, _-_, _%_, _≤_, _<_}
 use Rattle.path.specs.Geometry.{Granule, pageSize, sizeAt, spaceOf, physical}
 use Rattle.model.specs.Answers.{Mapping, Answer, took, gave, found, refused}
-use Rattle.model.specs.Ledger.{Ledger, tablesLacking, freeTables}
+use Rattle.model.specs.Ledger.{Ledger, tablesLacking, freeTables, holeOf, holeAt}
 
 -- `contains_pair`: m is a mapping of the state
 abbrev pub Has : Ledger → Mapping → Type 0
@@ -92,11 +92,11 @@ pub record Unmaps (G : Granule) (A B : Ledger) (a : ℕ) (r : Answer) : Type 0 w
       → Has A m
       → m .at ≡ a
       → (r ≡ gave (m .frame) (m .size) (m .attributes) (freeTables G B - freeTables G A)) × ((k : Mapping) → Has B k ↔ (Has A k × (k .at ≢ a)))
-  -- none: an error, and the mappings stay; 10 where some mapping holds the address, else 9
+  -- none: an error, and the mappings stay; 10 where some mapping holds the address, else 9 and the hole
   pub inside : (StartsAt A a → ⊥) → HasMappingFor A a → (r ≡ refused 10) × SameMappings A B
-  pub nothing : (HasMappingFor A a → ⊥) → (r ≡ refused 9) × SameMappings A B
+  pub nothing : (HasMappingFor A a → ⊥) → (r ≡ holeAt (holeOf G A a)) × SameMappings A B
 
 -- `query`: of A, the address a, with answer r
-pub record Queries (A : Ledger) (a : ℕ) (r : Answer) : Type 0 where
+pub record Queries (G : Granule) (A : Ledger) (a : ℕ) (r : Answer) : Type 0 where
   pub finds : (m : Mapping) → Has A m → Within a m → r ≡ found m
-  pub nothing : (HasMappingFor A a → ⊥) → r ≡ refused 9
+  pub nothing : (HasMappingFor A a → ⊥) → r ≡ holeAt (holeOf G A a)

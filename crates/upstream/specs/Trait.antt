@@ -24,7 +24,8 @@ use Rattle.demand.specs.Others.{accepted-holds}
 use Rattle.demand.specs.Demand3.{mapC, unmapC, queryC}
 use Rattle.demand.specs.Theorem.{rests, step-holds, from-format}
 use Rattle.upstream.specs.State.{Has, StartsAt, Overlap, Within, OverlapsVmem, SameMappings, SameConstants, Mappable, Wf, Maps, UnmapPre, Unmaps, Queries}
-use Rattle.upstream.specs.Facts.{any-overlap, cover-some, cover-none, drop-has}
+use Rattle.model.specs.LedgerLaws.{any-overlap, cover-some, cover-none}
+use Rattle.upstream.specs.Facts.{drop-has}
 
 -- of mappings that rise, two that share a byte are one
 rising-one : (lo hi : ℕ) (l : List Mapping) → Rising lo hi l → (m k : Mapping) → List·Memᴰ m l → List·Memᴰ k l → Overlap (m .at) (m .size) (k .at) (k .size) → m ≡ k
@@ -251,11 +252,11 @@ module _ (G : Granule) (Z : Sane G) where
       }
       go (some m) e = at m e (eqb (m .at) a) refl
 
-  pub ledger-queries : {A : Ledger} → Wf G A → (a : ℕ) → a < spaceOf G (A .levels) → Queries A a (queryL G A a)
+  pub ledger-queries : {A : Ledger} → Wf G A → (a : ℕ) → a < spaceOf G (A .levels) → Queries G A a (queryL G A a)
   unfolding queryL
   ledger-queries {A} w a l = rw (lt-leb (spaceOf G (A .levels)) a l) (go (coverOf a (A .live)) refl)
     where
-      go : (c : Option Mapping) → coverOf a (A .live) ≡ c → Queries A a (queryOf c)
+      go : (c : Option Mapping) → coverOf a (A .live) ≡ c → Queries G A a (queryOf G A a c)
       go none e = record { finds = λ m i h. absurd (cover-none a (A .live) e m i h); nothing = λ _. refl }
       go (some m) e = let (i, h) = cover-some a (A .live) m e in record { finds = λ k j z. ap found (one-for w a m k i j h z); nothing = λ n. absurd (n (m, i, h)) }
 
@@ -360,7 +361,7 @@ module _ (G : Granule) (Z : Sane G) where
         K = step-holds G Z H (unmapC a) .1
 
     -- query_refinement, and the ensures of the trait's query
-    pub query-refinement : (a : ℕ) → a < spaceOf G (A .levels) → Queries A a (queryW G p a)
+    pub query-refinement : (a : ℕ) → a < spaceOf G (A .levels) → Queries G A a (queryW G p a)
     query-refinement a l = let s = ledger-queries (invariants-implies-wf H) a l in let r = step-holds G Z H (queryC a) .0 in
         record { finds = λ m i h. r ∙ s .finds m i h; nothing = λ n. r ∙ s .nothing n }
 

@@ -27,7 +27,7 @@ use Rattle.demand.specs.Demand3.{mapC, unmapC, queryC}
 use Rattle.demand.specs.Theorem.{step-holds}
 use Rattle.upstream.specs.State.{Has, StartsAt, Overlap, Within, OverlapsVmem, FrameSize, Mappable, Wf, Maps, UnmapPre, Unmaps}
 use Rattle.upstream.specs.Calls.{took-not, gave-not, took-passed, gave-passed}
-use Rattle.upstream.specs.Facts.{any-overlap, cover-some, cover-none}
+use Rattle.model.specs.LedgerLaws.{any-overlap, cover-some, cover-none}
 use Rattle.upstream.specs.Trait.{map-pre, unmap-pre, some-size, one-for, first-within, words-wf, invariants-implies-wf, levels-low, levels-high, map-refinement, unmap-refinement, query-refinement}
 
 -- `path_mappings`: a mapping that is found in the words
@@ -255,7 +255,7 @@ module _ (G : Granule) (Z : Sane G) where
     unfolding queryL
     query-ok-implies-mapping-exist a k e = go (leb (spaceOf G (A .levels)) a) (coverOf a (A .live)) refl (sym (step-holds G Z H (queryC a) .0) ∙ e)
       where
-        go : (y : Bool) (c : Option Mapping) → coverOf a (A .live) ≡ c → cond y (refused 4) (queryOf c) ≡ found k → Has A k × Within a k
+        go : (y : Bool) (c : Option Mapping) → coverOf a (A .live) ≡ c → cond y (refused 4) (queryOf G A a c) ≡ found k → Has A k × Within a k
         go true c q e = let z : _≡_ {A = ℕ} 0 1 = cc in absurd (omega arith)
         go false none q e = let z : _≡_ {A = ℕ} 0 1 = cc in absurd (omega arith)
         go false (some m) q e = let z = found-same m k e in cover-some a (A .live) k (q ∙ ap some z)

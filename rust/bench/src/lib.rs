@@ -3,8 +3,8 @@
 
 use std::slice::{from_raw_parts, from_raw_parts_mut};
 
-use oakabut::raw::{Mapped, Unmapped};
-use oakabut::{Audit, Mapping, Setup};
+use oakabut::raw::{Found, Mapped, Unmapped};
+use oakabut::{Audit, Hole, Mapping, Setup};
 use plain::Refusal;
 
 fn to_plain(s: &Setup) -> plain::Setup {
@@ -15,16 +15,22 @@ fn from_plain(s: plain::Setup) -> Setup {
     Setup { levels: s.levels, base: s.base, tables: s.tables, free: s.free }
 }
 
-/// Hands over the answer, which is the second where there is none, and the number of the refusal.
+const NO_HOLE: Hole = Hole { base: 0, size: 0 };
+
+/// Hands over the answer, or where there is none what `none` makes of the hole, and the number of the refusal.
 #[inline(always)]
-unsafe fn hand_over<T>(result: Result<T, Refusal>, none: T, answer: *mut T) -> u64 {
+unsafe fn hand_over<T>(result: Result<T, Refusal>, none: impl FnOnce(Hole) -> T, answer: *mut T) -> u64 {
     match result {
         Ok(found) => {
             *answer = found;
             0
         }
+        Err(Refusal::Empty(plain::Hole { base, size })) => {
+            *answer = none(Hole { base, size });
+            9
+        }
         Err(refusal) => {
-            *answer = none;
+            *answer = none(NO_HOLE);
             refusal.number()
         }
     }
@@ -60,7 +66,7 @@ pub unsafe extern "C" fn map(
     let (words, list) = (from_raw_parts_mut(words, words_len), from_raw_parts(list, list_len));
     let (setup, result) = plain::map(to_plain(&*setup), words, list, address, frame, size, attributes);
     let setup = from_plain(setup);
-    hand_over(result.map(|taken| Mapped { setup, taken }), Mapped { setup, taken: 0 }, answer)
+    hand_over(result.map(|taken| Mapped { setup, taken }), |_| Mapped { setup, taken: 0 }, answer)
 }
 
 /// # Safety
@@ -72,22 +78,28 @@ pub unsafe extern "C" fn unmap(
     let (words, list) = (from_raw_parts_mut(words, words_len), from_raw_parts_mut(list, list_len));
     let (setup, result) = plain::unmap(to_plain(&*setup), words, list, address);
     let setup = from_plain(setup);
-    let removed =
-        result.map(|plain::Removed { frame, size, attributes, given }| Unmapped { setup, frame, size, attributes, given });
-    hand_over(removed, Unmapped { setup, frame: 0, size: 0, attributes: 0, given: 0 }, answer)
+    let removed = result.map(|plain::Removed { frame, size, attributes, given }| Unmapped {
+        setup,
+        frame,
+        size,
+        attributes,
+        given,
+        hole: NO_HOLE,
+    });
+    hand_over(removed, |hole| Unmapped { setup, frame: 0, size: 0, attributes: 0, given: 0, hole }, answer)
 }
 
 /// # Safety
 /// As for `oak_query`.
 #[inline(never)]
 pub unsafe extern "C" fn query(
-    setup: *const Setup, words: *const u64, words_len: usize, list: *const u32, list_len: usize, address: u64,
-    answer: *mut Mapping,
+    setup: *const Setup, words: *const u64, words_len: usize, list: *const u32, list_len: usize, address: u64, answer: *mut Found,
 ) -> u64 {
     let (words, list) = (from_raw_parts(words, words_len), from_raw_parts(list, list_len));
-    let found = plain::query(to_plain(&*setup), words, list, address)
-        .map(|plain::Found { base, frame, size, attributes }| Mapping { base, frame, size, attributes });
-    hand_over(found, Mapping { base: 0, frame: 0, size: 0, attributes: 0 }, answer)
+    let found = plain::query(to_plain(&*setup), words, list, address).map(|plain::Found { base, frame, size, attributes }| {
+        Found { mapping: Mapping { base, frame, size, attributes }, hole: NO_HOLE }
+    });
+    hand_over(found, |hole| Found { mapping: Mapping { base: 0, frame: 0, size: 0, attributes: 0 }, hole }, answer)
 }
 
 /// # Safety
@@ -99,5 +111,5 @@ pub unsafe extern "C" fn audit(
     let (words, list) = (from_raw_parts(words, words_len), from_raw_parts(list, list_len));
     let counts =
         plain::audit(to_plain(&*setup), words, list).map(|plain::Counts { tables, mappings }| Audit { tables, mappings });
-    hand_over(counts, Audit { tables: 0, mappings: 0 }, answer)
+    hand_over(counts, |_| Audit { tables: 0, mappings: 0 }, answer)
 }

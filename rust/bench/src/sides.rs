@@ -4,15 +4,15 @@ use std::mem::size_of;
 use std::slice::from_raw_parts;
 
 use judge::{Answer, Call, Engine};
-use oakabut::raw::{self, Mapped, Unmapped};
-use oakabut::{Audit, Mapping, Setup};
+use oakabut::raw::{self, Found, Mapped, Unmapped};
+use oakabut::{Audit, Hole, Mapping, Setup};
 
 type FrameWord = unsafe extern "C" fn(u64, u64, u64) -> u64;
 type WordMeaning = unsafe extern "C" fn(u64, u64) -> u64;
 type Format = unsafe extern "C" fn(u64, u64, u64, *mut u64, usize, *mut u32, usize, *mut Setup) -> u64;
 type Map = unsafe extern "C" fn(*const Setup, *mut u64, usize, *const u32, usize, u64, u64, u64, u64, *mut Mapped) -> u64;
 type Unmap = unsafe extern "C" fn(*const Setup, *mut u64, usize, *mut u32, usize, u64, *mut Unmapped) -> u64;
-type Query = unsafe extern "C" fn(*const Setup, *const u64, usize, *const u32, usize, u64, *mut Mapping) -> u64;
+type Query = unsafe extern "C" fn(*const Setup, *const u64, usize, *const u32, usize, u64, *mut Found) -> u64;
 type AuditCall = unsafe extern "C" fn(*const Setup, *const u64, usize, *const u32, usize, *mut Audit) -> u64;
 
 /// The functions of one side. They are called through these pointers, so that no side is inlined into the measuring.
@@ -49,7 +49,7 @@ mod c {
         ) -> u64;
         pub fn plain_query(
             s: *const Setup, words: *const u64, words_len: usize, list: *const u32, list_len: usize, address: u64,
-            answer: *mut Mapping,
+            answer: *mut Found,
         ) -> u64;
         pub fn plain_audit(
             s: *const Setup, words: *const u64, words_len: usize, list: *const u32, list_len: usize, answer: *mut Audit,
@@ -93,8 +93,9 @@ pub const SIDES: [Side; 3] = [
 
 pub const NO_SETUP: Setup = Setup { levels: 0, base: 0, tables: 0, free: 0 };
 pub const NOT_MAPPED: Mapped = Mapped { setup: NO_SETUP, taken: 0 };
-pub const NOT_UNMAPPED: Unmapped = Unmapped { setup: NO_SETUP, frame: 0, size: 0, attributes: 0, given: 0 };
-pub const NOT_FOUND: Mapping = Mapping { base: 0, frame: 0, size: 0, attributes: 0 };
+pub const NO_HOLE: Hole = Hole { base: 0, size: 0 };
+pub const NOT_UNMAPPED: Unmapped = Unmapped { setup: NO_SETUP, frame: 0, size: 0, attributes: 0, given: 0, hole: NO_HOLE };
+pub const NOT_FOUND: Found = Found { mapping: Mapping { base: 0, frame: 0, size: 0, attributes: 0 }, hole: NO_HOLE };
 pub const NOT_AUDITED: Audit = Audit { tables: 0, mappings: 0 };
 
 /// The numbers of an answer of the C surface, which is a run of 64-bit numbers without a gap.
@@ -125,11 +126,13 @@ impl Engine for Side {
                     Answer::new((self.map)(&s, w, wl, l, ll, address, frame, size, attributes, &mut a), numbers(&a))
                 }
                 Call::Unmap { address, .. } => {
-                    let mut a = Unmapped { setup: junk, frame: 5, size: 6, attributes: 7, given: 8 };
+                    let hole = Hole { base: 9, size: 10 };
+                    let mut a = Unmapped { setup: junk, frame: 5, size: 6, attributes: 7, given: 8, hole };
                     Answer::new((self.unmap)(&s, w, wl, l, ll, address, &mut a), numbers(&a))
                 }
                 Call::Query { address, .. } => {
-                    let mut a = Mapping { base: 1, frame: 2, size: 3, attributes: 4 };
+                    let mapping = Mapping { base: 1, frame: 2, size: 3, attributes: 4 };
+                    let mut a = Found { mapping, hole: Hole { base: 5, size: 6 } };
                     Answer::new((self.query)(&s, w, wl, l, ll, address, &mut a), numbers(&a))
                 }
                 Call::Audit { .. } => {

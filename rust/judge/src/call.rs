@@ -53,24 +53,24 @@ impl Call {
 
     /// How many numbers it answers beside the refusal.
     pub fn width(&self) -> usize {
-        [1, 1, 4, 5, 8, 4, 2][self.kind()]
+        [1, 1, 4, 5, 10, 6, 2][self.kind()]
     }
 }
 
 /// An answer: the number of the refusal or 0, and the answer's numbers in the order of the C header, the rest zero.
 ///
 /// They are, for the host's calls, the number answered; for format the setup; for map the setup and the tables taken; for unmap
-/// the setup, frame, size, attributes and tables given back; for query base, frame, size and attributes; for audit the tables
-/// and the mappings.
+/// the setup, frame, size, attributes and tables given back, then base and size of the hole; for query base, frame, size and
+/// attributes, then base and size of the hole; for audit the tables and the mappings.
 #[derive(Clone, Copy, Debug, PartialEq, Eq)]
 pub struct Answer {
     pub refusal: u64,
-    pub numbers: [u64; 8],
+    pub numbers: [u64; 10],
 }
 
 impl Answer {
     pub fn new(refusal: u64, numbers: &[u64]) -> Answer {
-        let mut answer = Answer { refusal, numbers: [0; 8] };
+        let mut answer = Answer { refusal, numbers: [0; 10] };
         answer.numbers[..numbers.len()].copy_from_slice(numbers);
         answer
     }
@@ -78,6 +78,20 @@ impl Answer {
     /// The answer of one of the host's calls, where a number below 16 is a refusal.
     pub fn of_host(number: u64) -> Answer {
         Answer::new(if number < 16 { number } else { 0 }, &[number])
+    }
+
+    /// What goes with the call beside the setup, in four numbers: the values, or with 9 the hole and two zeros.
+    pub fn rest(&self, call: &Call) -> [u64; 4] {
+        let from = match call {
+            Call::Format { .. } | Call::Map { .. } | Call::Unmap { .. } => 4,
+            _ => 0,
+        };
+        let [a, b, c, d, base, size] = std::array::from_fn(|i| self.numbers[from + i]);
+        if self.refusal == 9 {
+            [base, size, 0, 0]
+        } else {
+            [a, b, c, d]
+        }
     }
 
     /// The setup in the answer of format, map and unmap.
@@ -120,18 +134,24 @@ impl Engine for Plain {
     }
 }
 
-/// A refusal answers its number and nothing more.
-fn without_setup<const N: usize>(result: Result<[u64; N], Refusal>) -> Answer {
+/// A refusal answers its number, and 9 the hole, after the places of what would have been found.
+pub(crate) fn without_setup<const N: usize>(result: Result<[u64; N], Refusal>) -> Answer {
     match result {
         Ok(numbers) => Answer::new(0, &numbers),
-        Err(refusal) => Answer::new(refusal.number(), &[]),
+        Err(refusal) => {
+            let mut answer = Answer::new(refusal.number(), &[]);
+            if let Some(hole) = refusal.hole() {
+                answer.numbers[N..N + 2].copy_from_slice(&[hole.base, hole.size]);
+            }
+            answer
+        }
     }
 }
 
 /// The setup is handed back in any case.
 pub(crate) fn with_setup<const N: usize>(setup: Setup, result: Result<[u64; N], Refusal>) -> Answer {
     let mut answer = without_setup(result);
-    answer.numbers.copy_within(0..4, 4);
+    answer.numbers.copy_within(0..6, 4);
     answer.numbers[..4].copy_from_slice(&[setup.levels, setup.base, setup.tables, setup.free]);
     answer
 }

@@ -32,6 +32,8 @@ pub struct Coverage {
     taken: [[u64; 4]; 2],
     /// How many unmaps gave back 0 to 3 tables.
     given: [[u64; 4]; 2],
+    /// How many holes of query and of unmap had the size of an entry's region at the last level, the one above it and so on.
+    holes: [[[u64; 4]; 2]; 2],
     causes: BTreeMap<&'static str, u64>,
     /// For each damage, how often the audit that came next accepted and refused.
     damages: BTreeMap<Damage, [u64; 2]>,
@@ -63,6 +65,11 @@ impl Coverage {
                     (Call::Audit { .. }, 0 | 8, Some(damage)) => {
                         self.damages.entry(damage).or_default()[usize::from(answer.refusal == 8)] += 1;
                     }
+                    (&(Call::Query { setup, .. } | Call::Unmap { setup, .. }), 9, _) => {
+                        let [_, size, ..] = answer.rest(call);
+                        let height = (size.trailing_zeros() as usize - 12) / 9;
+                        self.holes[usize::from(matches!(call, Call::Unmap { .. }))][setup.levels as usize - 3][height] += 1;
+                    }
                     (_, 8, _) => {
                         if let Some(cause) = cause(call, &memory.words[..words], &memory.list[..places]) {
                             *self.causes.entry(cause).or_default() += 1;
@@ -91,6 +98,13 @@ impl Coverage {
             for count in 0..levels {
                 need(self.taken[levels - 3][count] > 0, format!("{levels} levels, {count} tables taken"));
                 need(self.given[levels - 3][count] > 0, format!("{levels} levels, {count} tables given back"));
+            }
+        }
+        for (holes, call) in self.holes.iter().zip(["query", "unmap"]) {
+            for levels in [3, 4] {
+                for height in 0..levels {
+                    need(holes[levels - 3][height] > 0, format!("{call}, {levels} levels, a hole at height {height}"));
+                }
             }
         }
         for cause in CAUSES {
@@ -150,6 +164,9 @@ impl fmt::Display for Coverage {
             let counts = |counts: &[u64; 4]| counts[..levels].iter().map(u64::to_string).collect::<Vec<_>>().join(", ");
             let (taken, given) = (counts(&self.taken[levels - 3]), counts(&self.given[levels - 3]));
             writeln!(f, "{levels} levels: maps that took 0, 1 .. tables: {taken}; unmaps that gave back 0, 1 ..: {given}")?;
+        }
+        for (holes, call) in self.holes.iter().zip(["query", "unmap"]) {
+            writeln!(f, "{call}: holes by height with three levels {:?}, with four {:?}", &holes[0][..3], holes[1])?;
         }
         for (cause, count) in &self.causes {
             writeln!(f, "8, {cause}: {count}")?;

@@ -28,7 +28,7 @@
 //! Audit  tables mappings 0 0
 //! ```
 //!
-//! The refusal is its number or 0, and what a refusal does not answer is 0. The sum is that of all memory after the call, lent
+//! The refusal is its number or 0, and what a refusal does not answer is 0; of 9 the four numbers are base and size of the hole, and two zeros. The sum is that of all memory after the call, lent
 //! or not: the sum of (2 i + 1) * number i, modulo 2^64, where word 0 is number 0 and place 0 is number 33280, since no memory has
 //! more words.
 
@@ -86,10 +86,11 @@ fn text(step: &Step, answer: Option<&Answer>, memory: &Memory) -> String {
         Call::Audit { setup } => ("Audit", setup, [0; 4]),
     };
     let setup = [setup.levels, setup.base, setup.tables, setup.free];
-    let told = match call {
-        Call::Query { .. } | Call::Audit { .. } => [&setup[..], &answer.numbers[..4]].concat(),
-        _ => answer.numbers.to_vec(),
+    let handed_back = match call {
+        Call::Query { .. } | Call::Audit { .. } => setup,
+        _ => std::array::from_fn(|i| answer.numbers[i]),
     };
+    let told = [handed_back, answer.rest(&call)].concat();
     row(name, &[&[words, places], &setup[..], &rest].concat(), &[&[answer.refusal], &told[..], &[sum(memory)]].concat())
 }
 

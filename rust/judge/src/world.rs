@@ -1,9 +1,9 @@
 //! What the plain program's side of a run is: its memory, the setup that goes on, and the ledger.
 
 use plain::ledger::Ledger;
-use plain::{Refusal, Setup};
+use plain::Setup;
 
-use crate::call::with_setup;
+use crate::call::{with_setup, without_setup};
 use crate::{Answer, Call, Damage, Engine, Plain};
 
 /// Lent memory. It is longer than the pool in it, so that longer and shorter runs can be lent.
@@ -90,7 +90,6 @@ impl World {
 
 /// The ledger's answer to a call on a pool.
 fn ask(ledger: &mut Ledger, setup: Setup, call: &Call) -> Answer {
-    let refused = |refusal: Refusal| Answer::new(refusal.number(), &[]);
     match *call {
         Call::Map { address, frame, size, attributes, .. } => {
             let result = ledger.map(address, frame, size, attributes);
@@ -100,9 +99,7 @@ fn ask(ledger: &mut Ledger, setup: Setup, call: &Call) -> Answer {
             let result = ledger.unmap(address);
             with_setup(Setup { free: ledger.free(), ..setup }, result.map(|r| [r.frame, r.size, r.attributes, r.given]))
         }
-        Call::Query { address, .. } => {
-            ledger.query(address).map_or_else(refused, |f| Answer::new(0, &[f.base, f.frame, f.size, f.attributes]))
-        }
+        Call::Query { address, .. } => without_setup(ledger.query(address).map(|f| [f.base, f.frame, f.size, f.attributes])),
         Call::Audit { .. } => {
             let counts = ledger.audit();
             Answer::new(0, &[counts.tables, counts.mappings])

@@ -5,8 +5,8 @@
 use std::env;
 
 use judge::{cases, lines, Answer, Call, Engine, Judge, Memory, Source, Step};
-use oakabut::raw::{self, Mapped, Unmapped};
-use oakabut::{Audit, Mapping, Pool, Refusal, Setup};
+use oakabut::raw::{self, Found, Mapped, Unmapped};
+use oakabut::{Audit, Hole, Mapping, Pool, Refusal, Setup};
 
 /// How many calls to judge, and from which seed.
 fn calls_and_seed() -> (u64, u64) {
@@ -55,7 +55,11 @@ fn one_more_word_in_use() {
             for word in [0x0040_0000_8000_07FF, 1 << 63] {
                 let address = 4096 * page;
                 let free = Call::Map { setup: setup(3), address, frame: 0x8000_0000, size: 4096, attributes: 3 };
-                let mut steps = vec![Step::Memory { words, places }, call(Call::Format { levels: 3, base: 0x4000_0000, tables: 4 }), call(free)];
+                let mut steps = vec![
+                    Step::Memory { words, places },
+                    call(Call::Format { levels: 3, base: 0x4000_0000, tables: 4 }),
+                    call(free),
+                ];
                 if at < 512 && at as u64 != if table == pages { page } else { 0 } {
                     steps.push(Step::Word { at: table + at, word, damage: None });
                 }
@@ -188,9 +192,9 @@ fn the_text_form() {
             _ => {
                 let (words, places) = (&mut memory.words[..takes[0] as usize], &mut memory.list[..takes[1] as usize]);
                 let answer = Raw.call(&call, words, places);
-                let handed_back = if let Call::Query { .. } | Call::Audit { .. } = call { &takes[2..6] } else { &[] };
-                let told = [handed_back, &answer.numbers[..8 - handed_back.len()]].concat();
-                [&[answer.refusal], &told[..], &[lines::sum(&memory)]].concat()
+                let handed_back =
+                    if let Call::Query { .. } | Call::Audit { .. } = call { &takes[2..6] } else { &answer.numbers[..4] };
+                [&[answer.refusal], handed_back, &answer.rest(&call), &[lines::sum(&memory)]].concat()
             }
         };
         assert_eq!(told, expected, "{line}");
@@ -228,15 +232,19 @@ impl Engine for Raw {
                     Answer::new(refusal, &[a.setup.levels, a.setup.base, a.setup.tables, a.setup.free, a.taken])
                 }
                 Call::Unmap { address, .. } => {
-                    let mut a = Unmapped { setup: junk, frame: JUNK, size: JUNK, attributes: JUNK, given: JUNK };
+                    let hole = Hole { base: JUNK, size: JUNK };
+                    let mut a = Unmapped { setup: junk, frame: JUNK, size: JUNK, attributes: JUNK, given: JUNK, hole };
                     let refusal = raw::oak_unmap(&setup, w, wl, l, ll, address, &mut a);
                     let s = a.setup;
-                    Answer::new(refusal, &[s.levels, s.base, s.tables, s.free, a.frame, a.size, a.attributes, a.given])
+                    let told = [a.frame, a.size, a.attributes, a.given, a.hole.base, a.hole.size];
+                    Answer::new(refusal, &[&[s.levels, s.base, s.tables, s.free], &told[..]].concat())
                 }
                 Call::Query { address, .. } => {
-                    let mut a = Mapping { base: JUNK, frame: JUNK, size: JUNK, attributes: JUNK };
+                    let mapping = Mapping { base: JUNK, frame: JUNK, size: JUNK, attributes: JUNK };
+                    let mut a = Found { mapping, hole: Hole { base: JUNK, size: JUNK } };
                     let refusal = raw::oak_query(&setup, w, wl, l, ll, address, &mut a);
-                    Answer::new(refusal, &[a.base, a.frame, a.size, a.attributes])
+                    let m = a.mapping;
+                    Answer::new(refusal, &[m.base, m.frame, m.size, m.attributes, a.hole.base, a.hole.size])
                 }
                 Call::Audit { .. } => {
                     let mut a = Audit { tables: JUNK, mappings: JUNK };
@@ -254,7 +262,8 @@ struct Safe;
 impl Engine for Safe {
     fn call(&mut self, call: &Call, words: &mut [u64], list: &mut [u32]) -> Answer {
         let mut pool = Pool::resume(to_theirs(call.setup().unwrap_or_default()), words, list);
-        let (result, hands_back): (Result<Vec<u64>, Refusal>, bool) = match *call {
+        // the answer's numbers, how many places they have, and whether the setup comes before them
+        let (result, places, hands_back): (Result<Vec<u64>, Refusal>, usize, bool) = match *call {
             Call::FrameWord { base, size, attributes } => {
                 return Answer::of_host(oakabut::frame_word(base, size, attributes).unwrap_or_else(Refusal::number));
             }
@@ -262,18 +271,24 @@ impl Engine for Safe {
                 let meaning = oakabut::word_meaning(word, size).map(|(base, attributes)| base + 16 + attributes);
                 return Answer::of_host(meaning.unwrap_or_else(Refusal::number));
             }
-            Call::Format { levels, base, tables } => (pool.reformat(levels, base, tables).map(|()| vec![]), true),
+            Call::Format { levels, base, tables } => (pool.reformat(levels, base, tables).map(|()| vec![]), 0, true),
             Call::Map { address, frame, size, attributes, .. } => {
-                (pool.map(address, frame, size, attributes).map(|taken| vec![taken]), true)
+                (pool.map(address, frame, size, attributes).map(|taken| vec![taken]), 1, true)
             }
-            Call::Unmap { address, .. } => (pool.unmap(address).map(|r| vec![r.frame, r.size, r.attributes, r.given]), true),
-            Call::Query { address, .. } => (pool.query(address).map(|m| vec![m.base, m.frame, m.size, m.attributes]), false),
-            Call::Audit { .. } => (pool.audit().map(|a| vec![a.tables, a.mappings]), false),
+            Call::Unmap { address, .. } => (pool.unmap(address).map(|r| vec![r.frame, r.size, r.attributes, r.given]), 4, true),
+            Call::Query { address, .. } => (pool.query(address).map(|m| vec![m.base, m.frame, m.size, m.attributes]), 4, false),
+            Call::Audit { .. } => (pool.audit().map(|a| vec![a.tables, a.mappings]), 2, false),
         };
         let setup = pool.setup();
         let mut numbers = if hands_back { vec![setup.levels, setup.base, setup.tables, setup.free] } else { vec![] };
-        let refusal = result.as_ref().err().map_or(0, |refusal| refusal.number());
-        numbers.extend(result.unwrap_or_default());
+        let refusal = result.as_ref().map_or_else(|refusal| refusal.number(), |_| 0);
+        match result {
+            Ok(values) => numbers.extend(values),
+            Err(refusal) => {
+                let hole = refusal.hole().map_or([0; 2], |hole| [hole.base, hole.size]);
+                numbers.extend([&vec![0; places][..], &hole].concat());
+            }
+        }
         Answer::new(refusal, &numbers)
     }
 }

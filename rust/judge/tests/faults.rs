@@ -30,6 +30,21 @@ fn root_entry(setup: Setup, address: u64) -> usize {
     (address >> (3 + 9 * setup.levels.min(4))) as usize % 512
 }
 
+/// The right answer with another hole, made from the address and the right one.
+fn hole(call: &Call, words: &mut [u64], list: &mut [u32], other: fn(u64, u64, u64) -> (u64, u64)) -> Answer {
+    let mut answer = right(call, words, list);
+    let (address, at) = match *call {
+        Call::Unmap { address, .. } => (address, 8),
+        Call::Query { address, .. } => (address, 4),
+        _ => return answer,
+    };
+    if answer.refusal == 9 {
+        let (base, size) = other(address, answer.numbers[at], answer.numbers[at + 1]);
+        answer.numbers[at..at + 2].copy_from_slice(&[base, size]);
+    }
+    answer
+}
+
 const FAULTS: &[(&str, Fault)] = &[
     ("a map that always refuses", |call, words, list| match *call {
         Call::Map { setup, .. } => Answer::new(7, &numbers(setup)),
@@ -38,6 +53,23 @@ const FAULTS: &[(&str, Fault)] = &[
     ("a query that always says 9", |call, words, list| match call {
         Call::Query { .. } => Answer::new(9, &[]),
         _ => right(call, words, list),
+    }),
+    ("the hole of the level above", |call, words, list| {
+        hole(call, words, list, |address, _, size| (address / (size << 9) * (size << 9), size << 9))
+    }),
+    ("a hole that is not aligned", |call, words, list| hole(call, words, list, |address, _, size| (address & !4095, size))),
+    ("the address as the hole's base", |call, words, list| hole(call, words, list, |address, _, size| (address, size))),
+    ("the last level's size for every hole", |call, words, list| hole(call, words, list, |_, base, _| (base, 4096))),
+    ("an unmap whose 9 has zeros", |call, words, list| match call {
+        Call::Unmap { .. } => hole(call, words, list, |_, _, _| (0, 0)),
+        _ => right(call, words, list),
+    }),
+    ("a hole with another refusal", |call, words, list| match (*call, right(call, words, list)) {
+        (Call::Query { address, .. }, mut answer) if answer.refusal == 8 => {
+            answer.numbers[4..6].copy_from_slice(&[address & !4095, 4096]);
+            answer
+        }
+        (_, answer) => answer,
     }),
     ("an unmap that clears nothing", |call, words, list| match call {
         Call::Unmap { .. } => right(call, &mut words.to_vec(), &mut list.to_vec()),

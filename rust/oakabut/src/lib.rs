@@ -4,7 +4,7 @@
 //! its contract, stays within the lent memory and ends. What is added here is only names and types.
 //!
 //! ```
-//! use oakabut::{Mapping, Pool, Refusal, BLOCK_2M, EXECUTE, PAGE, READ, WRITE};
+//! use oakabut::{Hole, Mapping, Pool, Refusal, BLOCK_2M, EXECUTE, PAGE, READ, WRITE};
 //!
 //! // four tables at 0x40000000, three levels: a space of 2^39 bytes
 //! let mut words = [0u64; 4 * 512];
@@ -23,6 +23,10 @@
 //! let refusal = pool.map(0x4000_0000, 0x8000_0000, PAGE, READ).unwrap_err();
 //! assert_eq!(refusal, Refusal::NO_TABLES);
 //! assert_eq!(refusal.to_string(), "refusal 7, map: the new tables needed are more than the free ones");
+//!
+//! // where nothing is mapped, it tells how large the hole is
+//! let hole = pool.query(0x40_1234).unwrap_err().hole();
+//! assert_eq!(hole, Some(Hole { base: 0x40_0000, size: BLOCK_2M }));
 //!
 //! // the table of the two pages is given back with the second of them
 //! assert_eq!(pool.unmap(0)?.given, 0);
@@ -90,6 +94,19 @@ pub struct Mapping {
     pub size: u64,
     /// Its attributes.
     pub attributes: u64,
+}
+
+/// A hole, as refusal 9 of [`Pool::query`] and [`Pool::unmap`] carries it: the largest aligned region around the address that is empty.
+///
+/// Its size is that of an entry's region at some level: 4 KiB, 2 MiB, 1 GiB, and with four levels 512 GiB. No mapping touches it. The
+/// next larger region around the address, if it is smaller than the whole space, holds a mapping in a pool that the audit accepts.
+#[repr(C)]
+#[derive(Clone, Copy, Debug, PartialEq, Eq, Hash)]
+pub struct Hole {
+    /// Its first address, a multiple of its size.
+    pub base: u64,
+    /// Its size in bytes.
+    pub size: u64,
 }
 
 /// What [`Pool::unmap`] removed.

@@ -4,8 +4,10 @@ use alloc::vec::Vec;
 use core::fmt;
 use core::ops::{Deref, DerefMut};
 
-use crate::raw::{self, Mapped, Unmapped};
-use crate::{Audit, Mapping, Refusal, Removed, Setup, MAX_TABLES};
+use crate::raw::{self, Found, Mapped, Unmapped};
+use crate::{Audit, Hole, Mapping, Refusal, Removed, Setup, MAX_TABLES};
+
+const NO_HOLE: Hole = Hole { base: 0, size: 0 };
 
 /// A pool of tables: a stage 2 page table with the memory it lives in.
 ///
@@ -79,27 +81,28 @@ impl<'a> Pool<'a> {
         Ok(taken)
     }
 
-    /// Removes the mapping that starts at `address`, and gives back each table that this leaves empty.
+    /// Removes the mapping that starts at `address`, and gives back each table that this leaves empty. Where nothing is mapped, the
+    /// refusal carries the hole ([`Refusal::hole`]).
     pub fn unmap(&mut self, address: u64) -> Result<Removed, Refusal> {
-        let mut answer = Unmapped { setup: self.setup, frame: 0, size: 0, attributes: 0, given: 0 };
+        let mut answer = Unmapped { setup: self.setup, frame: 0, size: 0, attributes: 0, given: 0, hole: NO_HOLE };
         let (words, list) = (&mut *self.words, &mut *self.list);
         // SAFETY: the pointers and lengths are those of two slices that are borrowed mutably.
         let number = unsafe {
             raw::oak_unmap(&self.setup, words.as_mut_ptr(), words.len(), list.as_mut_ptr(), list.len(), address, &mut answer)
         };
-        let Unmapped { setup, frame, size, attributes, given } = Refusal::or(number, answer)?;
+        let Unmapped { setup, frame, size, attributes, given, .. } = Refusal::or_hole(number, answer, answer.hole)?;
         self.setup = setup;
         Ok(Removed { frame, size, attributes, given })
     }
 
-    /// Finds the mapping that holds `address`.
+    /// Finds the mapping that holds `address`. Where there is none, the refusal carries the hole ([`Refusal::hole`]).
     pub fn query(&self, address: u64) -> Result<Mapping, Refusal> {
-        let mut answer = Mapping { base: 0, frame: 0, size: 0, attributes: 0 };
+        let mut answer = Found { mapping: Mapping { base: 0, frame: 0, size: 0, attributes: 0 }, hole: NO_HOLE };
         let (words, list) = (&*self.words, &*self.list);
         // SAFETY: the pointers and lengths are those of two borrowed slices, which are only read.
         let number =
             unsafe { raw::oak_query(&self.setup, words.as_ptr(), words.len(), list.as_ptr(), list.len(), address, &mut answer) };
-        Refusal::or(number, answer)
+        Refusal::or_hole(number, answer.mapping, answer.hole)
     }
 
     /// Tests the whole pool, and counts its tables and mappings. A pool that it accepts never gives [`Refusal::DAMAGED`].

@@ -1,10 +1,10 @@
 //! The C surface of the proved library, as its header has it.
 //!
 //! Each function returns 0 or the number of a refusal, and always writes the whole answer: on a refusal zeros, but for the
-//! setup that map and unmap hand back unchanged. Lengths count elements. The safe calls of [`Pool`](crate::Pool) and of this
+//! setup that map and unmap hand back unchanged, and for the hole that goes with 9. Lengths count elements. The safe calls of [`Pool`](crate::Pool) and of this
 //! crate are made of these.
 
-use crate::{Audit, Mapping, Setup};
+use crate::{Audit, Hole, Mapping, Setup};
 
 /// What `oak_map` answers.
 #[repr(C)]
@@ -30,6 +30,18 @@ pub struct Unmapped {
     pub attributes: u64,
     /// The number of tables given back.
     pub given: u64,
+    /// The hole around the address where 9 is returned, else zeros.
+    pub hole: Hole,
+}
+
+/// What `oak_query` answers.
+#[repr(C)]
+#[derive(Clone, Copy, Debug, PartialEq, Eq)]
+pub struct Found {
+    /// The mapping.
+    pub mapping: Mapping,
+    /// The hole around the address where 9 is returned, else zeros.
+    pub hole: Hole,
 }
 
 extern "C" {
@@ -72,7 +84,7 @@ extern "C" {
     /// As for [`oak_format`]; the words and the list are only read.
     pub fn oak_query(
         setup: *const Setup, words: *const u64, words_len: usize, list: *const u32, list_len: usize, address: u64,
-        answer: *mut Mapping,
+        answer: *mut Found,
     ) -> u64;
 
     /// Tests a whole pool.

@@ -2,38 +2,56 @@
 
 use core::fmt;
 
+use crate::Hole;
+
 /// Why a call was refused. A refused call leaves all lent memory, and the pool's setup, as they were.
 ///
 /// The calls are tested in the order 1, 2, 3, 4, 5, then the walk from the top (6, 8, 9 or 10, whichever it finds first), then 7,
 /// then 8 for the free list.
 #[derive(Clone, Copy, Debug, PartialEq, Eq, Hash)]
-pub struct Refusal(u64);
+pub struct Refusal {
+    number: u64,
+    hole: Option<Hole>,
+}
 
 impl Refusal {
     /// 1: a setup number or a length breaks the rules.
-    pub const SETUP: Refusal = Refusal(1);
+    pub const SETUP: Refusal = Refusal::bare(1);
     /// 2: the size is none of the three.
-    pub const SIZE: Refusal = Refusal(2);
+    pub const SIZE: Refusal = Refusal::bare(2);
     /// 3: the attributes are above 15.
-    pub const ATTRIBUTES: Refusal = Refusal(3);
+    pub const ATTRIBUTES: Refusal = Refusal::bare(3);
     /// 4: an address is not below the space, or address + size is above it; or frame base + size is above 2^48.
-    pub const RANGE: Refusal = Refusal(4);
+    pub const RANGE: Refusal = Refusal::bare(4);
     /// 5: map: the address or the frame base is not a multiple of the size; unmap: the address is not a multiple of 4096.
-    pub const ALIGNMENT: Refusal = Refusal(5);
+    pub const ALIGNMENT: Refusal = Refusal::bare(5);
     /// 6: map: the walk meets a frame, or the target entry is a table or a frame.
-    pub const IN_USE: Refusal = Refusal(6);
+    pub const IN_USE: Refusal = Refusal::bare(6);
     /// 7: map: the new tables needed are more than the free ones.
-    pub const NO_TABLES: Refusal = Refusal(7);
+    pub const NO_TABLES: Refusal = Refusal::bare(7);
     /// 8: the pool, or the word that was asked about, is damaged. It is never given for a pool that the audit accepts.
-    pub const DAMAGED: Refusal = Refusal(8);
-    /// 9: unmap, query: the walk ends at an empty entry.
-    pub const EMPTY: Refusal = Refusal(9);
+    pub const DAMAGED: Refusal = Refusal::bare(8);
     /// 10: unmap: the walk ends at a frame whose mapping does not start at the address.
-    pub const NOT_THE_START: Refusal = Refusal(10);
+    pub const NOT_THE_START: Refusal = Refusal::bare(10);
+
+    /// 9: unmap, query: the walk ends at an empty entry. It carries the largest empty region around the address.
+    pub const fn empty(hole: Hole) -> Refusal {
+        Refusal { number: 9, hole: Some(hole) }
+    }
+
+    /// A refusal that carries nothing but its number.
+    const fn bare(number: u64) -> Refusal {
+        Refusal { number, hole: None }
+    }
+
+    /// The hole that 9 carries; no other refusal has one.
+    pub fn hole(self) -> Option<Hole> {
+        self.hole
+    }
 
     /// The number of the refusal.
     pub fn number(self) -> u64 {
-        self.0
+        self.number
     }
 
     /// The refusal of a number that a call returned, or the answer where the number is 0.
@@ -41,7 +59,16 @@ impl Refusal {
         if number == 0 {
             Ok(answer)
         } else {
-            Err(Refusal(number))
+            Err(Refusal::bare(number))
+        }
+    }
+
+    /// The same of a call that has a hole with 9.
+    pub(crate) fn or_hole<A>(number: u64, answer: A, hole: Hole) -> Result<A, Refusal> {
+        if number == 9 {
+            Err(Refusal::empty(hole))
+        } else {
+            Refusal::or(number, answer)
         }
     }
 }
@@ -49,6 +76,12 @@ impl Refusal {
 impl fmt::Display for Refusal {
     fn fmt(&self, f: &mut fmt::Formatter<'_>) -> fmt::Result {
         let sentence = match *self {
+            Refusal { hole: Some(Hole { base, size }), number } => {
+                return write!(
+                    f,
+                    "refusal {number}, unmap, query: the walk ends at an empty entry, in a hole of {size:#x} bytes at {base:#x}"
+                );
+            }
             Refusal::SETUP => "a setup number or a length breaks the rules",
             Refusal::SIZE => "the size is none of the three",
             Refusal::ATTRIBUTES => "the attributes are above 15",
@@ -61,11 +94,10 @@ impl fmt::Display for Refusal {
             Refusal::IN_USE => "map: the walk meets a frame, or the target entry is a table or a frame",
             Refusal::NO_TABLES => "map: the new tables needed are more than the free ones",
             Refusal::DAMAGED => "the pool, or the word that was asked about, is damaged",
-            Refusal::EMPTY => "unmap, query: the walk ends at an empty entry",
             Refusal::NOT_THE_START => "unmap: the walk ends at a frame whose mapping does not start at the address",
-            Refusal(_) => "a number that this crate does not know",
+            _ => "a number that this crate does not know",
         };
-        write!(f, "refusal {}, {sentence}", self.0)
+        write!(f, "refusal {}, {sentence}", self.number)
     }
 }
 

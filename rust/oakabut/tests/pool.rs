@@ -29,7 +29,7 @@ fn the_eleven_cases(mut pool: Pool) -> Result<(), Refusal> {
     assert_eq!(pool.query(0x20_1234)?, Mapping { base: 0x20_0000, frame: 0x8020_0000, size: BLOCK_2M, attributes: 3 });
     // 8
     assert_eq!(pool.unmap(0x20_1000), Err(Refusal::NOT_THE_START));
-    assert_eq!(pool.unmap(0x3000), Err(Refusal::EMPTY));
+    assert_eq!(pool.unmap(0x3000), Err(Refusal::empty(Hole { base: 0x3000, size: PAGE })));
     // 9
     assert_eq!(pool.unmap(0)?, Removed { frame: F, size: PAGE, attributes: 3, given: 0 });
     assert_eq!(pool.unmap(0x1000)?, Removed { frame: 0x8000_1000, size: PAGE, attributes: 5, given: 1 });
@@ -62,6 +62,30 @@ fn lent_memory() {
     }
     the_eleven_cases(Pool::format(3, P, 4, &mut words, &mut list).unwrap()).unwrap();
     assert_eq!(words[511], P + 4096 + 3);
+}
+
+#[test]
+fn holes() {
+    let hole = |pool: &Pool, address: u64| pool.query(address).unwrap_err().hole();
+    let sized = |base, size| Some(Hole { base, size });
+    let mut pool = Pool::owned(3, P, 4).unwrap();
+    assert_eq!(hole(&pool, 0), sized(0, BLOCK_1G));
+    assert_eq!(pool.unmap(0x7F_FFFF_F000), Err(Refusal::empty(Hole { base: 0x7F_C000_0000, size: BLOCK_1G })));
+    pool.map(0, F, PAGE, 3).unwrap();
+    assert_eq!(hole(&pool, 0x20_0000), sized(0x20_0000, BLOCK_2M));
+    assert_eq!(hole(&pool, 0x2FFF), sized(0x2000, PAGE));
+    // one map that fits it fills it
+    assert_eq!(pool.map(0x20_0000, F, BLOCK_2M, 3), Ok(0));
+    pool.unmap(0).unwrap();
+    assert_eq!(hole(&pool, 0), sized(0, BLOCK_2M));
+    pool.unmap(0x20_0000).unwrap();
+    assert_eq!(hole(&pool, 0), sized(0, BLOCK_1G));
+    assert_eq!(hole(&Pool::owned(4, P, 4).unwrap(), (1 << 48) - 1), sized(511 << 39, 1 << 39));
+    // no other refusal has one
+    assert_eq!(pool.query(1 << 39), Err(Refusal::RANGE));
+    assert_eq!(Refusal::RANGE.hole(), None);
+    let text = Refusal::empty(Hole { base: 0x2000, size: PAGE }).to_string();
+    assert_eq!(text, "refusal 9, unmap, query: the walk ends at an empty entry, in a hole of 0x1000 bytes at 0x2000");
 }
 
 #[test]

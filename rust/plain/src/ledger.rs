@@ -3,7 +3,7 @@
 //! It has no words, no tables and no free list, and counts the tables that mappings need from their addresses alone. It
 //! answers what a pool must answer on any history of calls from a fresh format, with good lengths and the setup handed on.
 
-use crate::{Counts, Found, Refusal, Removed};
+use crate::{Counts, Found, Hole, Refusal, Removed};
 
 /// A live mapping.
 #[derive(Clone, Copy, Debug, PartialEq, Eq)]
@@ -72,7 +72,7 @@ impl Ledger {
         if address % 4096 != 0 {
             return Err(Refusal::Alignment);
         }
-        let at = self.holder(address).ok_or(Refusal::Empty)?;
+        let at = self.holder(address).ok_or_else(|| Refusal::Empty(self.hole(address)))?;
         if self.mappings[at].address != address {
             return Err(Refusal::NotTheStart);
         }
@@ -85,7 +85,8 @@ impl Ledger {
         if u128::from(address) >= self.space() {
             return Err(Refusal::Range);
         }
-        let Mapping { address: base, frame, size, attributes } = self.mappings[self.holder(address).ok_or(Refusal::Empty)?];
+        let at = self.holder(address).ok_or_else(|| Refusal::Empty(self.hole(address)))?;
+        let Mapping { address: base, frame, size, attributes } = self.mappings[at];
         Ok(Found { base, frame, size, attributes })
     }
 
@@ -105,6 +106,15 @@ impl Ledger {
     /// The number of the mapping that holds an address.
     fn holder(&self, address: u64) -> Option<usize> {
         self.mappings.iter().position(|m| m.address <= address && address - m.address < m.size)
+    }
+
+    /// The largest region around an address that no mapping touches, of the sizes that the entries of a tree stand for. No mapping holds the address.
+    pub fn hole(&self, address: u64) -> Hole {
+        let sizes: &[u64] = if self.levels == 3 { &[1 << 30, 1 << 21, 1 << 12] } else { &[1 << 39, 1 << 30, 1 << 21, 1 << 12] };
+        let around = |&size: &u64| Hole { base: address / size * size, size };
+        let untouched =
+            |hole: &Hole| self.mappings.iter().all(|m| m.address + m.size <= hole.base || hole.base + hole.size <= m.address);
+        sizes.iter().map(around).find(untouched).expect("its page is free")
     }
 
     /// The number of tables below the root that mappings need: one for each region larger than a mapping that holds it.

@@ -31,26 +31,53 @@ pub struct Setup {
     pub free: u64,
 }
 
+/// The largest empty region around an address: that of the empty entry where a walk ended.
+#[derive(Clone, Copy, Debug, PartialEq, Eq)]
+pub struct Hole {
+    pub base: u64,
+    pub size: u64,
+}
+
 /// Why a call was refused. The document gives each a number.
 #[derive(Clone, Copy, Debug, PartialEq, Eq)]
 pub enum Refusal {
-    Setup = 1,
-    Size = 2,
-    Attributes = 3,
-    Range = 4,
-    Alignment = 5,
-    InUse = 6,
-    NoTables = 7,
-    Damaged = 8,
-    Empty = 9,
-    NotTheStart = 10,
+    Setup,
+    Size,
+    Attributes,
+    Range,
+    Alignment,
+    InUse,
+    NoTables,
+    Damaged,
+    Empty(Hole),
+    NotTheStart,
 }
 
 impl Refusal {
     /// The document's number.
     #[inline]
     pub fn number(self) -> u64 {
-        self as u64
+        match self {
+            Refusal::Setup => 1,
+            Refusal::Size => 2,
+            Refusal::Attributes => 3,
+            Refusal::Range => 4,
+            Refusal::Alignment => 5,
+            Refusal::InUse => 6,
+            Refusal::NoTables => 7,
+            Refusal::Damaged => 8,
+            Refusal::Empty(_) => 9,
+            Refusal::NotTheStart => 10,
+        }
+    }
+
+    /// What goes with 9.
+    #[inline]
+    pub fn hole(self) -> Option<Hole> {
+        match self {
+            Refusal::Empty(hole) => Some(hole),
+            _ => None,
+        }
     }
 }
 
@@ -221,7 +248,7 @@ fn unmap_or_refuse(setup: &Setup, words: &mut [u64], list: &mut [u32], address: 
     refuse_if(!is_multiple(address, PAGE), Refusal::Alignment)?;
 
     let walk = descend(setup, words, address, 1);
-    let Frame { base: frame, attributes } = frame_at(&walk)?;
+    let Frame { base: frame, attributes } = frame_at(&walk, address)?;
     let size = region(walk.left);
     refuse_if(!is_multiple(address, size), Refusal::NotTheStart)?;
 
@@ -249,7 +276,7 @@ pub fn query(setup: Setup, words: &[u64], list: &[u32], address: u64) -> Result<
     refuse_if(!is_good(&setup, words, list), Refusal::Setup)?;
     refuse_if(address >= space(setup.levels), Refusal::Range)?;
     let walk = descend(&setup, words, address, 1);
-    let Frame { base: frame, attributes } = frame_at(&walk)?;
+    let Frame { base: frame, attributes } = frame_at(&walk, address)?;
     let size = region(walk.left);
     Ok(Found { base: address & !(size - 1), frame, size, attributes })
 }
@@ -346,12 +373,15 @@ fn descend_from(levels: usize, setup: &Setup, words: &[u64], address: u64, targe
     unreachable!("no entry of the last level is a table")
 }
 
-/// The frame at which a walk to the last level ended.
+/// The frame at which a walk to the last level ended for an address.
 #[inline]
-fn frame_at(walk: &Walk) -> Result<Frame, Refusal> {
+fn frame_at(walk: &Walk, address: u64) -> Result<Frame, Refusal> {
     match walk.end {
         End::Frame(frame) => Ok(frame),
-        End::Empty => Err(Refusal::Empty),
+        End::Empty => {
+            let size = region(walk.left);
+            Err(Refusal::Empty(Hole { base: address & !(size - 1), size }))
+        }
         End::Damaged | End::Again | End::Table => Err(Refusal::Damaged),
     }
 }

@@ -110,6 +110,23 @@ fn further_cases() {
 }
 
 #[test]
+fn holes() {
+    let hole = |pool: &Pool, address| query(pool.setup, &pool.words, &pool.list, address).unwrap_err().hole();
+    let sized = |base, size| Some(Hole { base, size });
+    let mut pool = Pool::new(3, 4);
+    assert_eq!(hole(&pool, 0), sized(0, 1 << 30));
+    assert_eq!(hole(&pool, (1 << 39) - 1), sized(511 << 30, 1 << 30));
+    pool.map(0, F, 4096, 3).unwrap();
+    assert_eq!(hole(&pool, MIB2), sized(MIB2, MIB2));
+    assert_eq!(hole(&pool, 0x2FFF), sized(0x2000, 4096));
+    assert_eq!(unmap(pool.setup, &mut pool.words, &mut pool.list, 0x2000).1.unwrap_err().hole(), sized(0x2000, 4096));
+    pool.unmap(0).unwrap();
+    assert_eq!(hole(&pool, 0), sized(0, 1 << 30));
+    assert_eq!(hole(&Pool::new(4, 4), 5 << 39), sized(5 << 39, 1 << 39));
+    assert_eq!(hole(&pool, 1 << 39), None);
+}
+
+#[test]
 fn the_attribute_words() {
     let word = |attributes: u64| frame_word(0, 4096, attributes) - 3;
     for a in 0..16 {

@@ -24,11 +24,23 @@ element-write-answer-4 c = search needs
 enum-known-a-2 : tie.Need-enum-known-a-2
 enum-known-a-2 c = search needs
 
+element-write-answer-5 : tie.Need-element-write-answer-5
+element-write-answer-5 c = search needs
+
+element-write-answer-6 : tie.Need-element-write-answer-6
+element-write-answer-6 c = search needs
+
+enum-known-a-3 : tie.Need-enum-known-a-3
+enum-known-a-3 c = search needs
+
 returns : tie.Need-returns
 returns c = tells saysUnmap (unmapPlaces (c .before .before .before .before .args .s)) (c .before .a .given .1)
 
 returns-2 : tie.Need-returns-2
 returns-2 c = tells saysUnmap (unmapPlaces (c .before .before .before .before .args .s)) (c .before .a2 .given .1)
+
+returns-3 : tie.Need-returns-3
+returns-3 c = tells saysUnmap (unmapPlaces (c .before .before .before .before .args .s)) (c .before .a3 .given .1)
 
 pub unmapped-spec : {M : Type 1} → statement M
 unmapped-spec =
@@ -40,5 +52,9 @@ unmapped-spec =
     element-write-answer-3
     element-write-answer-4
     enum-known-a-2
+    element-write-answer-5
+    element-write-answer-6
+    enum-known-a-3
     returns
-    returns-2)
+    returns-2
+    returns-3)

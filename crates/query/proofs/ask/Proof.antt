@@ -80,13 +80,16 @@ shared-slice-read-w c =
     let l = c .before .before .before .loop in
     omega (arith, index-lt (s .address) (3 - (l .h - 1)) (c .before .before .before .before .path-of .ensures) (omega arith))
 
+hole-told-requires : tie.Need-hole-told-requires Inv-loop μ-loop
+hole-told-requires c κs = search needs
+
 returns : tie.Need-returns Inv-loop μ-loop
 unfolding foundAt
 returns c =
-    let s = c .before .before .before .before .before .before .before .args in
-    let l = c .before .before .before .before .loop in
-    answer-no 9 _ (λ e. omega arith)
-    ∙ whole (s .words .now) (areaAt (s .base) (s .tables)) (s .address) (s .levels - 1) (c .before .before .before .before .before .path-of .ensures) (ends-empty four (s .words .now) (areaAt (s .base) (s .tables)) 0 (c .before .before .before .before .before .path-of .result) (l .h - 1) (l .way) (l .t) refl (c .if2 .taken) ∙ l .inv .4 .goes (omega arith))
+    let s = c .before .before .before .before .before .before .before .before .before .args in
+    let l = c .before .before .before .before .before .before .loop in
+    c .hole-told .ensures
+    ∙ whole (s .words .now) (areaAt (s .base) (s .tables)) (s .address) (s .levels - 1) (c .before .before .before .before .before .before .before .path-of .ensures) (ends-empty four (s .words .now) (areaAt (s .base) (s .tables)) 0 (c .before .before .before .before .before .before .before .path-of .result) (l .h - 1) (l .way) (l .t) refl (c .before .before .if2 .taken) ∙ l .inv .4 .goes (omega arith))
 
 frame-told-requires : tie.Need-frame-told-requires Inv-loop μ-loop
 frame-told-requires c κs = search needs
@@ -128,7 +131,7 @@ unfolding foundAt
 returns-4 c =
     let s = c .before .before .before .before .before .before .before .before .before .before .before .before .args in
     let l = c .before .before .before .before .before .before .before .before .before .loop in
-    answer-no 8 _ (λ e. omega arith)
+    answer-no 8 _ (λ e. omega arith) (λ e. omega arith)
     ∙ whole (s .words .now) (areaAt (s .base) (s .tables)) (s .address) (s .levels - 1) (c .before .before .before .before .before .before .before .before .before .before .path-of .ensures)
     (comes-again four (s .words .now) (areaAt (s .base) (s .tables)) 0 (c .before .before .before .before .before .before .before .before .before .before .path-of .result) (l .h - 1) (l .way) (l .t) refl (c .before .before .before .child-in .ensures) (omega (arith, c .before .before .if4 .left)) (omega (arith, c .before .before .before .before .if3 .left))
     (sym (c .before .among-four .ensures) ∙ c .if5 .taken)
@@ -180,6 +183,7 @@ ask-spec =
     add-place
     mul-w
     shared-slice-read-w
+    hole-told-requires
     returns
     frame-told-requires
     returns-2

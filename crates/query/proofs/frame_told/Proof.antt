@@ -23,6 +23,9 @@ size-at-requires c κs = search needs
 enum-told : tie.Need-enum-told
 enum-told c = search needs
 
+hole-told-requires : tie.Need-hole-told-requires
+hole-told-requires c κs = search needs
+
 enum-told-2 : tie.Need-enum-told-2
 enum-told-2 c = search needs
 
@@ -41,20 +44,20 @@ returns c =
 returns-2 : tie.Need-returns-2
 unfolding foundAt
 returns-2 c =
-    let s = c .before .before .before .args in
-    answer-no 9 _ (λ e. omega arith) ∙ at-entry (s .address) (s .height) (sym (c .before .before .frame-at .ensures) ∙ c .enum-told .given .1)
+    let s = c .before .before .before .before .before .args in
+    c .hole-told .ensures ∙ at-entry (s .address) (s .height) (sym (c .before .before .before .before .frame-at .ensures) ∙ c .before .before .enum-told .given .1)
 
 returns-3 : tie.Need-returns-3
 unfolding foundAt
 returns-3 c =
     let s = c .before .before .before .args in
-    answer-no 8 _ (λ e. omega arith) ∙ at-entry (s .address) (s .height) (sym (c .before .before .frame-at .ensures) ∙ c .enum-told2 .given .1)
+    answer-no 8 _ (λ e. omega arith) (λ e. omega arith) ∙ at-entry (s .address) (s .height) (sym (c .before .before .frame-at .ensures) ∙ c .enum-told2 .given .1)
 
 returns-4 : tie.Need-returns-4
 unfolding foundAt
 returns-4 c =
     let s = c .before .before .before .args in
-    answer-no 8 _ (λ e. omega arith) ∙ at-entry (s .address) (s .height) (sym (c .before .before .frame-at .ensures) ∙ c .enum-told3 .given .1)
+    answer-no 8 _ (λ e. omega arith) (λ e. omega arith) ∙ at-entry (s .address) (s .height) (sym (c .before .before .frame-at .ensures) ∙ c .enum-told3 .given .1)
 
 pub frame-told-spec : {M : Type 1} → statement M
 frame-told-spec =
@@ -65,6 +68,7 @@ frame-told-spec =
     base-at-requires
     size-at-requires
     enum-told
+    hole-told-requires
     enum-told-2
     enum-told-3
     returns

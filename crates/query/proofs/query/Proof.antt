@@ -3,7 +3,7 @@ use mathlib.Core.Path.{sym, _∙_}
 use native.Mathlib.Omega.{arith}
 use borrow.Author.Needs.{needs}
 use Rattle.model.specs.Answers.{pool}
-use Rattle.query.specs.AskLaws.{answer-no, answer-found}
+use Rattle.query.specs.AskLaws.{answer-no, answer-hole, answer-found}
 use Rattle.query.proofs.Queries.{good, query-bad, query-past, query-walks}
 use Rattle.query.proofs.query.Statement.{statement}
 use Rattle.query.proofs.query.Tie as tie
@@ -34,10 +34,16 @@ cast-ask c = omega (arith, good (c .before .before .before .good-setup .ensures)
 ask-requires : tie.Need-ask-requires
 ask-requires c κs = omega (arith, good (c .before .before .before .before .good-setup .ensures) (c .before .before .before .if1 .left))
 
+array-read-t18 : tie.Need-array-read-t18
+array-read-t18 c = search needs
+
+array-read-t21 : tie.Need-array-read-t21
+array-read-t21 c = search needs
+
 returns-3 : tie.Need-returns-3
 returns-3 c =
     let s = c .before .before .before .before .before .before .before .before .before .args in
-    sym (answer-no _ _ (c .if3 .taken))
+    sym (answer-hole _ (c .if3 .taken))
     ∙ c .before .ask .ensures
     ∙ query-walks (pool (s .s) (s .words .now) (s .list .now)) (s .address)
     (c .before .before .before .before .before .before .good-setup .ensures)
@@ -45,11 +51,16 @@ returns-3 c =
     (c .before .before .before .before .in-space .ensures)
     (c .before .before .before .if2 .left)
 
-array-read-t18 : tie.Need-array-read-t18
-array-read-t18 c = search needs
-
-array-read-t21 : tie.Need-array-read-t21
-array-read-t21 c = search needs
+returns-4 : tie.Need-returns-4
+returns-4 c =
+    let s = c .before .before .before .before .before .before .before .before .before .before .args in
+    sym (answer-no _ _ (c .if4 .taken) (c .before .if3 .left))
+    ∙ c .before .before .ask .ensures
+    ∙ query-walks (pool (s .s) (s .words .now) (s .list .now)) (s .address)
+    (c .before .before .before .before .before .before .before .good-setup .ensures)
+    (c .before .before .before .before .before .before .if1 .left)
+    (c .before .before .before .before .before .in-space .ensures)
+    (c .before .before .before .before .if2 .left)
 
 array-read-t24 : tie.Need-array-read-t24
 array-read-t24 c = search needs
@@ -57,16 +68,22 @@ array-read-t24 c = search needs
 array-read-t27 : tie.Need-array-read-t27
 array-read-t27 c = search needs
 
-returns-4 : tie.Need-returns-4
-returns-4 c =
-    let s = c .before .before .before .before .before .before .before .before .before .args in
-    sym (answer-found _ (c .if3 .left))
-    ∙ c .before .ask .ensures
+array-read-t30 : tie.Need-array-read-t30
+array-read-t30 c = search needs
+
+array-read-t33 : tie.Need-array-read-t33
+array-read-t33 c = search needs
+
+returns-5 : tie.Need-returns-5
+returns-5 c =
+    let s = c .before .before .before .before .before .before .before .before .before .before .args in
+    sym (answer-found _ (c .if4 .left))
+    ∙ c .before .before .ask .ensures
     ∙ query-walks (pool (s .s) (s .words .now) (s .list .now)) (s .address)
-    (c .before .before .before .before .before .before .good-setup .ensures)
-    (c .before .before .before .before .before .if1 .left)
-    (c .before .before .before .before .in-space .ensures)
-    (c .before .before .before .if2 .left)
+    (c .before .before .before .before .before .before .before .good-setup .ensures)
+    (c .before .before .before .before .before .before .if1 .left)
+    (c .before .before .before .before .before .in-space .ensures)
+    (c .before .before .before .before .if2 .left)
 
 pub query-spec : {M : Type 1} → statement M
 query-spec =
@@ -78,9 +95,12 @@ query-spec =
     returns-2
     cast-ask
     ask-requires
-    returns-3
     array-read-t18
     array-read-t21
+    returns-3
+    returns-4
     array-read-t24
     array-read-t27
-    returns-4)
+    array-read-t30
+    array-read-t33
+    returns-5)

@@ -84,20 +84,20 @@ unmap-frame-requires c κs =
 enum-told : tie.Need-enum-told
 enum-told c = search needs
 
-unmap-refused-requires-4 : tie.Need-unmap-refused-requires-4
-unmap-refused-requires-4 c κs = search needs
+unmap-hole-requires : tie.Need-unmap-hole-requires
+unmap-hole-requires c κs = search needs
 
 enum-told-2 : tie.Need-enum-told-2
 enum-told-2 c = search needs
 
-unmap-refused-requires-5 : tie.Need-unmap-refused-requires-5
-unmap-refused-requires-5 c κs = search needs
+unmap-refused-requires-4 : tie.Need-unmap-refused-requires-4
+unmap-refused-requires-4 c κs = search needs
 
 enum-told-3 : tie.Need-enum-told-3
 enum-told-3 c = search needs
 
-unmap-refused-requires-6 : tie.Need-unmap-refused-requires-6
-unmap-refused-requires-6 c κs = search needs
+unmap-refused-requires-5 : tie.Need-unmap-refused-requires-5
+unmap-refused-requires-5 c κs = search needs
 
 same-length-2 : tie.Need-same-length-2
 same-length-2 c = search needs
@@ -117,7 +117,7 @@ returns-5 : tie.Need-returns-5
 unfolding unmapAt
 returns-5 c =
     let a = c .before .before .before .before .before .before .before .before .before .before .before .before .before .before .before .before .args in
-    refusing (a .words .now) (a .list .now) (c .unmap-refused4 .ensures)
+    refusing (a .words .now) (a .list .now) (c .unmap-hole .ensures)
     ∙ came-at (passed (c .before .before .before .before .before .before .before .before .before .before .before .before .before .good-setup .ensures) (c .before .before .before .before .before .before .before .before .before .before .before .before .if1 .left)) (sym (c .before .before .before .before .before .before .before .before .before .before .before .unmap-tests .ensures) ∙ c .before .before .before .before .before .before .before .before .before .before .if2 .left) (came (c .before .before .before .before .before .before .before)) (c .before .before .before .before .before .before .if3 .left) refl (c .before .before .before .read-word .ensures) (c .before .enum-told .given .1)
 
 same-length-5 : tie.Need-same-length-5
@@ -127,7 +127,7 @@ returns-6 : tie.Need-returns-6
 unfolding unmapAt
 returns-6 c =
     let a = c .before .before .before .before .before .before .before .before .before .before .before .before .before .before .before .before .args in
-    refusing (a .words .now) (a .list .now) (c .unmap-refused5 .ensures)
+    refusing (a .words .now) (a .list .now) (c .unmap-refused4 .ensures)
     ∙ came-at (passed (c .before .before .before .before .before .before .before .before .before .before .before .before .before .good-setup .ensures) (c .before .before .before .before .before .before .before .before .before .before .before .before .if1 .left)) (sym (c .before .before .before .before .before .before .before .before .before .before .before .unmap-tests .ensures) ∙ c .before .before .before .before .before .before .before .before .before .before .if2 .left) (came (c .before .before .before .before .before .before .before)) (c .before .before .before .before .before .before .if3 .left) refl (c .before .before .before .read-word .ensures) (c .before .enum-told2 .given .1)
 
 same-length-6 : tie.Need-same-length-6
@@ -137,7 +137,7 @@ returns-7 : tie.Need-returns-7
 unfolding unmapAt
 returns-7 c =
     let a = c .before .before .before .before .before .before .before .before .before .before .before .before .before .before .before .before .args in
-    refusing (a .words .now) (a .list .now) (c .unmap-refused6 .ensures)
+    refusing (a .words .now) (a .list .now) (c .unmap-refused5 .ensures)
     ∙ came-at (passed (c .before .before .before .before .before .before .before .before .before .before .before .before .before .good-setup .ensures) (c .before .before .before .before .before .before .before .before .before .before .before .before .if1 .left)) (sym (c .before .before .before .before .before .before .before .before .before .before .before .unmap-tests .ensures) ∙ c .before .before .before .before .before .before .before .before .before .before .if2 .left) (came (c .before .before .before .before .before .before .before)) (c .before .before .before .before .before .before .if3 .left) refl (c .before .before .before .read-word .ensures) (c .before .enum-told3 .given .1)
 
 pub unmap-spec : {M : Type 1} → statement M
@@ -161,11 +161,11 @@ unmap-spec =
     enum-known-e
     unmap-frame-requires
     enum-told
-    unmap-refused-requires-4
+    unmap-hole-requires
     enum-told-2
-    unmap-refused-requires-5
+    unmap-refused-requires-4
     enum-told-3
-    unmap-refused-requires-6
+    unmap-refused-requires-5
     same-length-2
     same-length-3
     returns-4
