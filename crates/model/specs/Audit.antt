@@ -84,7 +84,7 @@ noneInside G area (m ∷ L) = not (meetsArea G area (m .frame) (m .size)) && non
 unfoldable pub soundPool : Granule → Pool → Bool
 soundPool G p =
     let o = ofPool G p in
-    ((o .ok && o .full) && noneInside G (areaOf (p .numbers)) (o .mappings))
+    (noneInside G (areaOf (p .numbers)) (o .mappings) && (o .ok && o .full))
     && (distinct (o .reached ++ freeOf p)
     && (freeSound G (p .words) (total (areaOf (p .numbers))) (freeOf p)
     && eqb (length (o .reached) + p .numbers .free) (total (areaOf (p .numbers)))))

@@ -292,8 +292,8 @@ module _ (G : Granule) (p : Pool) where
   unfolding soundPool
   sound-only e =
       let R = reachedOf G p in
-      let (q, e₁) = and-eq-true-iff ((ofPool G p .ok && ofPool G p .full) && noneInside G (areaOf (p .numbers)) (mappingsOf G p)) _ .0 e in
-      let (w, i) = and-eq-true-iff (ofPool G p .ok && ofPool G p .full) _ .0 q in
+      let (q, e₁) = and-eq-true-iff (noneInside G (areaOf (p .numbers)) (mappingsOf G p) && (ofPool G p .ok && ofPool G p .full)) _ .0 e in
+      let (i, w) = and-eq-true-iff (noneInside G (areaOf (p .numbers)) (mappingsOf G p)) _ .0 q in
       let (o, y) = and-eq-true-iff (ofPool G p .ok) (ofPool G p .full) .0 w in
       let (d, e₂) = and-eq-true-iff (distinct (R ++ freeOf p)) _ .0 e₁ in
       let (f, c) = and-eq-true-iff (freeSound G (p .words) (total (areaOf (p .numbers))) (freeOf p)) _ .0 e₂ in
@@ -321,7 +321,7 @@ module _ (G : Granule) (p : Pool) where
       let d = distinct-append R (freeOf p) (distinct-some R (s .once)) (distinct-some (freeOf p) (s .free-once)) (λ t m k. s .free-apart t k m) in
       let f = free-some G (p .words) (total (areaOf (p .numbers))) (freeOf p) (s .free-range) (s .free-zero) in
       let c : length R + p .numbers .free ≡ total (areaOf (p .numbers)) = omega (arith, s .total) in
-      and-eq-true-iff _ _ .1 (and-eq-true-iff _ _ .1 (and-eq-true-iff _ _ .1 (o, y), i), and-eq-true-iff _ _ .1 (d, and-eq-true-iff _ _ .1 (f, eq-eqb _ _ c)))
+      and-eq-true-iff _ _ .1 (and-eq-true-iff _ _ .1 (i, and-eq-true-iff _ _ .1 (o, y)), and-eq-true-iff _ _ .1 (d, and-eq-true-iff _ _ .1 (f, eq-eqb _ _ c)))
 
   -- the audit's test is exactly the rules
   pub exact : (soundPool G p ≡ true) ↔ SoundPool G p
