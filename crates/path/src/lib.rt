@@ -121,7 +121,7 @@ pub fn meets_area(base: u64, tables: u64, frame: u64, size: u64) -> bool
         }
         return base - frame < size;
     }
-    if size == 0 {
+    if size < 1 {
         return false;
     }
     (frame - base) / PAGE < tables
