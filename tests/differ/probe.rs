@@ -462,6 +462,7 @@ fn histories() {
         }
         history(levels, BASE, 64, 1, 60);
         full(levels);
+        rounds(levels);
     }
 }
 
@@ -476,6 +477,20 @@ fn full(levels: u64) {
         lent.unmap(i * MIB2);
     }
     lent.audit();
+}
+
+// Tables that name each other, or themselves.
+fn rounds(levels: u64) {
+    for (first, second, third) in [(1, 2, 1), (1, 2, 2), (1, 1, 2), (2, 3, 2)] {
+        let mut lent = Lent::format(&format!("round {levels}/{first}{second}{third}"), levels, BASE, 4, 4);
+        lent.words[0] = BASE + PAGE * first + 3;
+        lent.words[512 * first as usize] = BASE + PAGE * second + 3;
+        lent.words[512 * second as usize] = BASE + PAGE * third + 3;
+        lent.asked(0);
+        lent.audit();
+        lent.map(0, 2 * GIB, PAGE, 3);
+        lent.unmap(0);
+    }
 }
 
 fn main() {
