@@ -4,7 +4,7 @@ use core::fmt;
 
 /// Why a call was refused. A refused call leaves all lent memory, and the pool's setup, as they were.
 ///
-/// The calls are tested in the order 1, 2, 3, 4, 5, then the walk from the top (6, 8, 9 or 10, whichever it finds first), then 7,
+/// The calls are tested in the order 1, 2, 3, 4, 5, 11, then the walk from the top (6, 8, 9 or 10, whichever it finds first), then 7,
 /// then 8 for the free list.
 #[derive(Clone, Copy, Debug, PartialEq, Eq, Hash)]
 pub struct Refusal(u64);
@@ -30,6 +30,8 @@ impl Refusal {
     pub const EMPTY: Refusal = Refusal(9);
     /// 10: unmap: the walk ends at a frame whose mapping does not start at the address.
     pub const NOT_THE_START: Refusal = Refusal(10);
+    /// 11: map: the frame shares a byte with the pool's tables.
+    pub const IN_POOL: Refusal = Refusal(11);
 
     /// The number of the refusal.
     pub fn number(self) -> u64 {
@@ -63,6 +65,7 @@ impl fmt::Display for Refusal {
             Refusal::DAMAGED => "the pool, or the word that was asked about, is damaged",
             Refusal::EMPTY => "unmap, query: the walk ends at an empty entry",
             Refusal::NOT_THE_START => "unmap: the walk ends at a frame whose mapping does not start at the address",
+            Refusal::IN_POOL => "map: the frame shares a byte with the pool's tables",
             Refusal(_) => "a number that this crate does not know",
         };
         write!(f, "refusal {}, {sentence}", self.0)
