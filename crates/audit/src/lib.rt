@@ -8,11 +8,11 @@ ghost use mathlib.Core.List.{List};
 ghost use Prim.Native.Nat.{ℕ, _≤_, _<_, _+_, _-_, _*_};
 ghost use lib.ListN.{length, take, set};
 ghost use Rattle.path.specs.Geometry.{four, entries};
-ghost use Rattle.path.specs.Areas.{Area, areaAt};
+ghost use Rattle.path.specs.Areas.{areaAt};
 ghost use Rattle.model.specs.Answers.{saysAudit, pool};
 ghost use Rattle.model.specs.Audit.{auditW};
 ghost use Rattle.model.specs.Sound.{wordAt};
-ghost use Rattle.audit.specs.Checks.{Answers, TableFit, EntryFit, isFresh, atTable, atEntry, freePass};
+ghost use Rattle.audit.specs.Checks.{Answers, TableFit, EntryFit, isPage, isFresh, atTable, atEntry, freePass};
 
 // The entries of a table.
 const ENTRIES: usize = path::ENTRIES as usize;
@@ -39,12 +39,22 @@ fn is_fresh(words: &[u64], marks: &[u8], t: u32) -> bool
     !pool::is_table_empty(words, t)
 }
 
+// Whether a word is that of a page which shares no byte with the tables.
+fn is_page(w: u64, base: u64, n: u32) -> bool
+    ensures { λ r. ⌜ r ≡ isPage (areaAt base n) w ⌝ }
+{
+    if !entry::is_frame(w, 0) {
+        return false;
+    }
+    !path::meets_area(base, n as u64, entry::base_in(w), path::PAGE)
+}
+
 // Checks table t of the last level, which is fresh. A word that is damaged is neither empty nor a page, and the loop goes on: it has no branch, so that it
 // is done on several words at once.
-fn pages_check(words: &[u64], t: u32) -> Tally
+fn pages_check(words: &[u64], base: u64, n: u32, t: u32) -> Tally
     requires { ⌜ entries four * t + entries four ≤ length (now words) ⌝ }
-    ensures { λ r. ⌜ ((area : Area) (M : List ℕ) → isFresh four (now (words .entry)) M t ≡ true
-        → Answers (atTable four (now (words .entry)) area 0 t) M r (set M t 1)) ⌝ }
+    ensures { λ r. ⌜ ((M : List ℕ) → isFresh four (now (words .entry)) M t ≡ true
+        → Answers (atTable four (now (words .entry)) (areaAt base n) 0 t) M r (set M t 1)) ⌝ }
 {
     let end = ENTRIES * (t as usize) + ENTRIES;
     let mut empty: u64 = 0;
@@ -52,7 +62,7 @@ fn pages_check(words: &[u64], t: u32) -> Tally
     let mut left = ENTRIES;
     while 0 < left {
         let w = words[end - left];
-        let page = entry::is_frame(w, 0);
+        let page = is_page(w, base, n);
         empty += (w == 0) as u64;
         pages += page as u64;
         left -= 1;
@@ -89,7 +99,7 @@ fn table_check(words: &[u64], marks: &mut [u8], base: u64, n: u32, t: u32, heigh
     }
     marks[t as usize] = 1;
     if height == 0 {
-        return pages_check(words, t);
+        return pages_check(words, base, n, t);
     }
     let mut tables: u64 = 1;
     let mut mappings: u64 = 0;
@@ -129,9 +139,15 @@ fn entry_check(
     match e {
         Entry::Empty => Tally::Counts(0, 0),
         Entry::Frame {
-            base: _,
+            base: frame,
             attributes: _,
-        } => Tally::Counts(0, 1),
+        } => {
+            let met = path::meets_area(base, n as u64, frame, path::size_at(height));
+            if met {
+                return Tally::Damaged;
+            }
+            Tally::Counts(0, 1)
+        }
         Entry::Table(c) => table_check(words, marks, base, n, c, height - 1),
         Entry::Damaged => Tally::Damaged,
     }
