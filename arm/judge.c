@@ -3,8 +3,9 @@
  * Runs at EL2 on the board (arm/judge). The pool stands at its own physical address and is the machine's stage 2. Seeded histories of
  * calls change it. After each call, and at the end of a history for every live mapping, the machine is asked by AT S12E1R and
  * AT S12E1W what it makes of an address: inside mappings and outside, at their edges, past the space. Its answer, PAR_EL1, has to be
- * what oak_query says: the frame, memory type and shareability, or a fault of the right kind and level. oak_query has to say what a
- * plain list of the accepted maps says, and the audit has to count as many mappings.
+ * what oak_query says: the frame, memory type and shareability, or a fault of the right kind and level; where nothing is mapped, the
+ * level at which the machine's walk stopped is that of the hole. oak_query has to say what a plain list of the accepted maps says, and
+ * the audit has to count as many mappings.
  *
  * AT does not tell whether an instruction may be fetched. So a guest also loads, stores and fetches, under all sixteen attributes.
  * The last line is 'N passed, M failed': each history is one test, and each of the two parts at the end is one. */

@@ -77,7 +77,9 @@ pub fn all(smoke: bool) -> Vec<Case> {
         query("the customer's case: a million addresses anywhere", 3, Where::Anywhere, share(1_000_000)),
     ];
     for levels in [3, 4] {
-        for (place, at) in [("mapped", Where::Mapped), ("in the tables", Where::Tables), ("anywhere", Where::Anywhere)] {
+        let places =
+            [("mapped", Where::Mapped), ("in holes", Where::Holes), ("in the tables", Where::Tables), ("anywhere", Where::Anywhere)];
+        for (place, at) in places {
             cases.push(query(&format!("query, {levels} levels, {place}"), levels, at, share(200_000)));
         }
     }
@@ -111,6 +113,8 @@ fn half_full(levels: u64) -> Vec<(u64, u64)> {
 enum Where {
     /// In a mapping picked at random.
     Mapped,
+    /// In a hole of a page between the mapped ones, or of 2 MiB beside the blocks.
+    Holes,
     /// In the regions of the tables of pages, where half is mapped.
     Tables,
     Anywhere,
@@ -124,6 +128,10 @@ fn query(name: &str, levels: u64, at: Where, calls: usize) -> Case {
             let (address, size) = random.pick(&mappings);
             address + random.below(size)
         }
+        Where::Holes => match random.below(2) {
+            0 => (2 * random.below(page_tables(levels) * 256) + 1) * PAGE + random.below(PAGE),
+            _ => (200 + random.below(64)) * BLOCK_2M + random.below(BLOCK_2M),
+        },
         Where::Tables => random.below(page_tables(levels) * BLOCK_2M),
         Where::Anywhere => random.below(PAGE << (9 * levels)),
     };

@@ -78,8 +78,13 @@ pub unsafe extern "C" fn unmap(
     let (words, list) = (from_raw_parts_mut(words, words_len), from_raw_parts_mut(list, list_len));
     let (setup, result) = plain::unmap(to_plain(&*setup), words, list, address);
     let setup = from_plain(setup);
-    let removed = result.map(|plain::Removed { frame, size, attributes, given }| {
-        Unmapped { setup, frame, size, attributes, given, hole: NO_HOLE }
+    let removed = result.map(|plain::Removed { frame, size, attributes, given }| Unmapped {
+        setup,
+        frame,
+        size,
+        attributes,
+        given,
+        hole: NO_HOLE,
     });
     hand_over(removed, |hole| Unmapped { setup, frame: 0, size: 0, attributes: 0, given: 0, hole }, answer)
 }
@@ -88,12 +93,12 @@ pub unsafe extern "C" fn unmap(
 /// As for `oak_query`.
 #[inline(never)]
 pub unsafe extern "C" fn query(
-    setup: *const Setup, words: *const u64, words_len: usize, list: *const u32, list_len: usize, address: u64,
-    answer: *mut Found,
+    setup: *const Setup, words: *const u64, words_len: usize, list: *const u32, list_len: usize, address: u64, answer: *mut Found,
 ) -> u64 {
     let (words, list) = (from_raw_parts(words, words_len), from_raw_parts(list, list_len));
-    let found = plain::query(to_plain(&*setup), words, list, address)
-        .map(|plain::Found { base, frame, size, attributes }| Found { mapping: Mapping { base, frame, size, attributes }, hole: NO_HOLE });
+    let found = plain::query(to_plain(&*setup), words, list, address).map(|plain::Found { base, frame, size, attributes }| {
+        Found { mapping: Mapping { base, frame, size, attributes }, hole: NO_HOLE }
+    });
     hand_over(found, |hole| Found { mapping: Mapping { base: 0, frame: 0, size: 0, attributes: 0 }, hole }, answer)
 }
 

@@ -101,9 +101,7 @@ fn ask(ledger: &mut Ledger, setup: Setup, call: &Call) -> Answer {
             let result = ledger.unmap(address);
             with_setup(Setup { free: ledger.free(), ..setup }, result.map(|r| [r.frame, r.size, r.attributes, r.given]))
         }
-        Call::Query { address, .. } => {
-            without_setup(ledger.query(address).map(|f| [f.base, f.frame, f.size, f.attributes]))
-        }
+        Call::Query { address, .. } => without_setup(ledger.query(address).map(|f| [f.base, f.frame, f.size, f.attributes])),
         Call::Audit { .. } => {
             let counts = ledger.audit();
             Answer::new(0, &[counts.tables, counts.mappings])

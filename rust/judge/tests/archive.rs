@@ -55,7 +55,11 @@ fn one_more_word_in_use() {
             for word in [0x0040_0000_8000_07FF, 1 << 63] {
                 let address = 4096 * page;
                 let free = Call::Map { setup: setup(3), address, frame: 0x8000_0000, size: 4096, attributes: 3 };
-                let mut steps = vec![Step::Memory { words, places }, call(Call::Format { levels: 3, base: 0x4000_0000, tables: 4 }), call(free)];
+                let mut steps = vec![
+                    Step::Memory { words, places },
+                    call(Call::Format { levels: 3, base: 0x4000_0000, tables: 4 }),
+                    call(free),
+                ];
                 if at < 512 && at as u64 != if table == pages { page } else { 0 } {
                     steps.push(Step::Word { at: table + at, word, damage: None });
                 }
@@ -271,9 +275,7 @@ impl Engine for Safe {
             Call::Map { address, frame, size, attributes, .. } => {
                 (pool.map(address, frame, size, attributes).map(|taken| vec![taken]), 1, true)
             }
-            Call::Unmap { address, .. } => {
-                (pool.unmap(address).map(|r| vec![r.frame, r.size, r.attributes, r.given]), 4, true)
-            }
+            Call::Unmap { address, .. } => (pool.unmap(address).map(|r| vec![r.frame, r.size, r.attributes, r.given]), 4, true),
             Call::Query { address, .. } => (pool.query(address).map(|m| vec![m.base, m.frame, m.size, m.attributes]), 4, false),
             Call::Audit { .. } => (pool.audit().map(|a| vec![a.tables, a.mappings]), 2, false),
         };

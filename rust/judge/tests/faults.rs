@@ -54,7 +54,9 @@ const FAULTS: &[(&str, Fault)] = &[
         Call::Query { .. } => Answer::new(9, &[]),
         _ => right(call, words, list),
     }),
-    ("the hole of the level above", |call, words, list| hole(call, words, list, |address, _, size| (address / (size << 9) * (size << 9), size << 9))),
+    ("the hole of the level above", |call, words, list| {
+        hole(call, words, list, |address, _, size| (address / (size << 9) * (size << 9), size << 9))
+    }),
     ("a hole that is not aligned", |call, words, list| hole(call, words, list, |address, _, size| (address & !4095, size))),
     ("the address as the hole's base", |call, words, list| hole(call, words, list, |address, _, size| (address, size))),
     ("the last level's size for every hole", |call, words, list| hole(call, words, list, |_, base, _| (base, 4096))),

@@ -79,7 +79,10 @@ impl fmt::Display for Refusal {
     fn fmt(&self, f: &mut fmt::Formatter<'_>) -> fmt::Result {
         let sentence = match *self {
             Refusal { hole: Some(Hole { base, size }), number } => {
-                return write!(f, "refusal {number}, unmap, query: the walk ends at an empty entry, in a hole of {size:#x} bytes at {base:#x}");
+                return write!(
+                    f,
+                    "refusal {number}, unmap, query: the walk ends at an empty entry, in a hole of {size:#x} bytes at {base:#x}"
+                );
             }
             Refusal::SETUP => "a setup number or a length breaks the rules",
             Refusal::SIZE => "the size is none of the three",
