@@ -36,8 +36,12 @@ inside-append G area (m ∷ a) b =
 
 pub seen-⊕ : (G : Granule) (area : Area) (F H : Found) → seen G area (F ⊕ H) ≡ seen G area F ⊞ seen G area H
 seen-⊕ G area F H =
-    rw (length-append (F .mappings) (H .mappings), inside-append G area (F .mappings) (H .mappings), in-pairs (F .ok) (H .ok) (F .full) (H .full),
-    in-pairs (noneInside G area (F .mappings)) (noneInside G area (H .mappings)) (F .ok && F .full) (H .ok && H .full))
+    rw (
+      length-append (F .mappings) (H .mappings),
+      inside-append G area (F .mappings) (H .mappings),
+      in-pairs (F .ok) (H .ok) (F .full) (H .full),
+      in-pairs (noneInside G area (F .mappings)) (noneInside G area (H .mappings)) (F .ok && F .full) (H .ok && H .full),
+    )
   where
     in-pairs : (a b c d : Bool) → ((a && b) && (c && d)) ≡ ((a && c) && (b && d))
     in-pairs true true c d = refl

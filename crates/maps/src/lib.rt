@@ -22,14 +22,7 @@ ghost use Rattle.plans.specs.Plan.{planned};
 ghost use Rattle.maps.specs.Parts.{metBy, mapFrom};
 
 // Map's tests 2 to 5 and then 11, or 0, for a size of this height.
-fn map_tests(
-    s: Setup,
-    address: u64,
-    frame: u64,
-    size: u64,
-    height: usize,
-    attributes: u64,
-) -> u64
+fn map_tests(s: Setup, address: u64, frame: u64, size: u64, height: usize, attributes: u64) -> u64
     requires { ⌜ height ≡ heightOf four size ⌝ }
     ensures { λ r. ⌜ r ≡ mapTests four (s .levels) (areaOf s) address frame size attributes ⌝ }
 {
