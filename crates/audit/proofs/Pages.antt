@@ -1,15 +1,16 @@
 -- A table of the last level: each of its words is empty, a page or damaged, and is counted once or, where it is damaged, not at all.
-use Prim.Native.Nat.{ℕ, _+_, _-_, _≤_, _<_}
+use Prim.Native.Nat.{ℕ, _+_, _-_, _*_, _%_, _^_, _≤_, _<_}
 use mathlib.Core.Path.{_≡_, refl, sym, ap, _∙_}
-use mathlib.Core.Bool.{Bool, true, false, _&&_, not}
+use mathlib.Core.Bool.{Bool, true, false, _&&_, not, and-true, and-false}
 use mathlib.Core.List.{List}
 use native.Mathlib.Decide.{decLt}
 use native.Mathlib.Omega.{arith}
 use mir.Val.{boolByte}
-use lib.Dec.{eqb}
-use borrow.Author.Tests.{eqb-true, eqb-false, eq-eqb}
+use lib.Dec.{eqb, ltb}
+use borrow.Author.Tests.{eqb-true, eqb-false, eq-eqb, ltb-true, lt-ltb}
 use Rattle.path.specs.Geometry.{four, entries, sizeAt}
-use Rattle.path.specs.Areas.{Area, meetsArea}
+use Rattle.path.specs.Areas.{Area, areaAt, GoodArea, meetsArea}
+use Rattle.path.specs.Laws.{same-truth, meets-shares, shares-meets}
 use Rattle.entry.specs.Words.{baseIn, attrsIn, frameWord, entryAt}
 use Rattle.entry.specs.Laws.{frame-word-ge, frame-at-own, frame-at-not, entry-zero, entry-frame as frame-reads}
 use Rattle.entry.specs.declared.Entry.the-variants.{Frame, Damaged}
@@ -39,6 +40,26 @@ module _ (area : Area) (w : ℕ) where
 
 empty-no-page : (w : ℕ) → w ≡ 0 → own w ≡ true → ⊥
 empty-no-page w z e = omega (arith, eqb-true w _ e, frame-word-ge (baseIn w) 0 (attrsIn w))
+
+-- how far a page is from the tables, modulo 2^64, tells whether it shares a byte with them
+page-apart : (base n b off : ℕ) → GoodArea four (areaAt base n) → b % 4096 ≡ 0 → b < 2 ^ 48 → off < 2 ^ 64 → (off + base) % 2 ^ 64 ≡ b
+    → ltb off (4096 * n) ≡ meetsArea four (areaAt base n) b 4096
+page-apart base n b off g paged low wide e =
+    same-truth (ltb off (4096 * n)) (meetsArea four (areaAt base n) b 4096)
+    (λ q. let l = ltb-true off (4096 * n) q in
+    shares-meets (record { byte = b; starts = omega arith; ends = omega arith; inside = (omega (arith, g .fits), omega (arith, g .fits)) }))
+    (λ q. let S = meets-shares q in lt-ltb off (4096 * n) (omega (arith, g .aligned, g .fits, S .starts, S .ends, S .inside .0, S .inside .1)))
+
+module _ (w base n : ℕ) {b off : ℕ} (g : GoodArea four (areaAt base n)) (own-base : b ≡ baseIn w) (wide : off < 2 ^ 64) (e : (off + base) % 2 ^ 64 ≡ b) where
+  met : ltb off (4096 * n) ≡ meetsArea four (areaAt base n) (baseIn w) 4096
+  met = page-apart base n (baseIn w) off g (omega arith) (omega arith) wide (e ∙ own-base)
+
+  -- a page in the tables counts for none, and any other word for what it is
+  pub page-inside : ltb off (4096 * n) ≡ true → false ≡ isPage (areaAt base n) w
+  page-inside q = sym (rw (sym met ∙ q) (and-false (own w)))
+
+  pub page-beside : {page : Bool} → page ≡ own w → ltb off (4096 * n) ≡ false → page ≡ isPage (areaAt base n) w
+  page-beside p q = p ∙ sym (rw (sym met ∙ q) (and-true (own w)))
 
 -- ---- the loop over the words
 

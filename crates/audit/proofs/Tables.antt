@@ -286,10 +286,11 @@ module _ (ws : List ℕ) (area : Area) (h t : ℕ) (M : List ℕ) where
       rest : Room (atVisit four ws area t ⊞ all) 0 0 → Room all 1 0
       rest m = record { few = omega (arith, m .few); some-more = omega (arith, m .some-more) }
 
-pub table-entry : {ws : List ℕ} {area : Area} {M N : List ℕ} {n t h a b left : ℕ} → TableFit M n t h → Loop ws area h t (set M t 1) 1 0 N a b left → 0 < left
-    → EntryFit N n h left
+pub table-entry : {ws : List ℕ} {area : Area} {M N : List ℕ} {base n t h a b left : ℕ} → TableFit M base n t h → Loop ws area h t (set M t 1) 1 0 N a b left → 0 < left
+    → EntryFit N base n h left
 table-entry {M = M} {t = t} f k l =
     record {
+      placed = f .placed;
       marked = omega (arith, f .marked, k .carried .long, length-set M t 1);
       low = f .low;
       some-left = l;
@@ -331,8 +332,8 @@ pub met-by-size : (area : Area) (b : ℕ) {s h : ℕ} {m x : Bool} → h < four 
     → meetsArea four area b (sizeAt four h) ≡ x
 met-by-size area b {s} {h} l e q t = ap (meetsArea four area b) (sym (level-some four l (sizeAt four h)) ∙ sym e) ∙ sym q ∙ t
 
-pub entry-fit : {M : List ℕ} {n h left : ℕ} → EntryFit M n h left → (P w c : ℕ) → entryAt four (areaAt P n) h w ≡ Table c
-    → (0 < h) × TableFit M n c (h - 1)
+pub entry-fit : {M : List ℕ} {base n h left : ℕ} → EntryFit M base n h left → (P w c : ℕ) → entryAt four (areaAt P n) h w ≡ Table c
+    → (0 < h) × TableFit M base n c (h - 1)
 entry-fit {n = n} f P w c q =
     let (a, b, d, _) = table-only four-sane (areaAt P n) _ w q in
-    (a, record { marked = f .marked; inside = d; low = omega (arith, f .low) })
+    (a, record { placed = f .placed; marked = f .marked; inside = d; low = omega (arith, f .low) })

@@ -124,9 +124,10 @@ module _ (p : Pool) (g : goodPool four p ≡ true) where
   abbrev all : Seen
   all = atTable four (p .words) (areaOf (p .numbers)) (p .numbers .levels - 1) 0
 
-  pub root-fit : TableFit (blank mostTables) (p .numbers .tables) 0 (p .numbers .levels - 1)
+  pub root-fit : TableFit (blank mostTables) (p .numbers .base) (p .numbers .tables) 0 (p .numbers .levels - 1)
   root-fit =
       record {
+        placed = N .numbers .placed;
         marked = rw (length-replicate {A = ℕ} mostTables 0) (N .numbers .few);
         inside = N .numbers .some-table;
         low = omega (arith, N .numbers .not-more, N .numbers .enough);

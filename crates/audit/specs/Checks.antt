@@ -7,7 +7,7 @@ use lib.Dec.{ltb, eqb}
 use lib.ListN.{length, getD, set}
 use Rattle.laws.specs.Lists.{allZero}
 use Rattle.path.specs.Geometry.{Granule, four, entries}
-use Rattle.path.specs.Areas.{Area, meetsArea}
+use Rattle.path.specs.Areas.{Area, areaAt, GoodArea, meetsArea}
 use Rattle.entry.specs.Words.{baseIn, attrsIn, frameWord, entryAt}
 use Rattle.model.specs.Audit.{Found, nothing, tableWords, ofEntry, ofTable, noneInside}
 use Rattle.model.specs.Sound.{wordAt}
@@ -72,14 +72,16 @@ freePass G ws n M [] = true
 freePass G ws n M (t ∷ ts) =
     ltb t n && (eqb (getD M t 0) 0 && (allZero (tableWords G ws t) && freePass G ws n (set M t 1) ts))
 
--- what a check of table t asks: a mark for each table of the pool, one of those, and the height of some level
-pub record TableFit (M : List ℕ) (n t h : ℕ) : Type 0 where
+-- what a check of table t asks: tables in their places, a mark for each table of the pool, one of those, and the height of some level
+pub record TableFit (M : List ℕ) (base n t h : ℕ) : Type 0 where
+  pub placed : GoodArea four (areaAt base n)
   pub marked : n ≤ length M
   pub inside : t < n
   pub low : h < four .most
 
 -- what a check of an entry asks: the same, and that entries are left
-pub record EntryFit (M : List ℕ) (n h left : ℕ) : Type 0 where
+pub record EntryFit (M : List ℕ) (base n h left : ℕ) : Type 0 where
+  pub placed : GoodArea four (areaAt base n)
   pub marked : n ≤ length M
   pub low : h < four .most
   pub some-left : 0 < left

@@ -8,7 +8,7 @@ ghost use mathlib.Core.List.{List};
 ghost use Prim.Native.Nat.{ℕ, _≤_, _<_, _+_, _-_, _*_};
 ghost use lib.ListN.{length, take, set};
 ghost use Rattle.path.specs.Geometry.{four, entries};
-ghost use Rattle.path.specs.Areas.{areaAt};
+ghost use Rattle.path.specs.Areas.{areaAt, GoodArea};
 ghost use Rattle.model.specs.Answers.{saysAudit, pool};
 ghost use Rattle.model.specs.Audit.{auditW};
 ghost use Rattle.model.specs.Sound.{wordAt};
@@ -39,20 +39,25 @@ fn is_fresh(words: &[u64], marks: &[u8], t: u32) -> bool
     !pool::is_table_empty(words, t)
 }
 
-// Whether a word is that of a page which shares no byte with the tables.
+// Whether a word is that of a page which shares no byte with the tables. Pages and tables stand at multiples of one size, so that one difference tells,
+// which wraps for a page below them.
 fn is_page(w: u64, base: u64, n: u32) -> bool
+    requires { ⌜ GoodArea four (areaAt base n) ⌝ }
     ensures { λ r. ⌜ r ≡ isPage (areaAt base n) w ⌝ }
 {
-    if !entry::is_frame(w, 0) {
+    let page = entry::is_frame(w, 0);
+    let off = std::num::wrapping_sub_u64(entry::base_in(w), base);
+    let inside = off < path::PAGE * (n as u64);
+    if inside {
         return false;
     }
-    !path::meets_area(base, n as u64, entry::base_in(w), path::PAGE)
+    page
 }
 
 // Checks table t of the last level, which is fresh. A word that is damaged is neither empty nor a page, and the loop goes on: it has no branch, so that it
 // is done on several words at once.
 fn pages_check(words: &[u64], base: u64, n: u32, t: u32) -> Tally
-    requires { ⌜ entries four * t + entries four ≤ length (now words) ⌝ }
+    requires { ⌜ (entries four * t + entries four ≤ length (now words)) × GoodArea four (areaAt base n) ⌝ }
     ensures { λ r. ⌜ ((M : List ℕ) → isFresh four (now (words .entry)) M t ≡ true
         → Answers (atTable four (now (words .entry)) (areaAt base n) 0 t) M r (set M t 1)) ⌝ }
 {
@@ -91,7 +96,7 @@ fn skip_empty(words: &[u64], t: u32, left: usize) -> usize
 
 // Checks table t, whose entries have this height, and all below it, and marks the tables come to.
 fn table_check(words: &[u64], marks: &mut [u8], base: u64, n: u32, t: u32, height: usize) -> Tally
-    requires { ⌜ TableFit (now marks) n t height × (entries four * n ≤ length (now words)) ⌝ }
+    requires { ⌜ TableFit (now marks) base n t height × (entries four * n ≤ length (now words)) ⌝ }
     ensures { λ r. ⌜ Answers (atTable four (now (words .entry)) (areaAt base n) height t) (now (marks .entry)) r (now (marks .exit)) ⌝ }
 {
     if !is_fresh(words, marks, t) {
@@ -130,7 +135,7 @@ fn entry_check(
     height: usize,
     left: usize,
 ) -> Tally
-    requires { ⌜ EntryFit (now marks) n height left × (entries four * n ≤ length (now words)) ⌝ }
+    requires { ⌜ EntryFit (now marks) base n height left × (entries four * n ≤ length (now words)) ⌝ }
     ensures { λ r. ⌜ Answers (atEntry four (now (words .entry)) (areaAt base n) height t (entries four - left))
         (now (marks .entry)) r (now (marks .exit)) ⌝ }
 {

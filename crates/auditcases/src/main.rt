@@ -134,8 +134,8 @@ fn with_frame(name: &[u8], i: usize, base: u64, size: u64, words: &mut Words, li
     with_word(name, 1, i, entry::frame_word(base, size, 3), words, list);
 }
 
-// Frames in the pool or around it, and some beside it.
-fn frames_at_the_pool(words: &mut Words, list: &mut List) {
+// Pages in the pool, and beside it.
+fn pages_at_the_pool(words: &mut Words, list: &mut List) {
     with_frame(
         b"page of the root",
         SECOND + 1,
@@ -168,6 +168,10 @@ fn frames_at_the_pool(words: &mut Words, list: &mut List) {
         words,
         list,
     );
+}
+
+// Blocks around the pool, and beside it.
+fn blocks_at_the_pool(words: &mut Words, list: &mut List) {
     with_frame(
         b"2 MiB around the pool",
         FIRST + 2,
@@ -222,7 +226,8 @@ fn main() {
     sound(&mut words, &mut list);
     bad_numbers(&mut words, &mut list);
     bad_entries(&mut words, &mut list);
-    frames_at_the_pool(&mut words, &mut list);
+    pages_at_the_pool(&mut words, &mut list);
+    blocks_at_the_pool(&mut words, &mut list);
     bad_tables(&mut words, &mut list);
     bad_list(&mut words, &mut list);
 }

@@ -163,7 +163,8 @@ table-check-slice-write-marks : (t : ℕ) → table-check-lts.Need-slice-write-m
 table-check-slice-write-marks t c = search needs
 
 table-check-pages-check-requires : (t : ℕ) → table-check-lts.Need-pages-check-requires (table-claims t) (table-check-at t) table-check.Post table-check-Inv-loop table-check-μ-loop
-table-check-pages-check-requires t c κs = omega (arith, c .before .before .before .before .before .before .pre .1 .1, c .before .before .before .before .before .before .pre .1 .0 .inside)
+table-check-pages-check-requires t c κs =
+    (omega (arith, c .before .before .before .before .before .before .pre .1 .1, c .before .before .before .before .before .before .pre .1 .0 .inside), c .before .before .before .before .before .before .pre .1 .0 .placed)
 
 table-check-same-length-2 : (t : ℕ) → table-check-lts.Need-same-length-2 (table-claims t) (table-check-at t) table-check.Post table-check-Inv-loop table-check-μ-loop
 table-check-same-length-2 t c = simp length-set

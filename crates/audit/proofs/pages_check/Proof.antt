@@ -36,7 +36,7 @@ shared-slice-read-w : tie.Need-shared-slice-read-w Inv-loop μ-loop
 shared-slice-read-w c = search needs
 
 is-page-requires : tie.Need-is-page-requires Inv-loop μ-loop
-is-page-requires c κs = search needs
+is-page-requires c κs = c .before .before .before .before .pre .1
 
 loop-again : tie.Need-loop-again Inv-loop μ-loop
 loop-again c =
