@@ -326,10 +326,11 @@ fn audit_table(setup: &Setup, words: &[u64], table: usize, left: u64, seen: &mut
 /// multiples of one size: one difference, which wraps for a page below them, tells whether it is one of them.
 fn audit_pages(setup: &Setup, entries: &[u64]) -> Result<u64, Refusal> {
     let (mut in_use, mut frames) = (0, 0);
-    let pool = PAGE * setup.tables;
+    let (base, pool) = (setup.base, PAGE * setup.tables);
     for &word in entries {
         in_use += u64::from(word != 0);
-        frames += u64::from(read_frame(word, PAGE).is_some_and(|page| page.base.wrapping_sub(setup.base) >= pool));
+        let outside = u64::from((word & (LIMIT - PAGE)).wrapping_sub(base) >= pool);
+        frames += u64::from(read_frame(word, PAGE).is_some()) & outside;
     }
     refuse_if(in_use == 0 || frames != in_use, Refusal::Damaged)?;
     Ok(frames)
