@@ -147,7 +147,7 @@ module _ (G : Granule) where
             at true e = clash (cc)
             at false e = clash (cc)
 
-    -- a region that is held by a larger one around the address, and holds a mapping, has the larger one touched
+    -- where a region around the address holds a mapping, every larger one is touched
     touched-above : {i j : ℕ} → i ≤ j → (q : Region) → Around G (A .levels) a i q → HoldsOne L q → Touched L (here a j)
     touched-above {i} {j} l q Q (m, k, x, y) = (m, k, share (around-one Q))
       where

@@ -23,8 +23,8 @@ Touched L r = (m : Mapping) × List·Memᴰ m L × Shares (r .first) (r .size) m
 abbrev pub HoldsOne : List Mapping → Region → Type 0
 HoldsOne L r = (m : Mapping) × List·Memᴰ m L × (r .first ≤ m .at) × (m .at + m .size ≤ r .first + r .size)
 
--- the region of an entry of height h, of a tree of so many levels, that holds an address: the root's entries have height levels - 1. With more than
--- h + 1 levels it is that of a table below the root, one of height h - 1
+-- r is the region of an entry of height h that holds an address, in a tree of so many levels; the root's entries have height levels - 1. From height 1 up
+-- it is a table region: what a table below the root stands for
 pub record Around (G : Granule) (levels a h : ℕ) (r : Region) : Type 0 where
   pub low : h < levels
   pub sized : r .size ≡ sizeAt G h
