@@ -273,6 +273,8 @@ static void all_accesses(uint64_t levels) {
     access_wrong += oak_format(levels, (uint64_t)pool, 8, pool, 512 * 8, list, 8, &setup) != 0;
     access_wrong += oak_map(&setup, LENT, 0, (uint64_t)load_stub, OAK_4_KIB, OAK_READ | OAK_EXECUTE, &mapped) != 0;
     setup = mapped.setup;
+    /* a guest is never given its own tables */
+    access_wrong += oak_map(&setup, LENT, OAK_4_KIB, (uint64_t)pool, OAK_4_KIB, OAK_READ, &mapped) != OAK_REFUSED_POOL;
     stage2_on(levels, (uint64_t)pool);
     WRITE_REGISTER(vbar_el1, NO_VECTORS);
     for (uint64_t i = 0; i < 3; i++)

@@ -67,6 +67,10 @@ static uint64_t some_address(uint64_t size) {
 static uint64_t some_frame(uint64_t size) {
     if (once_in(32)) return anything();
     if (once_in(16)) return LIMIT - size;
+    if (once_in(12) && size != 0) {
+        uint64_t near = setup.base + 4096 * below(setup.tables + 1) - (once_in(3) ? size : 0);
+        return near - near % size;
+    }
     return size != 0 && size < LIMIT ? below(LIMIT / size) * size : below(LIMIT);
 }
 
@@ -74,7 +78,7 @@ static uint64_t some_frame(uint64_t size) {
 
 static unsigned history, call;
 static uint64_t hash;
-static unsigned long given[7][12]; /* how often a function gave a refusal; 0 counts what is none, 11 what should not be */
+static unsigned long given[7][13]; /* how often a function gave a refusal; 0 counts what is none, 12 what should not be */
 
 static void add(uint64_t number) {
     hash = (hash ^ number) * UINT64_C(0x9FB21C651E98DF25);
@@ -90,7 +94,7 @@ static void add_memory(uint64_t tables) {
 static void answered(unsigned function, const char *name, uint64_t refusal, const void *answer, size_t count) {
     uint64_t numbers[10];
     memcpy(numbers, answer, 8 * count);
-    given[function][refusal < 12 ? refusal : function > 4 ? 0 : 11]++;
+    given[function][refusal < 12 ? refusal : function > 4 ? 0 : 12]++;
     add(refusal);
     for (size_t i = 0; i < count; i++) add(numbers[i]);
     if (call % SHOW != 0) return;
@@ -231,7 +235,7 @@ static void one_history(void) {
 static const struct {
     const char *name;
     unsigned can;
-} functions[7] = {{"format", 0x003}, {"map", 0x1FF},        {"unmap", 0x733},       {"query", 0x313},
+} functions[7] = {{"format", 0x003}, {"map", 0x9FF},        {"unmap", 0x733},       {"query", 0x313},
                   {"audit", 0x103},  {"frame_word", 0x03D}, {"word_meaning", 0x105}};
 
 int main(void) {
@@ -240,7 +244,7 @@ int main(void) {
     printf("answers:");
     for (unsigned f = 0; f < 7; f++) {
         printf("%s %s", f == 0 ? "" : ";", functions[f].name);
-        for (unsigned r = 0; r < 12; r++) {
+        for (unsigned r = 0; r < 13; r++) {
             if (given[f][r] != 0) printf(" %u:%lu", r, given[f][r]);
             if ((given[f][r] != 0) != (functions[f].can >> r & 1)) all = false;
         }

@@ -68,6 +68,11 @@ static inline bool is_frame(uint64_t word, unsigned left) {
 
 static inline uint64_t base_in(uint64_t word) { return word & (LIMIT - PAGE); }
 
+/* whether a frame that ends at LIMIT or below shares a byte with the tables of a good pool */
+static inline bool in_pool(const oak_setup *s, uint64_t base, uint64_t size) {
+    return base < s->base + PAGE * s->tables && s->base < base + size;
+}
+
 static inline uint64_t attributes_in(uint64_t word) { return (word >> 6 & 3) | (~word >> 52 & 4) | (~word >> 5 & 8); }
 
 /* The table that a word names, or a number that no pool has. Numbers that are no multiple of a page turn into huge ones. */
@@ -184,6 +189,8 @@ uint64_t plain_map(const oak_setup *s, uint64_t *words, size_t words_len, const 
         return refuse_map(s, OAK_REFUSED_END, answer);
     if ((address | frame) & (size - 1))
         return refuse_map(s, OAK_REFUSED_BASE, answer);
+    if (in_pool(s, frame, size))
+        return refuse_map(s, OAK_REFUSED_POOL, answer);
 
     way w;
     ending e = walk(s, words, address, target, &w);
@@ -315,12 +322,12 @@ typedef struct {
     bool seen[MAX_TABLES];
 } audit;
 
-/* Audits a table of pages: no branch in the loop. */
+/* Audits a table of pages: no branch in the loop. A page is one of the tables where it is less than their bytes past their base. */
 static bool audit_pages(audit *a, const uint64_t *table) {
-    uint64_t in_use = 0, frames = 0;
+    uint64_t in_use = 0, frames = 0, base = a->s->base, pool = PAGE * a->s->tables;
     for (size_t i = 0; i < ENTRIES; i++) {
         in_use += table[i] != 0;
-        frames += is_frame(table[i], 1);
+        frames += is_frame(table[i], 1) & (base_in(table[i]) - base >= pool);
     }
     a->mappings += frames;
     return in_use && frames == in_use;
@@ -344,7 +351,7 @@ static bool audit_table(audit *a, size_t table, unsigned left) {
         if (is_child(a->s, child)) {
             if (!audit_table(a, child, left - 1))
                 return false;
-        } else if (is_frame(t[i], left)) {
+        } else if (is_frame(t[i], left) && !in_pool(a->s, base_in(t[i]), UINT64_C(1) << shift_of(left))) {
             a->mappings++;
         } else {
             return false;

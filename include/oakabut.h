@@ -48,6 +48,7 @@ extern "C" {
 #define OAK_REFUSED_DAMAGED UINT64_C(8)    /* the pool is damaged, or the word is no frame's at the size */
 #define OAK_REFUSED_EMPTY UINT64_C(9)      /* nothing is mapped there */
 #define OAK_REFUSED_INSIDE UINT64_C(10)    /* the mapping there starts at another address */
+#define OAK_REFUSED_POOL UINT64_C(11)      /* the frame shares a byte with the pool's tables */
 
 /* ---- the entry words, in plain numbers: no memory is read or written
  *
@@ -136,6 +137,8 @@ uint64_t oak_format(uint64_t levels, uint64_t base, uint64_t tables, uint64_t *w
  *   OAK_REFUSED_ATTRIBUTES  attributes is above 15
  *   OAK_REFUSED_END         address + size is above the space, or frame + size above 2^48
  *   OAK_REFUSED_BASE        address or frame is not a multiple of size
+ *   OAK_REFUSED_POOL        the frame shares a byte with the tables, base to base + 4096 * tables of the setup; a frame that ends at
+ *                           the one or starts at the other is fine
  *   OAK_REFUSED_MAPPED or OAK_REFUSED_DAMAGED, whichever the walk from the root finds first: it meets a frame, or the entry it comes
  *                           to is a table or a frame; it meets a damaged word, or comes to the same table twice
  *   OAK_REFUSED_TABLES      the mapping needs more tables than are free
@@ -167,8 +170,8 @@ uint64_t oak_unmap(const oak_setup *s, uint64_t *words, size_t words_len, uint32
 uint64_t oak_query(const oak_setup *s, const uint64_t *words, size_t words_len, const uint32_t *list, size_t list_len, uint64_t address,
                    oak_found *answer);
 
-/* Whether the pool keeps every rule: no damaged word, no table reached twice, none empty but the root, the free numbers distinct, 1 to
- * tables - 1 and not reached, the free tables all zero, and every table free or reached.
+/* Whether the pool keeps every rule: no damaged word, no frame that shares a byte with the tables, no table reached twice, none empty
+ * but the root, the free numbers distinct, 1 to tables - 1 and not reached, the free tables all zero, and every table free or reached.
  *
  * Answers the counts, or the first of these that applies:
  *   OAK_REFUSED_SETUP    a setup number breaks its rule, words_len is not 512 * tables, or list_len is not tables

@@ -230,6 +230,8 @@ static void more_cases(void) {
     audit_is(4, 1, 0);
     map_refused(UINT64_C(1) << 39, FRAME, OAK_1_GIB, 3, 7);
     fresh(3, LIMIT - 512 * 4096, 512);
+    map_refused(0x40000000, UINT64_C(0xFFFFC0000000), OAK_1_GIB, 7, 11);
+    fresh(3, POOL, 512);
     writes(1, UINT64_C(0x0000FFFFC0000000) + 1 + 0x7FC);
     map_is(0x40000000, UINT64_C(0xFFFFC0000000), OAK_1_GIB, 7, 0, 0);
     query_is(0x7FFFFFFF, 0x40000000, UINT64_C(0xFFFFC0000000), OAK_1_GIB, 7);
@@ -244,6 +246,40 @@ static void more_cases(void) {
     writes(0, 0x40001003);
     writes(512, FRAME + 1 + 0x7FC);
     map_is(0, FRAME, OAK_2_MIB, 7, 0, 1);
+}
+
+/* ---- frames at the pool: refusal 11, half open */
+
+static void never_the_pool(void) {
+    static const uint64_t inside[][2] = {{POOL, 4096}, {POOL + 0x3000, 4096}, {POOL, OAK_2_MIB}, {POOL, OAK_1_GIB}};
+    three_mappings();
+    for (size_t i = 0; i < COUNT(inside); i++) {
+        map_refused(0x3000 - 0x3000 % inside[i][1], inside[i][0], inside[i][1], 3, OAK_REFUSED_POOL);
+        map_refused(1, inside[i][0], inside[i][1], 3, 5);
+    }
+    map_refused(0x3000, POOL + 1, 4096, 3, 5);
+    map_refused(0x40000000, POOL, 4096, 3, 11);
+    writes(1026, UINT64_C(0x00400000400047FF));
+    map_is(0x2000, POOL + 0x4000, 4096, 3, 0, 0);
+    writes(1027, UINT64_C(0x004000003FFFF7FF));
+    map_is(0x3000, POOL - 4096, 4096, 3, 0, 0);
+    writes(514, UINT64_C(0x004000003FE007FD));
+    map_is(0x400000, POOL - OAK_2_MIB, OAK_2_MIB, 3, 0, 0);
+    audit_is(3, 6, 0);
+    /* a pool that has such a frame: the audit alone minds */
+    damage(1028, UINT64_C(0x00400000400017FF));
+    audit_refused(8);
+    query_is(0x4ABC, 0x4000, POOL + 0x1000, 4096, 3);
+    map_refused(0x4000, FRAME, 4096, 3, 6);
+    writes(1028, 0);
+    unmap_is(0x4000, POOL + 0x1000, 4096, 3, 0);
+    audit_is(3, 6, 0);
+    damage(7, POOL + 1 + 0x7FC);
+    audit_refused(8);
+    query_is(UINT64_C(0x1FFFFFFFF), UINT64_C(0x1C0000000), POOL, OAK_1_GIB, 7);
+    writes(7, 0);
+    unmap_is(UINT64_C(0x1C0000000), POOL, OAK_1_GIB, 7, 0);
+    audit_is(3, 6, 0);
 }
 
 /* ---- the places of setup and answers: every number is another one, and is looked for where the struct has it */
@@ -548,6 +584,7 @@ static void audit_refusals(void) {
 int main(void) {
     the_cases();
     more_cases();
+    never_the_pool();
     layout();
     bad_setups();
     bad_lengths();

@@ -1,11 +1,12 @@
 """Prints the lines of the program `auditcases`, by the model of the paper (paper.py).     audits.py"""
 from paper import *
-BASE, FRAME, PAGE, MIB2 = 0x40000000, 0x80000000, 4096, 2 ** 21
+BASE, FRAME, PAGE, MIB2, GIB = 0x40000000, 0x80000000, 4096, 2 ** 21, 2 ** 30
 ROOT, FIRST, SECOND, THIRD = (512 * t for t in range(4))
 
 
 def link(c): return BASE + 4096 * c + 3
-def frame(size): return FRAME + (3 if size == PAGE else 1) + ATTRS[3]
+def framed(base, size): return base + (3 if size == PAGE else 1) + ATTRS[3]
+def frame(size): return framed(FRAME, size)
 
 
 ONE = {}
@@ -33,6 +34,13 @@ says('no such word', 3, 1, {**THREE, SECOND + 1: 5})
 says('not aligned', 3, 1, {**THREE, FIRST + 2: frame(MIB2) + PAGE})
 says('below the last level', 3, 1, {**THREE, SECOND + 1: link(3)})
 says('past the pool', 3, 1, {**THREE, FIRST + 2: link(4)})
+says('page of the root', 3, 1, {**THREE, SECOND + 1: framed(BASE, PAGE)})
+says('page of the last table', 3, 1, {**THREE, SECOND + 1: framed(BASE + 3 * PAGE, PAGE)})
+says('page past the pool', 3, 1, {**THREE, SECOND + 1: framed(BASE + 4 * PAGE, PAGE)})
+says('page before the pool', 3, 1, {**THREE, SECOND + 1: framed(BASE - PAGE, PAGE)})
+says('2 MiB around the pool', 3, 1, {**THREE, FIRST + 2: framed(BASE, MIB2)})
+says('2 MiB before the pool', 3, 1, {**THREE, FIRST + 2: framed(BASE - MIB2, MIB2)})
+says('1 GiB around the pool', 3, 1, {**THREE, ROOT + 1: framed(BASE, GIB)})
 says('reached twice', 3, 0, {**THREE, FIRST + 2: link(2)})
 says('names itself', 3, 1, {**THREE, FIRST: link(1)})
 says('empty table', 3, 1, {**THREE, SECOND: 0})

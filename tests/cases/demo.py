@@ -4,7 +4,7 @@ from paper import *
 out = []
 W, L = [0] * 2048, [0] * 4
 NAMES = {4096: 'a page of 4 KiB', 2 ** 21: 'a frame of 2 MiB', 2 ** 30: 'a frame of 1 GiB'}
-WHY = {7: ': too few tables are free', 10: ': no mapping starts there'}
+WHY = {7: ': too few tables are free', 10: ': no mapping starts there', 11: ': the frame shares a byte with the pool'}
 rights = lambda a: ', rights ' + ''.join(n if a & b else '-' for b, n in ((1, 'r'), (2, 'w'), (4, 'x')))
 
 
@@ -74,6 +74,8 @@ say('\nOr 2 MiB, which need one table and find it.')
 s = mp(s, 0x40000000, 0x80400000, 2 ** 21, 3)
 say('\nNothing is rounded: an unmap in the middle of the 2 MiB is refused.')
 s = un(s, 0x40001000)
+say('\nNo guest is given its own tables: the page of table 1 is refused.')
+s = mp(s, 0x2000, 0x40001000, 4096, 3)
 say('\nThe scan guest gives up all that it has, and every table comes back.')
 s = un(s, 0x40000000)
 s = un(s, 0x200000)

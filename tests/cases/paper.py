@@ -1,5 +1,5 @@
-"""Document 01 with the requests of document 02, written out as a model over plain lists. Independent of the Rattle code: only the papers' text
-was used."""
+"""Document 01 with the requests that have landed, written out as a model over plain lists. Independent of the Rattle code: only the papers'
+text was used."""
 LIMIT = 2 ** 48
 SIZES = {4096: 0, 2 ** 21: 1, 2 ** 30: 2}          # size -> height of the entry (0: last level)
 SIZE = {h: s for s, h in SIZES.items()}
@@ -29,6 +29,11 @@ class Setup:
     def __init__(s, levels, base, tables, free): s.levels, s.base, s.tables, s.free = levels, base, tables, free
     def bad(s, words, places): return bad_numbers(s.levels, s.base, s.tables, words, places) or s.free > s.tables - 1
     def key(s): return (s.levels, s.base, s.tables, s.free)
+
+
+def in_pool(s, frame, size):
+    """Refusal 11: the frame shares a byte with P to P + 4096 x n."""
+    return len(range(max(frame, s.base), min(frame + size, s.base + 4096 * s.tables))) > 0
 
 
 def read(s, w, h):
@@ -79,6 +84,7 @@ def map_(s, words, places, address, frame, size, attributes):
     space = SPACE[s.levels]
     if address >= space or address + size > space or frame + size > LIMIT: return ('refused', 4), s
     if address % size or frame % size: return ('refused', 5), s
+    if in_pool(s, frame, size): return ('refused', 11), s
     target = SIZES[size]
     met, h, e = walk(s, words, address, target)
     if e[0] == 'damaged': return ('refused', 8), s
@@ -144,6 +150,7 @@ def audit_(s, words, places):
         for w in part:
             e = read(s, w, h)
             if e[0] == 'damaged': raise Unsound
+            if e[0] == 'frame' and in_pool(s, e[1], SIZE[h]): raise Unsound
             if e[0] == 'frame': mappings += 1
             if e[0] == 'table': table(e[1], h - 1)
     try:

@@ -95,6 +95,13 @@ fn paths() {
         for (levels, size) in [(2, 1), (3, 1), (4, 1), (5, 1), (3, PAGE), (4, GIB), (3, 1 << 39), (4, TOP), (3, TOP), (4, u64::MAX)] {
             ask!(path::in_space, levels, n, size);
         }
+        for (base, tables) in [(BASE, 0), (BASE, 1), (BASE, 64), (0, 2), (TOP - PAGE, 1), (u64::MAX - 4095, 9), (GIB + PAGE, u64::MAX)] {
+            for size in [0, PAGE, MIB2, GIB, u64::MAX] {
+                for frame in [n, base.wrapping_sub(size), base.wrapping_sub(1), base, base.wrapping_add(PAGE.wrapping_mul(tables))] {
+                    ask!(path::meets_area, base, tables, frame, size);
+                }
+            }
+        }
         ask!(path::size_at, n as usize);
         ask!(path::height_of, n);
         ask!(path::path_of, n);
@@ -162,6 +169,7 @@ fn entries() {
         }
         for height in [0, 1, 2, 3, 4] {
             ask!(entry::is_frame, w, height);
+            ask!(entry::base_in, w);
             ask!(entry::frame_at, w, height);
             for (base, tables) in [(BASE, 1), (BASE, 3), (BASE, 64), (0, 2), (TOP - PAGE, 4), (u64::MAX, u32::MAX)] {
                 ask!(entry::read_word, w, height, base, tables);
@@ -332,7 +340,10 @@ impl Lent {
         let address = (top + index[1] * GIB + index[2] * MIB2 + index[3] * PAGE) / size * size;
         let frame = GIB * (2 + height as u64) + random.below(7) * size;
         let attributes = random.below(16);
-        match random.below(12) {
+        let [_, base, tables, _] = self.setup;
+        let pool = [base.wrapping_sub(size), base, base.wrapping_add(PAGE), base.wrapping_add(PAGE.wrapping_mul(tables))];
+        match random.below(14) {
+            5 | 6 => self.map(address + random.of(&[0, 0, 0, 1]), random.of(&pool) / size * size, size, attributes),
             0 => self.map(address + random.of(&[1, PAGE]), frame, size, attributes),
             1 => self.map(address, frame + random.of(&[1, PAGE, TOP]), size, attributes),
             2 => self.map(address, frame, random.of(&[0, 1, 512, 8192, 1 << 39]), random.of(&[0, 3, 15, 16, 4096])),
@@ -361,7 +372,7 @@ fn history(levels: u64, base: u64, tables: u64, seed: u64, steps: u64) {
             lent.audit();
         }
         if step % 4 == 3 {
-            for kind in 0..9 {
+            for kind in 0..10 {
                 let mut copy = lent.clone();
                 copy.name = format!("{} damaged {kind}", lent.name);
                 damage(&mut copy, kind, &mut random);
@@ -420,6 +431,13 @@ fn damage(lent: &mut Lent, kind: u64, random: &mut Random) {
         }
         // more tables are free than are
         7 => lent.setup[3] = random.of(&[tables - 1, free + 1, free.wrapping_sub(1)]),
+        // a frame at the pool, or just past it
+        9 => {
+            let frames: Vec<usize> = used.iter().copied().filter(|&i| lent.words[i] >> 10 & 1 == 1).collect();
+            let size = random.of(&[PAGE, PAGE, MIB2, GIB]);
+            let at = any(random, &frames);
+            lent.words[at] = lent.words[at] & !(TOP - PAGE) | (base + PAGE * random.below(tables + 1)) / size * size;
+        }
         // other setup numbers and lengths
         _ => match random.below(6) {
             0 => lent.setup[0] = random.of(&[0, 1, 2, 3, 4, 5, u64::MAX]),
@@ -444,6 +462,7 @@ fn histories() {
         }
         history(levels, BASE, 64, 1, 60);
         full(levels);
+        rounds(levels);
     }
 }
 
@@ -451,13 +470,27 @@ fn histories() {
 fn full(levels: u64) {
     let mut lent = Lent::format(&format!("full {levels}"), levels, BASE, 64, 64);
     for i in 0..70 {
-        lent.map(i * MIB2, GIB + i * PAGE, PAGE, i % 16);
+        lent.map(i * MIB2, 2 * GIB + i * PAGE, PAGE, i % 16);
     }
     lent.audit();
     for i in 0..70 {
         lent.unmap(i * MIB2);
     }
     lent.audit();
+}
+
+// Tables that name each other, or themselves.
+fn rounds(levels: u64) {
+    for (first, second, third) in [(1, 2, 1), (1, 2, 2), (1, 1, 2), (2, 3, 2)] {
+        let mut lent = Lent::format(&format!("round {levels}/{first}{second}{third}"), levels, BASE, 4, 4);
+        lent.words[0] = BASE + PAGE * first + 3;
+        lent.words[512 * first as usize] = BASE + PAGE * second + 3;
+        lent.words[512 * second as usize] = BASE + PAGE * third + 3;
+        lent.asked(0);
+        lent.audit();
+        lent.map(0, 2 * GIB, PAGE, 3);
+        lent.unmap(0);
+    }
 }
 
 fn main() {

@@ -1,12 +1,15 @@
 -- A check of parts of the tree, one after the other.
 use Prim.Native.Nat.{ℕ, _+_, _-_, _^_, _<_}
 use mathlib.Core.Path.{_≡_, refl, sym, ap, ap₂, _∙_}
-use mathlib.Core.Bool.{Bool, true, false, cond, _&&_}
+use mathlib.Core.Bool.{Bool, true, false, cond, _&&_, not, and-assoc}
 use mathlib.Core.List.{List, [], _∷_, _++_}
 use native.Mathlib.Omega.{arith}
 use lib.Dec.{eqb}
 use lib.ListN.{length, getD, set, length-append}
-use Rattle.model.specs.Audit.{Found, _⊕_}
+use Rattle.path.specs.Geometry.{Granule}
+use Rattle.path.specs.Areas.{Area, meetsArea}
+use Rattle.model.specs.Answers.{Mapping}
+use Rattle.model.specs.Audit.{Found, _⊕_, noneInside}
 use Rattle.audit.specs.Checks.{Seen, seen, Marked, clash, marks, mark, walked, Ends, Answers}
 use Rattle.audit.specs.declared.Tally.{Tally}
 use Rattle.audit.specs.declared.Tally.the-variants.{Counts, Damaged}
@@ -23,8 +26,22 @@ unseen = record { ok = true; reached = []; count = 0 }
 pub unseen-⊞ : (F : Seen) → unseen ⊞ F ≡ F
 unseen-⊞ F = let z : 0 + F .count ≡ F .count = omega arith in rw z
 
-pub seen-⊕ : (F G : Found) → seen (F ⊕ G) ≡ seen F ⊞ seen G
-seen-⊕ F G = rw (length-append (F .mappings) (G .mappings), in-pairs (F .ok) (G .ok) (F .full) (G .full))
+-- no frame of two lists
+inside-append : (G : Granule) (area : Area) (a b : List Mapping) → noneInside G area (a ++ b) ≡ (noneInside G area a && noneInside G area b)
+unfolding noneInside
+inside-append G area [] b = refl
+inside-append G area (m ∷ a) b =
+    ap (λ (x : Bool). not (meetsArea G area (m .frame) (m .size)) && x) (inside-append G area a b)
+    ∙ sym (and-assoc (not (meetsArea G area (m .frame) (m .size))) (noneInside G area a) (noneInside G area b))
+
+pub seen-⊕ : (G : Granule) (area : Area) (F H : Found) → seen G area (F ⊕ H) ≡ seen G area F ⊞ seen G area H
+seen-⊕ G area F H =
+    rw (
+      length-append (F .mappings) (H .mappings),
+      inside-append G area (F .mappings) (H .mappings),
+      in-pairs (F .ok) (H .ok) (F .full) (H .full),
+      in-pairs (noneInside G area (F .mappings)) (noneInside G area (H .mappings)) (F .ok && F .full) (H .ok && H .full),
+    )
   where
     in-pairs : (a b c d : Bool) → ((a && b) && (c && d)) ≡ ((a && c) && (b && d))
     in-pairs true true c d = refl

@@ -12,15 +12,15 @@ use lib.ListN.{length, getD, set, drop, length-append, length-set, drop-of-lengt
 use lib.Seq.{drop-cons}
 use Rattle.laws.specs.Lists.{allZero}
 use Rattle.laws.specs.ListLaws.{length-part-le, getD-part}
-use Rattle.path.specs.Geometry.{Granule, four, entries, sizeAt}
-use Rattle.path.specs.Areas.{Area, areaAt}
+use Rattle.path.specs.Geometry.{Granule, four, entries, sizeAt, atLevel}
+use Rattle.path.specs.Areas.{Area, areaAt, meetsArea}
 use Rattle.entry.specs.Words.{entryAt}
-use Rattle.path.specs.Laws.{four-sane}
+use Rattle.path.specs.Laws.{four-sane, level-some}
 use Rattle.entry.specs.Laws.{entry-zero, table-only}
 use Rattle.entry.specs.declared.Entry.{Entry}
 use Rattle.entry.specs.declared.Entry.the-variants.{Empty, Table, Frame, Damaged}
 use Rattle.model.specs.Walk.{slot}
-use Rattle.model.specs.Audit.{Found, nothing, _⊕_, tableWords, ofEntry, ofEntries, ofVisit, ofTable}
+use Rattle.model.specs.Audit.{Found, nothing, _⊕_, tableWords, ofEntry, ofEntries, ofVisit, ofTable, noneInside}
 use Rattle.model.specs.Sound.{wordAt}
 use Rattle.audit.specs.Checks.{Seen, seen, clash, marks, mark, Ends, Answers, belowOf, atTable, atEntry, isFresh, TableFit, EntryFit}
 use Rattle.audit.specs.declared.Tally.{Tally}
@@ -29,39 +29,40 @@ use Rattle.audit.proofs.Parts.{_⊞_, unseen, unseen-⊞, seen-⊕, Roo
 
 -- ---- what is seen is the same from any address
 
-module _ (G : Granule) (area : Area) (h : ℕ) (below : ℕ → ℕ → Found) (same : (c u v : ℕ) → seen (below c u) ≡ seen (below c v)) where
-  same-entry : (u v : ℕ) (e : Entry) → seen (ofEntry G h u below e) ≡ seen (ofEntry G h v below e)
+module _ (G : Granule) (area : Area) (h : ℕ) (below : ℕ → ℕ → Found) (same : (c u v : ℕ) → seen G area (below c u) ≡ seen G area (below c v)) where
+  same-entry : (u v : ℕ) (e : Entry) → seen G area (ofEntry G h u below e) ≡ seen G area (ofEntry G h v below e)
+  unfolding noneInside
   same-entry u v Empty = refl
   same-entry u v (Table c) = same c u v
   same-entry u v (Frame b k) = refl
   same-entry u v Damaged = refl
 
-  same-entries : (u v : ℕ) (l : List ℕ) → seen (ofEntries G area h u below l) ≡ seen (ofEntries G area h v below l)
+  same-entries : (u v : ℕ) (l : List ℕ) → seen G area (ofEntries G area h u below l) ≡ seen G area (ofEntries G area h v below l)
   unfolding ofEntries
   same-entries u v [] = refl
   same-entries u v (w ∷ l) =
-      seen-⊕ (ofEntry G h u below (entryAt G area h w)) (ofEntries G area h (u + sizeAt G h) below l)
+      seen-⊕ G area (ofEntry G h u below (entryAt G area h w)) (ofEntries G area h (u + sizeAt G h) below l)
       ∙ ap₂ _⊞_ (same-entry u v (entryAt G area h w)) (same-entries (u + sizeAt G h) (v + sizeAt G h) l)
-      ∙ sym (seen-⊕ (ofEntry G h v below (entryAt G area h w)) (ofEntries G area h (v + sizeAt G h) below l))
+      ∙ sym (seen-⊕ G area (ofEntry G h v below (entryAt G area h w)) (ofEntries G area h (v + sizeAt G h) below l))
 
-  same-node : (ws l : List ℕ) (t u v : ℕ) → seen (ofVisit ws t ⊕ ofEntries G area h u below l) ≡ seen (ofVisit ws t ⊕ ofEntries G area h v below l)
+  same-node : (ws l : List ℕ) (t u v : ℕ) → seen G area (ofVisit ws t ⊕ ofEntries G area h u below l) ≡ seen G area (ofVisit ws t ⊕ ofEntries G area h v below l)
   same-node ws l t u v =
-      seen-⊕ (ofVisit ws t) (ofEntries G area h u below l)
-      ∙ ap (λ (s : Seen). seen (ofVisit ws t) ⊞ s) (same-entries u v l)
-      ∙ sym (seen-⊕ (ofVisit ws t) (ofEntries G area h v below l))
+      seen-⊕ G area (ofVisit ws t) (ofEntries G area h u below l)
+      ∙ ap (λ (s : Seen). seen G area (ofVisit ws t) ⊞ s) (same-entries u v l)
+      ∙ sym (seen-⊕ G area (ofVisit ws t) (ofEntries G area h v below l))
 
-same-table : (G : Granule) (ws : List ℕ) (area : Area) (h t u v : ℕ) → seen (ofTable G ws area h t u) ≡ seen (ofTable G ws area h t v)
+same-table : (G : Granule) (ws : List ℕ) (area : Area) (h t u v : ℕ) → seen G area (ofTable G ws area h t u) ≡ seen G area (ofTable G ws area h t v)
 unfolding ofTable
 same-table G ws area zero t u v = same-node G area zero (λ _ _. nothing false) (λ c u v. refl) (tableWords G ws t) (tableWords G ws t) t u v
 same-table G ws area (suc h) t u v =
     same-node G area (suc h) (λ c u. ofTable G ws area h c u) (same-table G ws area h) (tableWords G ws t) (tableWords G ws t) t u v
 
-same-below : (G : Granule) (ws : List ℕ) (area : Area) (h c u v : ℕ) → seen (belowOf G ws area h c u) ≡ seen (belowOf G ws area h c v)
+same-below : (G : Granule) (ws : List ℕ) (area : Area) (h c u v : ℕ) → seen G area (belowOf G ws area h c u) ≡ seen G area (belowOf G ws area h c v)
 unfolding belowOf
 same-below G ws area zero c u v = refl
 same-below G ws area (suc h) c u v = same-table G ws area h c u v
 
-below-table : (G : Granule) (ws : List ℕ) (area : Area) (h c : ℕ) → 1 ≤ h → seen (belowOf G ws area h c 0) ≡ atTable G ws area (h - 1) c
+below-table : (G : Granule) (ws : List ℕ) (area : Area) (h c : ℕ) → 1 ≤ h → seen G area (belowOf G ws area h c 0) ≡ atTable G ws area (h - 1) c
 unfolding belowOf
 below-table G ws area zero c l = absurd (omega arith)
 below-table G ws area (suc h) c l = rw (sub-one (suc h))
@@ -69,8 +70,8 @@ below-table G ws area (suc h) c l = rw (sub-one (suc h))
 -- ---- a table, entry by entry
 
 -- table t alone
-abbrev pub atVisit : Granule → List ℕ → ℕ → Seen
-atVisit G ws t = seen (ofVisit (tableWords G ws t) t)
+abbrev pub atVisit : Granule → List ℕ → Area → ℕ → Seen
+atVisit G ws area t = seen G area (ofVisit (tableWords G ws t) t)
 
 -- of so many last entries, those are empty that come before the last j
 abbrev pub Skips : Granule → List ℕ → ℕ → ℕ → ℕ → Type 0
@@ -85,7 +86,7 @@ skips-more G ws t left j s e = (omega (arith, s .0), λ k a b. go k b (decLt j k
 
 -- its last entries, so many of them
 abbrev pub atRest : Granule → List ℕ → Area → ℕ → ℕ → ℕ → Seen
-atRest G ws area h t left = seen (ofEntries G area h 0 (belowOf G ws area h) (drop (entries G - left) (tableWords G ws t)))
+atRest G ws area h t left = seen G area (ofEntries G area h 0 (belowOf G ws area h) (drop (entries G - left) (tableWords G ws t)))
 
 module _ (G : Granule) (ws : List ℕ) (area : Area) (h t : ℕ) where
   entries-are : (h : ℕ) → ofTable G ws area h t 0 ≡ ofVisit (tableWords G ws t) t ⊕ ofEntries G area h 0 (belowOf G ws area h) (tableWords G ws t)
@@ -93,15 +94,15 @@ module _ (G : Granule) (ws : List ℕ) (area : Area) (h t : ℕ) where
   entries-are zero = refl
   entries-are (suc h) = refl
 
-  pub table-parts : atTable G ws area h t ≡ atVisit G ws t ⊞ atRest G ws area h t (entries G)
+  pub table-parts : atTable G ws area h t ≡ atVisit G ws area t ⊞ atRest G ws area h t (entries G)
   table-parts =
       let z : entries G - entries G ≡ 0 = omega arith in
-      ap seen (entries-are h)
-      ∙ seen-⊕ (ofVisit (tableWords G ws t) t) (ofEntries G area h 0 (belowOf G ws area h) (tableWords G ws t))
+      ap (seen G area) (entries-are h)
+      ∙ seen-⊕ G area (ofVisit (tableWords G ws t) t) (ofEntries G area h 0 (belowOf G ws area h) (tableWords G ws t))
       ∙ rw z
 
   pub rest-none : atRest G ws area h t 0 ≡ unseen
-  unfolding ofEntries
+  unfolding ofEntries noneInside
   rest-none = rw (drop-of-length-le (tableWords G ws t) {i = entries G - 0} (omega (arith, length-part-le ws (slot G t 0) (entries G))))
 
   -- word i of the table, past the end of the words too
@@ -109,7 +110,7 @@ module _ (G : Granule) (ws : List ℕ) (area : Area) (h t : ℕ) where
   word-is i l = getD-part ws (slot G t 0) (entries G) i l ∙ ap (λ (j : ℕ). getD ws j 0) (omega arith)
 
   pub rest-parts : (left : ℕ) → 0 < left → left ≤ entries G → atRest G ws area h t left ≡ atEntry G ws area h t (entries G - left) ⊞ atRest G ws area h t (left - 1)
-  unfolding ofEntries
+  unfolding ofEntries noneInside
   rest-parts left l m = rw (next, ← word-is i (omega arith)) (go (decLt i (length words)))
     where
       i : ℕ
@@ -125,19 +126,20 @@ module _ (G : Granule) (ws : List ℕ) (area : Area) (h t : ℕ) where
       next = omega arith
 
       of : ℕ → List ℕ → Seen
-      of v k = seen (ofEntries G area h v below k)
+      of v k = seen G area (ofEntries G area h v below k)
 
-      go : Dec (i < length words) → of 0 (drop i words) ≡ seen (ofEntry G h 0 below (entryAt G area h (getD words i 0))) ⊞ of 0 (drop (suc i) words)
+      go : Dec (i < length words) → of 0 (drop i words) ≡ seen G area (ofEntry G h 0 below (entryAt G area h (getD words i 0))) ⊞ of 0 (drop (suc i) words)
       go (yes j) =
           rw (drop-cons words i 0 j)
-          (seen-⊕ (ofEntry G h 0 below (entryAt G area h (getD words i 0))) (ofEntries G area h (0 + sizeAt G h) below (drop (suc i) words))
-          ∙ ap (λ (s : Seen). seen (ofEntry G h 0 below (entryAt G area h (getD words i 0))) ⊞ s)
+          (seen-⊕ G area (ofEntry G h 0 below (entryAt G area h (getD words i 0))) (ofEntries G area h (0 + sizeAt G h) below (drop (suc i) words))
+          ∙ ap (λ (s : Seen). seen G area (ofEntry G h 0 below (entryAt G area h (getD words i 0))) ⊞ s)
           (same-entries G area h below (same-below G ws area h) (0 + sizeAt G h) 0 (drop (suc i) words)))
       go (no j) =
           rw (drop-of-length-le words {i = i} (omega arith), drop-of-length-le words {i = suc i} (omega arith), List·getD-eq-default words 0 {n = i} (omega arith), entry-zero G area h)
 
   -- empty entries add nothing
   pub rest-skip : (left j : ℕ) → left ≤ entries G → Skips G ws t left j → atRest G ws area h t left ≡ atRest G ws area h t j
+  unfolding noneInside
   rest-skip zero j l s = let z : j ≡ 0 = omega (arith, s .0) in rw z
   rest-skip (suc left) j l s = go (decLt j (suc left)) (rest-skip left j (omega arith))
     where
@@ -160,29 +162,29 @@ record Small (F : Seen) (k : ℕ) : Type 0 where
 small-⊞ : {F H : Seen} {j k m : ℕ} → Small F j → Small H k → j + k ≤ m → Small (F ⊞ H) m
 small-⊞ f g l = record { few = rw length-append (omega (arith, f .few, g .few)); some-more = omega (arith, f .some-more, g .some-more) }
 
-module _ (G : Granule) (area : Area) (h : ℕ) (below : ℕ → ℕ → Found) (B : ℕ) (one : 1 ≤ B) (f : (c v : ℕ) → Small (seen (below c v)) B) where
-  small-entry : (v : ℕ) (e : Entry) → Small (seen (ofEntry G h v below e)) B
+module _ (G : Granule) (area : Area) (h : ℕ) (below : ℕ → ℕ → Found) (B : ℕ) (one : 1 ≤ B) (f : (c v : ℕ) → Small (seen G area (below c v)) B) where
+  small-entry : (v : ℕ) (e : Entry) → Small (seen G area (ofEntry G h v below e)) B
   small-entry v Empty = record { few = omega arith; some-more = omega arith }
   small-entry v (Table c) = f c v
   small-entry v (Frame b k) = record { few = omega arith; some-more = one }
   small-entry v Damaged = record { few = omega arith; some-more = omega arith }
 
-  small-entries : (v : ℕ) (l : List ℕ) → Small (seen (ofEntries G area h v below l)) (length l * B)
+  small-entries : (v : ℕ) (l : List ℕ) → Small (seen G area (ofEntries G area h v below l)) (length l * B)
   unfolding ofEntries
   small-entries v [] = record { few = omega arith; some-more = omega arith }
   small-entries v (w ∷ l) =
-      rw (seen-⊕ (ofEntry G h v below (entryAt G area h w)) (ofEntries G area h (v + sizeAt G h) below l))
+      rw (seen-⊕ G area (ofEntry G h v below (entryAt G area h w)) (ofEntries G area h (v + sizeAt G h) below l))
       (small-⊞ (small-entry v (entryAt G area h w)) (small-entries (v + sizeAt G h) l) (omega (arith, suc-mul (length l) B)))
 
-  small-node : (ws : List ℕ) (t v : ℕ) → Small (seen (ofVisit (tableWords G ws t) t ⊕ ofEntries G area h v below (tableWords G ws t))) (suc (entries G) * B)
+  small-node : (ws : List ℕ) (t v : ℕ) → Small (seen G area (ofVisit (tableWords G ws t) t ⊕ ofEntries G area h v below (tableWords G ws t))) (suc (entries G) * B)
   small-node ws t v =
       let l = tableWords G ws t in
       let m : length l * B ≤ entries G * B = mul-le-mul-right B (length-part-le ws (slot G t 0) (entries G)) in
-      rw (seen-⊕ (ofVisit l t) (ofEntries G area h v below l))
-      (small-⊞ {F = atVisit G ws t} {j = 1} (record { few = omega arith; some-more = omega arith }) (small-entries v l) (omega (arith, suc-mul (entries G) B)))
+      rw (seen-⊕ G area (ofVisit l t) (ofEntries G area h v below l))
+      (small-⊞ {F = atVisit G ws area t} {j = 1} (record { few = omega arith; some-more = omega arith }) (small-entries v l) (omega (arith, suc-mul (entries G) B)))
 
 -- at most a power of the entries and one more
-small-table : (G : Granule) (ws : List ℕ) (area : Area) (h t v : ℕ) → Small (seen (ofTable G ws area h t v)) (suc (entries G) ^ suc h)
+small-table : (G : Granule) (ws : List ℕ) (area : Area) (h t v : ℕ) → Small (seen G area (ofTable G ws area h t v)) (suc (entries G) ^ suc h)
 unfolding ofTable
 small-table G ws area zero t v =
     rw (pow-succ' (suc (entries G)) 0)
@@ -199,9 +201,9 @@ room-table ws area h t l =
 
 -- ---- a table
 
-module _ (G : Granule) (ws M : List ℕ) (t : ℕ) where
-  pub visit-fresh : isFresh G ws M t ≡ true → Answers (atVisit G ws t) M (Counts 1 0) (set M t 1)
-  unfolding Answers mark
+module _ (G : Granule) (ws M : List ℕ) (area : Area) (t : ℕ) where
+  pub visit-fresh : isFresh G ws M t ≡ true → Answers (atVisit G ws area t) M (Counts 1 0) (set M t 1)
+  unfolding Answers mark noneInside
   visit-fresh e = go (eqb (getD M t 0) 0) (eqb t 0 || not (allZero (tableWords G ws t))) e
     where
       go : (p q : Bool) → (p && q) ≡ true → Ends (cond q (cond p (marks (set M t 1)) clash) clash) 1 0 (Counts 1 0) (set M t 1)
@@ -209,8 +211,8 @@ module _ (G : Granule) (ws M : List ℕ) (t : ℕ) where
       go true false e = absurd (false≢true e)
       go false q e = absurd (false≢true e)
 
-  pub visit-stale : isFresh G ws M t ≡ false → (N : List ℕ) → Answers (atVisit G ws t) M Damaged N
-  unfolding Answers mark
+  pub visit-stale : isFresh G ws M t ≡ false → (N : List ℕ) → Answers (atVisit G ws area t) M Damaged N
+  unfolding Answers mark noneInside
   visit-stale e N = go (eqb (getD M t 0) 0) (eqb t 0 || not (allZero (tableWords G ws t))) e
     where
       go : (p q : Bool) → (p && q) ≡ false → Ends (cond q (cond p (marks (set M t 1)) clash) clash) 1 0 Damaged N
@@ -266,13 +268,13 @@ module _ (ws : List ℕ) (area : Area) (h t : ℕ) (M : List ℕ) where
   pub table-stale : isFresh four ws M t ≡ false → Answers (atTable four ws area h t) M Damaged M
   table-stale e =
       goes-answers (atTable four ws area h t) M Damaged M
-      (rw (table-parts four ws area h t) (goes-bad (atVisit four ws t) all M 0 0 M M (visit-stale four ws M t e M)))
+      (rw (table-parts four ws area h t) (goes-bad (atVisit four ws area t) all M 0 0 M M (visit-stale four ws M area t e M)))
 
   -- else its entries decide
   pub table-fresh : isFresh four ws M t ≡ true → (r : Tally) (N : List ℕ) → Goes all (set M t 1) 1 0 r N → Answers (atTable four ws area h t) M r N
   table-fresh e r N g =
       goes-answers (atTable four ws area h t) M r N
-      (rw (table-parts four ws area h t) (goes-good (atVisit four ws t) all M 0 0 1 0 (set M t 1) (visit-fresh four ws M t e) r N g))
+      (rw (table-parts four ws area h t) (goes-good (atVisit four ws area t) all M 0 0 1 0 (set M t 1) (visit-fresh four ws M area t e) r N g))
 
   pub table-starts : h < four .most → Loop ws area h t M 1 0 M 1 0 (entries four)
   table-starts l =
@@ -281,13 +283,14 @@ module _ (ws : List ℕ) (area : Area) (h t : ℕ) (M : List ℕ) where
         carried = carried-start all M 1 0 (rest (rw (table-parts four ws area h t) at (room-table ws area h t l)));
       }
     where
-      rest : Room (atVisit four ws t ⊞ all) 0 0 → Room all 1 0
+      rest : Room (atVisit four ws area t ⊞ all) 0 0 → Room all 1 0
       rest m = record { few = omega (arith, m .few); some-more = omega (arith, m .some-more) }
 
-pub table-entry : {ws : List ℕ} {area : Area} {M N : List ℕ} {n t h a b left : ℕ} → TableFit M n t h → Loop ws area h t (set M t 1) 1 0 N a b left → 0 < left
-    → EntryFit N n h left
+pub table-entry : {ws : List ℕ} {area : Area} {M N : List ℕ} {base n t h a b left : ℕ} → TableFit M base n t h → Loop ws area h t (set M t 1) 1 0 N a b left → 0 < left
+    → EntryFit N base n h left
 table-entry {M = M} {t = t} f k l =
     record {
+      placed = f .placed;
       marked = omega (arith, f .marked, k .carried .long, length-set M t 1);
       low = f .low;
       some-left = l;
@@ -298,28 +301,39 @@ table-entry {M = M} {t = t} f k l =
 
 module _ (ws M : List ℕ) (area : Area) (h t i w : ℕ) (at : w ≡ wordAt four ws t i) (r : Tally) (N : List ℕ) where
   -- what the word says decides
-  says : (e : Entry) → entryAt four area h w ≡ e → Answers (seen (ofEntry four h 0 (belowOf four ws area h) e)) M r N → Answers (atEntry four ws area h t i) M r N
+  says : (e : Entry) → entryAt four area h w ≡ e → Answers (seen four area (ofEntry four h 0 (belowOf four ws area h) e)) M r N → Answers (atEntry four ws area h t i) M r N
   says e q g =
-      subst (λ (e : Entry). Answers (seen (ofEntry four h 0 (belowOf four ws area h) e)) M r N)
+      subst (λ (e : Entry). Answers (seen four area (ofEntry four h 0 (belowOf four ws area h) e)) M r N)
       (sym q ∙ ap (entryAt four area h) at) g
 
   pub entry-empty : entryAt four area h w ≡ Empty → r ≡ Counts 0 0 → N ≡ M → Answers (atEntry four ws area h t i) M r N
-  unfolding Answers mark
+  unfolding Answers mark noneInside
   entry-empty q a b = says Empty q (a, b)
 
-  pub entry-frame : (b k : ℕ) → entryAt four area h w ≡ Frame b k → r ≡ Counts 0 1 → N ≡ M → Answers (atEntry four ws area h t i) M r N
-  unfolding Answers mark
-  entry-frame b k q a d = says (Frame b k) q (a, d)
+  module _ (b k : ℕ) (q : entryAt four area h w ≡ Frame b k) where
+    pub entry-frame : meetsArea four area b (sizeAt four h) ≡ false → r ≡ Counts 0 1 → N ≡ M → Answers (atEntry four ws area h t i) M r N
+    unfolding Answers mark noneInside
+    entry-frame e a d = says (Frame b k) q (rw e (a, d))
+
+    -- a frame that shares a byte with the tables
+    pub entry-inside : meetsArea four area b (sizeAt four h) ≡ true → r ≡ Damaged → Answers (atEntry four ws area h t i) M r N
+    unfolding Answers noneInside
+    entry-inside e a = says (Frame b k) q (rw e a)
 
   pub entry-damaged : entryAt four area h w ≡ Damaged → r ≡ Damaged → Answers (atEntry four ws area h t i) M r N
-  unfolding Answers
+  unfolding Answers noneInside
   entry-damaged q a = says Damaged q a
 
   pub entry-child : (c : ℕ) → entryAt four area h w ≡ Table c → Answers (atTable four ws area (h - 1) c) M r N → Answers (atEntry four ws area h t i) M r N
   entry-child c q g = says (Table c) q (subst (λ (s : Seen). Answers s M r N) (sym (below-table four ws area h c (table-only four-sane area h w q .0))) g)
 
-pub entry-fit : {M : List ℕ} {n h left : ℕ} → EntryFit M n h left → (P w c : ℕ) → entryAt four (areaAt P n) h w ≡ Table c
-    → (0 < h) × TableFit M n c (h - 1)
+-- the size of a frame at a height, as the code has it
+pub met-by-size : (area : Area) (b : ℕ) {s h : ℕ} {m x : Bool} → h < four .most → s ≡ atLevel four h (sizeAt four h) → m ≡ meetsArea four area b s → m ≡ x
+    → meetsArea four area b (sizeAt four h) ≡ x
+met-by-size area b {s} {h} l e q t = ap (meetsArea four area b) (sym (level-some four l (sizeAt four h)) ∙ sym e) ∙ sym q ∙ t
+
+pub entry-fit : {M : List ℕ} {base n h left : ℕ} → EntryFit M base n h left → (P w c : ℕ) → entryAt four (areaAt P n) h w ≡ Table c
+    → (0 < h) × TableFit M base n c (h - 1)
 entry-fit {n = n} f P w c q =
     let (a, b, d, _) = table-only four-sane (areaAt P n) _ w q in
-    (a, record { marked = f .marked; inside = d; low = omega (arith, f .low) })
+    (a, record { placed = f .placed; marked = f .marked; inside = d; low = omega (arith, f .low) })

@@ -17,7 +17,7 @@ use Rattle.path.specs.Numbers.{mostTables, GoodSetup}
 use Rattle.path.specs.Laws.{four-sane, good-setup}
 use Rattle.model.specs.Answers.{Pool, audited, refused}
 use Rattle.model.specs.Calls.{goodPool}
-use Rattle.model.specs.Audit.{tableWords, ofPool, freeOf, freeSound, soundPool, auditW}
+use Rattle.model.specs.Audit.{tableWords, ofPool, freeOf, freeSound, noneInside, soundPool, auditW}
 use Rattle.model.specs.Sound.{Each, reachedOf, mappingsOf}
 use Rattle.model.specs.AuditLaws.{each-append, pool-reached-low, free-back}
 use Rattle.audit.specs.Checks.{Seen, Marked, clash, marks, mark, Answers, atTable, freePass, TableFit}
@@ -116,17 +116,18 @@ module _ (p : Pool) (g : goodPool four p ≡ true) where
   N : GoodSetup four (p .numbers) (length (p .words)) (length (p .list))
   N = good-setup g
 
-  -- whether the tree is sound and has no empty table
+  -- whether no frame shares a byte with the tables, and the tree is sound and has no empty table
   abbrev sound : Bool
-  sound = ofPool four p .ok && ofPool four p .full
+  sound = noneInside four (areaOf (p .numbers)) (mappingsOf four p) && (ofPool four p .ok && ofPool four p .full)
 
   -- what is seen from the root
   abbrev all : Seen
   all = atTable four (p .words) (areaOf (p .numbers)) (p .numbers .levels - 1) 0
 
-  pub root-fit : TableFit (blank mostTables) (p .numbers .tables) 0 (p .numbers .levels - 1)
+  pub root-fit : TableFit (blank mostTables) (p .numbers .base) (p .numbers .tables) 0 (p .numbers .levels - 1)
   root-fit =
       record {
+        placed = N .numbers .placed;
         marked = rw (length-replicate {A = ℕ} mostTables 0) (N .numbers .few);
         inside = N .numbers .some-table;
         low = omega (arith, N .numbers .not-more, N .numbers .enough);

@@ -7,21 +7,22 @@ use lib.Dec.{ltb, eqb}
 use lib.ListN.{length, getD, set}
 use Rattle.laws.specs.Lists.{allZero}
 use Rattle.path.specs.Geometry.{Granule, four, entries}
-use Rattle.path.specs.Areas.{Area}
-use Rattle.entry.specs.Words.{entryAt}
-use Rattle.model.specs.Audit.{Found, nothing, tableWords, ofEntry, ofTable}
+use Rattle.path.specs.Areas.{Area, areaAt, GoodArea, meetsArea}
+use Rattle.entry.specs.Words.{baseIn, attrsIn, frameWord, entryAt}
+use Rattle.model.specs.Audit.{Found, nothing, tableWords, ofEntry, ofTable, noneInside}
 use Rattle.model.specs.Sound.{wordAt}
 use Rattle.audit.specs.declared.Tally.{Tally}
 use Rattle.audit.specs.declared.Tally.the-variants.{Counts, Damaged}
 
--- of what is found in a part of the tree: whether it is sound and has no empty table, the tables reached, and how many mappings
+-- of what is found in a part of the tree: whether no frame shares a byte with the tables and it is sound and has no empty table, the tables reached,
+-- and how many mappings
 pub record Seen : Type 0 where
   pub ok : Bool
   pub reached : List ℕ
   pub count : ℕ
 
-abbrev pub seen : Found → Seen
-seen F = record { ok = F .ok && F .full; reached = F .reached; count = length (F .mappings) }
+abbrev pub seen : Granule → Area → Found → Seen
+seen G area F = record { ok = noneInside G area (F .mappings) && (F .ok && F .full); reached = F .reached; count = length (F .mappings) }
 
 -- the marks after tables were marked one after the other, or that one was marked before
 pub data Marked : Type 0 where
@@ -52,10 +53,14 @@ belowOf G ws area (suc h) c v = ofTable G ws area h c v
 
 -- table t, and entry i of it, of height h. What is seen is the same from any address: they are taken to stand for the addresses from 0 on
 abbrev pub atTable : Granule → List ℕ → Area → ℕ → ℕ → Seen
-atTable G ws area h t = seen (ofTable G ws area h t 0)
+atTable G ws area h t = seen G area (ofTable G ws area h t 0)
 
 abbrev pub atEntry : Granule → List ℕ → Area → ℕ → ℕ → ℕ → Seen
-atEntry G ws area h t i = seen (ofEntry G h 0 (belowOf G ws area h) (entryAt G area h (wordAt G ws t i)))
+atEntry G ws area h t i = seen G area (ofEntry G h 0 (belowOf G ws area h) (entryAt G area h (wordAt G ws t i)))
+
+-- the word of a page that shares no byte with the tables
+abbrev pub isPage : Area → ℕ → Bool
+isPage area w = eqb w (frameWord (baseIn w) 0 (attrsIn w)) && not (meetsArea four area (baseIn w) 4096)
 
 -- table t was not marked before, and is the root or not empty
 abbrev pub isFresh : Granule → List ℕ → List ℕ → ℕ → Bool
@@ -67,14 +72,16 @@ freePass G ws n M [] = true
 freePass G ws n M (t ∷ ts) =
     ltb t n && (eqb (getD M t 0) 0 && (allZero (tableWords G ws t) && freePass G ws n (set M t 1) ts))
 
--- what a check of table t asks: a mark for each table of the pool, one of those, and the height of some level
-pub record TableFit (M : List ℕ) (n t h : ℕ) : Type 0 where
+-- what a check of table t asks: tables in their places, a mark for each table of the pool, one of those, and the height of some level
+pub record TableFit (M : List ℕ) (base n t h : ℕ) : Type 0 where
+  pub placed : GoodArea four (areaAt base n)
   pub marked : n ≤ length M
   pub inside : t < n
   pub low : h < four .most
 
 -- what a check of an entry asks: the same, and that entries are left
-pub record EntryFit (M : List ℕ) (n h left : ℕ) : Type 0 where
+pub record EntryFit (M : List ℕ) (base n h left : ℕ) : Type 0 where
+  pub placed : GoodArea four (areaAt base n)
   pub marked : n ≤ length M
   pub low : h < four .most
   pub some-left : 0 < left

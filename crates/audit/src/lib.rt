@@ -8,11 +8,11 @@ ghost use mathlib.Core.List.{List};
 ghost use Prim.Native.Nat.{ℕ, _≤_, _<_, _+_, _-_, _*_};
 ghost use lib.ListN.{length, take, set};
 ghost use Rattle.path.specs.Geometry.{four, entries};
-ghost use Rattle.path.specs.Areas.{Area, areaAt};
+ghost use Rattle.path.specs.Areas.{areaAt, GoodArea};
 ghost use Rattle.model.specs.Answers.{saysAudit, pool};
 ghost use Rattle.model.specs.Audit.{auditW};
 ghost use Rattle.model.specs.Sound.{wordAt};
-ghost use Rattle.audit.specs.Checks.{Answers, TableFit, EntryFit, isFresh, atTable, atEntry, freePass};
+ghost use Rattle.audit.specs.Checks.{Answers, TableFit, EntryFit, isPage, isFresh, atTable, atEntry, freePass};
 
 // The entries of a table.
 const ENTRIES: usize = path::ENTRIES as usize;
@@ -39,12 +39,27 @@ fn is_fresh(words: &[u64], marks: &[u8], t: u32) -> bool
     !pool::is_table_empty(words, t)
 }
 
+// Whether a word is that of a page which shares no byte with the tables. Pages and tables stand at multiples of one size, so that one difference tells,
+// which wraps for a page below them.
+fn is_page(w: u64, base: u64, n: u32) -> bool
+    requires { ⌜ GoodArea four (areaAt base n) ⌝ }
+    ensures { λ r. ⌜ r ≡ isPage (areaAt base n) w ⌝ }
+{
+    let page = entry::is_frame(w, 0);
+    let off = std::num::wrapping_sub_u64(entry::base_in(w), base);
+    let inside = off < path::PAGE * (n as u64);
+    if inside {
+        return false;
+    }
+    page
+}
+
 // Checks table t of the last level, which is fresh. A word that is damaged is neither empty nor a page, and the loop goes on: it has no branch, so that it
 // is done on several words at once.
-fn pages_check(words: &[u64], t: u32) -> Tally
-    requires { ⌜ entries four * t + entries four ≤ length (now words) ⌝ }
-    ensures { λ r. ⌜ ((area : Area) (M : List ℕ) → isFresh four (now (words .entry)) M t ≡ true
-        → Answers (atTable four (now (words .entry)) area 0 t) M r (set M t 1)) ⌝ }
+fn pages_check(words: &[u64], base: u64, n: u32, t: u32) -> Tally
+    requires { ⌜ (entries four * t + entries four ≤ length (now words)) × GoodArea four (areaAt base n) ⌝ }
+    ensures { λ r. ⌜ ((M : List ℕ) → isFresh four (now (words .entry)) M t ≡ true
+        → Answers (atTable four (now (words .entry)) (areaAt base n) 0 t) M r (set M t 1)) ⌝ }
 {
     let end = ENTRIES * (t as usize) + ENTRIES;
     let mut empty: u64 = 0;
@@ -52,7 +67,7 @@ fn pages_check(words: &[u64], t: u32) -> Tally
     let mut left = ENTRIES;
     while 0 < left {
         let w = words[end - left];
-        let page = entry::is_frame(w, 0);
+        let page = is_page(w, base, n);
         empty += (w == 0) as u64;
         pages += page as u64;
         left -= 1;
@@ -81,7 +96,7 @@ fn skip_empty(words: &[u64], t: u32, left: usize) -> usize
 
 // Checks table t, whose entries have this height, and all below it, and marks the tables come to.
 fn table_check(words: &[u64], marks: &mut [u8], base: u64, n: u32, t: u32, height: usize) -> Tally
-    requires { ⌜ TableFit (now marks) n t height × (entries four * n ≤ length (now words)) ⌝ }
+    requires { ⌜ TableFit (now marks) base n t height × (entries four * n ≤ length (now words)) ⌝ }
     ensures { λ r. ⌜ Answers (atTable four (now (words .entry)) (areaAt base n) height t) (now (marks .entry)) r (now (marks .exit)) ⌝ }
 {
     if !is_fresh(words, marks, t) {
@@ -89,7 +104,7 @@ fn table_check(words: &[u64], marks: &mut [u8], base: u64, n: u32, t: u32, heigh
     }
     marks[t as usize] = 1;
     if height == 0 {
-        return pages_check(words, t);
+        return pages_check(words, base, n, t);
     }
     let mut tables: u64 = 1;
     let mut mappings: u64 = 0;
@@ -120,7 +135,7 @@ fn entry_check(
     height: usize,
     left: usize,
 ) -> Tally
-    requires { ⌜ EntryFit (now marks) n height left × (entries four * n ≤ length (now words)) ⌝ }
+    requires { ⌜ EntryFit (now marks) base n height left × (entries four * n ≤ length (now words)) ⌝ }
     ensures { λ r. ⌜ Answers (atEntry four (now (words .entry)) (areaAt base n) height t (entries four - left))
         (now (marks .entry)) r (now (marks .exit)) ⌝ }
 {
@@ -129,9 +144,15 @@ fn entry_check(
     match e {
         Entry::Empty => Tally::Counts(0, 0),
         Entry::Frame {
-            base: _,
+            base: frame,
             attributes: _,
-        } => Tally::Counts(0, 1),
+        } => {
+            let met = path::meets_area(base, n as u64, frame, path::size_at(height));
+            if met {
+                return Tally::Damaged;
+            }
+            Tally::Counts(0, 1)
+        }
         Entry::Table(c) => table_check(words, marks, base, n, c, height - 1),
         Entry::Damaged => Tally::Damaged,
     }

@@ -129,6 +129,75 @@ fn bad_entries(words: &mut Words, list: &mut List) {
     with_table(b"past the pool", 1, FIRST + 2, 4, words, list);
 }
 
+// Three tables, and one more entry: a frame of this size.
+fn with_frame(name: &[u8], i: usize, base: u64, size: u64, words: &mut Words, list: &mut List) {
+    with_word(name, 1, i, entry::frame_word(base, size, 3), words, list);
+}
+
+// Pages in the pool, and beside it.
+fn pages_at_the_pool(words: &mut Words, list: &mut List) {
+    with_frame(
+        b"page of the root",
+        SECOND + 1,
+        BASE,
+        path::PAGE,
+        words,
+        list,
+    );
+    with_frame(
+        b"page of the last table",
+        SECOND + 1,
+        0x4000_3000,
+        path::PAGE,
+        words,
+        list,
+    );
+    with_frame(
+        b"page past the pool",
+        SECOND + 1,
+        0x4000_4000,
+        path::PAGE,
+        words,
+        list,
+    );
+    with_frame(
+        b"page before the pool",
+        SECOND + 1,
+        0x3FFF_F000,
+        path::PAGE,
+        words,
+        list,
+    );
+}
+
+// Blocks around the pool, and beside it.
+fn blocks_at_the_pool(words: &mut Words, list: &mut List) {
+    with_frame(
+        b"2 MiB around the pool",
+        FIRST + 2,
+        BASE,
+        path::MIB2,
+        words,
+        list,
+    );
+    with_frame(
+        b"2 MiB before the pool",
+        FIRST + 2,
+        0x3FE0_0000,
+        path::MIB2,
+        words,
+        list,
+    );
+    with_frame(
+        b"1 GiB around the pool",
+        ROOT + 1,
+        BASE,
+        path::GIB,
+        words,
+        list,
+    );
+}
+
 // The second, a cycle, breaks more than one rule.
 fn bad_tables(words: &mut Words, list: &mut List) {
     with_table(b"reached twice", 0, FIRST + 2, 2, words, list);
@@ -157,6 +226,8 @@ fn main() {
     sound(&mut words, &mut list);
     bad_numbers(&mut words, &mut list);
     bad_entries(&mut words, &mut list);
+    pages_at_the_pool(&mut words, &mut list);
+    blocks_at_the_pool(&mut words, &mut list);
     bad_tables(&mut words, &mut list);
     bad_list(&mut words, &mut list);
 }

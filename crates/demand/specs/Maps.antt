@@ -3,7 +3,7 @@
 use mathlib.Core.Path.{_≡_, refl, ap, sym, _∙_, subst, subst₂}
 use mathlib.Core.Logic.{_≢_, _⊎_, inl, inr, ⊎-elim}
 use mathlib.Core.Bool.{Bool, true, false, cond, false≢true}
-use mathlib.Core.List.{List, [], _∷_, map, List·Memᴰ}
+use mathlib.Core.List.{List, [], _∷_, map, List·Memᴰ, List·Memᴰ·cases-cons}
 use Prim.Native.Nat.{ℕ, zero, suc, _+_, _-_, _*_, _/_, _%_, _^_, _≤_, _<_, min, max}
 use native.Mathlib.Nat.{div-add-mod'}
 use native.Mathlib.Omega.{arith}
@@ -11,9 +11,9 @@ use lib.Dec.{ltb, leb, eqb}
 use lib.ListN.{length, getD}
 use borrow.Author.Tests.{ltb-true, ltb-false, leb-true, leb-false, eqb-true, eqb-false, lt-ltb, le-ltb}
 use Rattle.path.specs.Geometry.{Granule, pageSize, entries, sizeAt, spaceOf, physical, heightOf, Sane}
-use Rattle.path.specs.Areas.{Area, areaOf, total, GoodArea}
+use Rattle.path.specs.Areas.{Area, areaOf, total, GoodArea, meetsArea}
 use Rattle.path.specs.Numbers.{withFree, GoodSetup}
-use Rattle.path.specs.Laws.{height-size, size-pos}
+use Rattle.path.specs.Laws.{height-size, size-pos, meets-apart}
 use Rattle.path.specs.declared.Setup.{Setup}
 use Rattle.path.specs.Paths.{pathOf}
 use Rattle.entry.specs.Words.{Framed, frameWord}
@@ -26,6 +26,7 @@ use Rattle.model.specs.declared.Walked.{Walked}
 use Rattle.model.specs.Walk.{atHeight}
 use Rattle.model.specs.Writes.{Memory, memory, performAll, mapWrites, mayTake}
 use Rattle.model.specs.Calls.{walkTo, written, mapTests, mapHere, mapAt, mapW}
+use Rattle.model.specs.Sound.{OffTables}
 use Rattle.model.specs.Ledger.{Ledger, ledger, withLive, anyOverlap, tablesLacking, tablesNeeded, freeTables, Entered, entered, mapL}
 use Rattle.tree.specs.Region.{anc, page, anc-page}
 use Rattle.tree.specs.Tree.{Ent, empty, frame, table, readOf, Geo}
@@ -43,7 +44,7 @@ use Rattle.demand.specs.Sims.{SimIf}
 use Rattle.demand.specs.Queries.{area, n, k₀, al, X, R, own, pool-good, few, root-at, space-is, walk-ended, tables-above, entry-empty, entry-frame}
 
 -- what the tests of map's arguments say where none refuses
-pub record Fine (G : Granule) (levels a b size k : ℕ) : Type 0 where
+pub record Fine (G : Granule) (levels : ℕ) (area : Area) (a b size k : ℕ) : Type 0 where
   pub sized : heightOf G size ≤ G .large
   pub some-attributes : k < 16
   pub in-space : a + size ≤ spaceOf G levels
@@ -51,21 +52,23 @@ pub record Fine (G : Granule) (levels a b size k : ℕ) : Type 0 where
   pub in-physical : b + size ≤ physical
   pub address-aligned : a % size ≡ 0
   pub frame-aligned : b % size ≡ 0
+  pub outside : OffTables G area (answers.mapping a b size k)
 
-pub tests-fine : (G : Granule) (levels a b size k : ℕ) → mapTests G levels a b size k ≡ 0 → Fine G levels a b size k
+pub tests-fine : (G : Granule) (levels : ℕ) (area : Area) (a b size k : ℕ) → mapTests G levels area a b size k ≡ 0 → Fine G levels area a b size k
 unfolding mapTests
-tests-fine G levels a b size k e = go (ltb (G .large) (heightOf G size)) (ltb 15 k) (leb (spaceOf G levels) a) (ltb (spaceOf G levels) (a + size)) (ltb physical (b + size)) (eqb (a % size) 0) (eqb (b % size) 0) refl refl refl refl refl refl refl e
+tests-fine G levels area a b size k e = go (ltb (G .large) (heightOf G size)) (ltb 15 k) (leb (spaceOf G levels) a) (ltb (spaceOf G levels) (a + size)) (ltb physical (b + size)) (eqb (a % size) 0) (eqb (b % size) 0) (meetsArea G area b size) refl refl refl refl refl refl refl refl e
   where
-    go : (x₁ x₂ x₃ x₄ x₅ x₆ x₇ : Bool) → ltb (G .large) (heightOf G size) ≡ x₁ → ltb 15 k ≡ x₂ → leb (spaceOf G levels) a ≡ x₃ → ltb (spaceOf G levels) (a + size) ≡ x₄ → ltb physical (b + size) ≡ x₅ → eqb (a % size) 0 ≡ x₆ → eqb (b % size) 0 ≡ x₇
-        → _≡_ {A = ℕ} (cond x₁ 2 (cond x₂ 3 (cond x₃ 4 (cond x₄ 4 (cond x₅ 4 (cond x₆ (cond x₇ 0 5) 5)))))) 0 → Fine G levels a b size k
-    go true x₂ x₃ x₄ x₅ x₆ x₇ p₁ p₂ p₃ p₄ p₅ p₆ p₇ e = absurd (omega arith)
-    go false true x₃ x₄ x₅ x₆ x₇ p₁ p₂ p₃ p₄ p₅ p₆ p₇ e = absurd (omega arith)
-    go false false true x₄ x₅ x₆ x₇ p₁ p₂ p₃ p₄ p₅ p₆ p₇ e = absurd (omega arith)
-    go false false false true x₅ x₆ x₇ p₁ p₂ p₃ p₄ p₅ p₆ p₇ e = absurd (omega arith)
-    go false false false false true x₆ x₇ p₁ p₂ p₃ p₄ p₅ p₆ p₇ e = absurd (omega arith)
-    go false false false false false false x₇ p₁ p₂ p₃ p₄ p₅ p₆ p₇ e = absurd (omega arith)
-    go false false false false false true false p₁ p₂ p₃ p₄ p₅ p₆ p₇ e = absurd (omega arith)
-    go false false false false false true true p₁ p₂ p₃ p₄ p₅ p₆ p₇ e = record {
+    go : (x₁ x₂ x₃ x₄ x₅ x₆ x₇ x₈ : Bool) → ltb (G .large) (heightOf G size) ≡ x₁ → ltb 15 k ≡ x₂ → leb (spaceOf G levels) a ≡ x₃ → ltb (spaceOf G levels) (a + size) ≡ x₄ → ltb physical (b + size) ≡ x₅ → eqb (a % size) 0 ≡ x₆ → eqb (b % size) 0 ≡ x₇ → meetsArea G area b size ≡ x₈
+        → _≡_ {A = ℕ} (cond x₁ 2 (cond x₂ 3 (cond x₃ 4 (cond x₄ 4 (cond x₅ 4 (cond x₆ (cond x₇ (cond x₈ 11 0) 5) 5)))))) 0 → Fine G levels area a b size k
+    go true x₂ x₃ x₄ x₅ x₆ x₇ x₈ p₁ p₂ p₃ p₄ p₅ p₆ p₇ p₈ e = absurd (omega arith)
+    go false true x₃ x₄ x₅ x₆ x₇ x₈ p₁ p₂ p₃ p₄ p₅ p₆ p₇ p₈ e = absurd (omega arith)
+    go false false true x₄ x₅ x₆ x₇ x₈ p₁ p₂ p₃ p₄ p₅ p₆ p₇ p₈ e = absurd (omega arith)
+    go false false false true x₅ x₆ x₇ x₈ p₁ p₂ p₃ p₄ p₅ p₆ p₇ p₈ e = absurd (omega arith)
+    go false false false false true x₆ x₇ x₈ p₁ p₂ p₃ p₄ p₅ p₆ p₇ p₈ e = absurd (omega arith)
+    go false false false false false false x₇ x₈ p₁ p₂ p₃ p₄ p₅ p₆ p₇ p₈ e = absurd (omega arith)
+    go false false false false false true false x₈ p₁ p₂ p₃ p₄ p₅ p₆ p₇ p₈ e = absurd (omega arith)
+    go false false false false false true true true p₁ p₂ p₃ p₄ p₅ p₆ p₇ p₈ e = absurd (omega arith)
+    go false false false false false true true false p₁ p₂ p₃ p₄ p₅ p₆ p₇ p₈ e = record {
       sized = ltb-false _ _ p₁;
       some-attributes = let z = ltb-false 15 k p₂ in omega arith;
       in-space = ltb-false _ _ p₄;
@@ -73,6 +76,7 @@ tests-fine G levels a b size k e = go (ltb (G .large) (heightOf G size)) (ltb 15
       in-physical = ltb-false physical _ p₅;
       address-aligned = eqb-true _ _ p₆;
       frame-aligned = eqb-true _ _ p₇;
+      outside = meets-apart p₈;
     }
 
 -- good numbers stay good with memory of the same lengths and another free count
@@ -112,14 +116,14 @@ module _ (G : Granule) (Z : Sane G) {C D : Type 0} {p : Pool} {B : Ledger} (I : 
 
   -- the pool with its own ledger
   pub own-sim : SimIf G Z C D p (own G Z I)
-  own-sim = record { good = I .good; levels-are = refl; area-is = refl; L = I .L; live-is = refl; once = I .once; T = I .T; S = I .S; inv = I .inv }
+  own-sim = record { good = I .good; levels-are = refl; area-is = refl; L = I .L; live-is = refl; once = I .once; T = I .T; S = I .S; outside = I .outside; inv = I .inv }
 
   -- the free count is the ledger's
   pub free-is : C → D → freeTables G (own G Z I) ≡ f
   unfolding freeTables tablesNeeded
   free-is c d = omega (arith, needed-count G Z (k₀ G Z I) (I .L), pool-count (whole (I .inv) c d) (k₀ G Z I) (root-at G Z I))
 
-  module _ (a b size k : ℕ) (F : Fine G (p .numbers .levels) a b size k) where
+  module _ (a b size k : ℕ) (F : Fine G (p .numbers .levels) (area G Z I) a b size k) where
     abbrev g : ℕ
     g = heightOf G size
 
@@ -265,6 +269,7 @@ module _ (G : Granule) (Z : Sane G) {C D : Type 0} {p : Pool} {B : Ledger} (I : 
           once = (λ m. none-meets (R G Z I) (I .inv .holds) (E .ends) low vacant (mapping g r x) m (ap (anc (entries G) (max g g)) (sym page-is)), I .once);
           T = M tk .T;
           S = M tk .S;
+          outside = λ d m i. ⊎-elim (λ e. subst (OffTables G (area G Z I)) (sym (ap (shown G Z) e ∙ new-shown)) (F .outside)) (I .outside d m) (List·Memᴰ·cases-cons i);
           inv = subst₂ (λ (c d : ℕ). InvIf C D (X G Z I) (readAt G (grown .m)) (placeAt (p .list)) c (M tk .T) (M tk .S) (mapping g d x ∷ I .L) (p .numbers .levels) 0) (omega (arith, M tk .count)) region-is (M tk .inv);
         })
 

@@ -1,7 +1,7 @@
 -- Format and audit: a fresh pool holds the empty ledger, and the audit's answer on a pool that holds a ledger is the ledger's.
 use mathlib.Core.Path.{_≡_, refl, ap, sym, _∙_, subst}
 use mathlib.Core.Bool.{Bool, true, false, cond}
-use mathlib.Core.List.{List, [], _∷_, map, List·Memᴰ}
+use mathlib.Core.List.{List, [], _∷_, map, List·Memᴰ, List·Memᴰ·not-nil}
 use Prim.Native.Nat.{ℕ, zero, suc, _+_, _-_, _*_, _%_, _≤_, _<_}
 use native.Mathlib.Omega.{arith}
 use lib.ListN.{length, getD, replicate, length-replicate, length-map}
@@ -47,6 +47,7 @@ module _ (G : Granule) (Z : Sane G) where
     once = tt;
     T = λ _ _. 0;
     S = Rattle.tree.specs.Fresh.S₀ X₀ (levels - 1) (root-height G Z p good) (g .some-table);
+    outside = λ _ m i. absurd (List·Memᴰ·not-nil i);
     inv = fresh X₀ (levels - 1) (root-height G Z p good) (g .some-table) (readAt G (p .words)) (placeAt (p .list)) (λ t i. zero-at (length ws) _) (λ i l. getD-down (total area) i (omega arith));
   }
     where

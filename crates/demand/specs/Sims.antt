@@ -18,7 +18,7 @@ use Rattle.entry.specs.declared.Entry.the-variants.{Empty, Table, Frame, Damage
 use Rattle.model.specs.Answers as answers
 use Rattle.model.specs.Answers.{Pool}
 use Rattle.model.specs.Sound as sound
-use Rattle.model.specs.Sound.{SoundPool, SoundEntry, SoundTable, wordAt, reachedOf, mappingsOf}
+use Rattle.model.specs.Sound.{SoundPool, SoundEntry, SoundTable, wordAt, reachedOf, mappingsOf, OffTables}
 use Rattle.model.specs.Audit.{ofPool, ofTable, freeOf}
 use Rattle.model.specs.Ledger.{Ledger}
 use Rattle.tree.specs.Tree.{Ent, Geo}
@@ -66,7 +66,8 @@ module _ (G : Granule) (Z : Sane G) where
       x : a.x ≡ b.x
       x = omega (arith, ap (λ (m : answers.Mapping). m .frame) e, ap (λ (m : answers.Mapping). m .attributes) e)
 
-  -- a pool, the ledger of its mappings, and the tree between them; of entries and of the free list no more than C and D ask
+  -- a pool, the ledger of its mappings, and the tree between them; of entries no more than C asks, and of the free list and of frames beside the tables
+  -- no more than D
   pub record SimIf (C D : Type 0) (p : Pool) (A : Ledger) : Type 0 where
     pub good : GoodSetup G (p .numbers) (length (p .words)) (length (p .list))
     pub levels-are : p .numbers .levels ≡ A .levels
@@ -76,6 +77,7 @@ module _ (G : Granule) (Z : Sane G) where
     pub once : Distinct L
     pub T : ℕ → ℕ → ℕ
     pub S : ℕ → ℕ → Ent
+    pub outside : D → (m : Mapping) → List·Memᴰ m L → OffTables G (areaOf (p .numbers)) (shown G Z m)
     pub inv : InvIf C D (geo G Z (areaOf (p .numbers)) (p .numbers .levels) (good .numbers .placed)) (readAt G (p .words)) (placeAt (p .list)) (p .numbers .free) T S L (p .numbers .levels) 0
 
   -- a pool and the ledger that it holds
@@ -161,11 +163,12 @@ module _ (G : Granule) (Z : Sane G) where
         at : (i : ℕ) → i < p .numbers .free → getD (freeOf p) i 0 ≡ placeAt (p .list) i
         at i l = getD-take (p .numbers .free) (p .list) i 0 l
 
-    pub accepts-sound : Accepts X W (placeAt (p .list)) (p .numbers .free) k → SoundPool G p
-    accepts-sound a = record {
+    pub accepts-sound : Accepts X W (placeAt (p .list)) (p .numbers .free) k → sound.Each (OffTables G area) (mappingsOf G p) → SoundPool G p
+    accepts-sound a o = record {
       tree = table-from k 0 (a .sound);
       once = subst Distinct (sym reached-is) (a .distinct);
       used = λ t m ne z. ⊎-elim (λ e. ne e) (λ b. a .alive t b z) (List·Memᴰ·cases-cons (to-reached t m));
+      outside = o;
       free-once = (place-distinct (freeOf p) (λ i j b c e. a .once i j (omega (arith, free-long)) (omega (arith, free-long)) (sym (at i (omega (arith, free-long))) ∙ e ∙ at j (omega (arith, free-long)))));
       free-range = λ t m. let (i, l, e) = of-free t m in subst (λ (x : ℕ). x < n) e (a .range i l);
       free-apart = λ t m b. let (i, l, e) = of-free t m in a .apart i l (Memᴰ·cast e (to-reached t b));
@@ -219,6 +222,7 @@ module _ (G : Granule) (Z : Sane G) where
     once = unshown (D .0) (subst Distinct (D .1) (H .once));
     T = Rattle.tree.specs.Audit.Tᵃ X₀ W₀ k₀;
     S = Rattle.tree.specs.Audit.Sᵃ X₀ W₀ k₀;
+    outside = λ _ m i. H .sound .outside (shown G Z m) (subst (λ (l : List answers.Mapping). List·Memᴰ (shown G Z m) l) (sym (mappings-are p (H .good))) (Memᴰ·map (shown G Z) (D .2 m i)));
     inv = relist (accepted (root-height p (H .good)) (sound-accepts p (H .good) (H .sound))) to (D .2);
   }
     where
@@ -255,6 +259,7 @@ module _ (G : Granule) (Z : Sane G) where
     once = maps-distinct inv₀ k₀ top₀;
     T = Rattle.tree.specs.Audit.Tᵃ X₀ W₀ k₀;
     S = Rattle.tree.specs.Audit.Sᵃ X₀ W₀ k₀;
+    outside = λ d. absurd d;
     inv = inv₀;
   }
     where
@@ -308,12 +313,17 @@ module _ (G : Granule) (Z : Sane G) where
     sim-listed m a = let (b, c, e) = Memᴰ·of-map (shown G Z) (maps (seen X₁ W₁ k₁)) (subst (λ (l : List answers.Mapping). List·Memᴰ m l) (mappings-are p (I .good)) a) in
         subst (λ (l : List answers.Mapping). List·Memᴰ m l) (sym (I .live-is)) (Memᴰ·cast (sym e) (Memᴰ·map (shown G Z) (maps-live (I .inv) k₁ (root-height p (I .good)) b c)))
 
+    -- and where D holds, none of their frames shares a byte with the tables
+    pub sim-outside : D → sound.Each (OffTables G (areaOf (p .numbers))) (mappingsOf G p)
+    sim-outside d m a = let (b, c, e) = Memᴰ·of-map (shown G Z) (maps (seen X₁ W₁ k₁)) (subst (λ (l : List answers.Mapping). List·Memᴰ m l) (mappings-are p (I .good)) a) in
+        subst (OffTables G (areaOf (p .numbers))) e (I .outside d b (maps-live (I .inv) k₁ (root-height p (I .good)) b c))
+
   pub sim-holds : {p : Pool} {A : Ledger} → Sim p A → Holds G p A
   sim-holds {p} {A} I = record {
     good = I .good;
     levels-are = I .levels-are;
     area-is = I .area-is;
-    sound = accepts-sound p (I .good) (accepts (I .inv) (p .numbers .levels - 1) (root-height p (I .good)));
+    sound = accepts-sound p (I .good) (accepts (I .inv) (p .numbers .levels - 1) (root-height p (I .good))) (sim-outside I tt);
     live = sim-live I;
     listed = sim-listed I;
     once = subst Distinct (sym (I .live-is)) (distinct-map (shown G Z) (I .L) (I .once) (λ a b _ _ e. shown-injective a b e));

@@ -12,7 +12,7 @@ use Rattle.laws.specs.Lists.{down}
 use borrow.Author.Tests.{leb-true, leb-false, eqb-true}
 use Rattle.path.specs.Geometry.{Granule, four, entries, pageSize, sizeAt, spaceOf, physical, heightOf, Sane}
 use Rattle.path.specs.Laws.{four-sane, good-numbers}
-use Rattle.path.specs.Areas.{Area, areaOf, total, GoodArea}
+use Rattle.path.specs.Areas.{Area, areaOf, total, GoodArea, meetsArea}
 use Rattle.path.specs.Numbers.{noSetup, setupOf, goodNumbers, GoodNumbers}
 use Rattle.model.specs.Answers.{Answer, formatted, took, gave, found, audited, refused, Mapping, mapping, Pool, pool, Done, done, refuse}
 use Rattle.model.specs.Calls.{walkTo, formatW, queryW, mapTests, mapAt, mapW, unmapTests, unmapAt, unmapW}
@@ -33,15 +33,15 @@ module _ (G : Granule) (Z : Sane G) where
   module _ {p : Pool} {A : Ledger} (I : Sim G Z p A) where
     map-step : (a b size k : ℕ) → Alike G Z (mapW G p a b size k) (mapL G (own G Z I) a b size k)
     unfolding mapW mapL
-    map-step a b size k = rw (pool-good G Z I) (go (eqb (mapTests G (p .numbers .levels) a b size k) 0) refl)
+    map-step a b size k = rw (pool-good G Z I) (go (eqb (mapTests G (p .numbers .levels) (areaOf (p .numbers)) a b size k) 0) refl)
       where
         no : ℕ
-        no = mapTests G (p .numbers .levels) a b size k
+        no = mapTests G (p .numbers .levels) (areaOf (p .numbers)) a b size k
 
         go : (y : Bool) → eqb no 0 ≡ y
             → Alike G Z (cond y (mapAt G p a b (heightOf G size) k (walkTo G p (heightOf G size) a) (walkTo G p (heightOf G size) a .entry)) (refuse no p))
             (cond y (ledgerMap G (own G Z I) a b size k) (entered (refused no) (own G Z I)))
-        go true e = map-alike G Z I a b size k (tests-fine G (p .numbers .levels) a b size k (eqb-true no 0 e)) tt tt (walkTo G p (heightOf G size) a .entry) refl
+        go true e = map-alike G Z I a b size k (tests-fine G (p .numbers .levels) (areaOf (p .numbers)) a b size k (eqb-true no 0 e)) tt tt (walkTo G p (heightOf G size) a .entry) refl
         go false e = record { answer = refl; sim = own-sim G Z I }
 
     -- unmap's tests say that the address is in the space
@@ -112,31 +112,32 @@ module _ (G : Granule) (Z : Sane G) where
   answers-alike (c ∷ cs) I = let S = step-alike I c in let a = S .answer in let b = answers-alike cs (S .sim) in λ i. a i ∷ b i
 
   -- a ledger never answers 8
-  small : (x : ℕ) → x ≤ 5 → refused x ≢ refused 8
-  small x l e = let z : x ≡ 8 = cc in omega arith
+  another : (x : ℕ) → x ≢ 8 → refused x ≢ refused 8
+  another x l e = let z : x ≡ 8 = cc in l z
 
-  tests-small : (levels a b size k : ℕ) → mapTests G levels a b size k ≤ 5
+  map-other : (levels : ℕ) (area : Area) (a b size k : ℕ) → mapTests G levels area a b size k ≢ 8
   unfolding mapTests
-  tests-small levels a b size k = go (ltb (G .large) (heightOf G size)) (ltb 15 k) (leb (spaceOf G levels) a) (ltb (spaceOf G levels) (a + size)) (ltb physical (b + size)) (eqb (a % size) 0) (eqb (b % size) 0)
+  map-other levels area a b size k = go (ltb (G .large) (heightOf G size)) (ltb 15 k) (leb (spaceOf G levels) a) (ltb (spaceOf G levels) (a + size)) (ltb physical (b + size)) (eqb (a % size) 0) (eqb (b % size) 0) (meetsArea G area b size)
     where
-      go : (x₁ x₂ x₃ x₄ x₅ x₆ x₇ : Bool) → cond x₁ 2 (cond x₂ 3 (cond x₃ 4 (cond x₄ 4 (cond x₅ 4 (cond x₆ (cond x₇ 0 5) 5))))) ≤ 5
-      go true x₂ x₃ x₄ x₅ x₆ x₇ = omega arith
-      go false true x₃ x₄ x₅ x₆ x₇ = omega arith
-      go false false true x₄ x₅ x₆ x₇ = omega arith
-      go false false false true x₅ x₆ x₇ = omega arith
-      go false false false false true x₆ x₇ = omega arith
-      go false false false false false false x₇ = omega arith
-      go false false false false false true false = omega arith
-      go false false false false false true true = omega arith
+      go : (x₁ x₂ x₃ x₄ x₅ x₆ x₇ x₈ : Bool) → _≢_ {A = ℕ} (cond x₁ 2 (cond x₂ 3 (cond x₃ 4 (cond x₄ 4 (cond x₅ 4 (cond x₆ (cond x₇ (cond x₈ 11 0) 5) 5)))))) 8
+      go true x₂ x₃ x₄ x₅ x₆ x₇ x₈ = λ e. omega arith
+      go false true x₃ x₄ x₅ x₆ x₇ x₈ = λ e. omega arith
+      go false false true x₄ x₅ x₆ x₇ x₈ = λ e. omega arith
+      go false false false true x₅ x₆ x₇ x₈ = λ e. omega arith
+      go false false false false true x₆ x₇ x₈ = λ e. omega arith
+      go false false false false false false x₇ x₈ = λ e. omega arith
+      go false false false false false true false x₈ = λ e. omega arith
+      go false false false false false true true true = λ e. omega arith
+      go false false false false false true true false = λ e. omega arith
 
-  unmap-small : (levels a : ℕ) → unmapTests G levels a ≤ 5
+  unmap-other : (levels a : ℕ) → unmapTests G levels a ≢ 8
   unfolding unmapTests
-  unmap-small levels a = go (leb (spaceOf G levels) a) (eqb (a % pageSize G) 0)
+  unmap-other levels a = go (leb (spaceOf G levels) a) (eqb (a % pageSize G) 0)
     where
-      go : (x y : Bool) → cond x 4 (cond y 0 5) ≤ 5
-      go true y = omega arith
-      go false true = omega arith
-      go false false = omega arith
+      go : (x y : Bool) → _≢_ {A = ℕ} (cond x 4 (cond y 0 5)) 8
+      go true y = λ e. omega arith
+      go false true = λ e. omega arith
+      go false false = λ e. omega arith
 
   -- what holds of both answers holds of the one that a test chooses
   either : (b : Bool) (x y : Entered) → x .answer ≢ refused 8 → y .answer ≢ refused 8 → cond b x y .answer ≢ refused 8
@@ -151,23 +152,23 @@ module _ (G : Granule) (Z : Sane G) where
   ask-never-eight A (query a) = go (leb (spaceOf G (A .levels)) a) (coverOf a (A .live))
     where
       go : (y : Bool) (m : Option Mapping) → cond y (refused 4) (queryOf G A a m) ≢ refused 8
-      go true m = small 4 (omega arith)
+      go true m = another 4 (λ e. omega arith)
       go false none = other (λ e. cc)
       go false (some m) = other (λ e. cc)
   ask-never-eight A audit = other (λ e. cc)
 
   never-eight : (A : Ledger) (c : Call) → stepL G A c .answer ≢ refused 8
   unfolding formatL mapL unmapL unmapOf
-  never-eight A (formatC l r) = either (goodNumbers G l r (entries G * total (A .area)) (total (A .area))) (entered formatted (ledger l r [])) (entered (refused 1) A) (other (λ e. cc)) (small 1 (omega arith))
+  never-eight A (formatC l r) = either (goodNumbers G l r (entries G * total (A .area)) (total (A .area))) (entered formatted (ledger l r [])) (entered (refused 1) A) (other (λ e. cc)) (another 1 (λ e. omega arith))
   never-eight A (mapC a b s k) =
-      let no = mapTests G (A .levels) a b s k in
+      let no = mapTests G (A .levels) (A .area) a b s k in
       let need = tablesLacking G (A .levels) (A .live) (mapping a b s k) in
       let taken = entered (took need) (withLive A (mapping a b s k ∷ A .live)) in
       either (eqb no 0) (ledgerMap G A a b s k) (entered (refused no) A)
       (either (anyOverlap a s (A .live)) (entered (refused 6) A) (cond (ltb (freeTables G A) need) (entered (refused 7) A) taken) (other (λ e. cc))
       (either (ltb (freeTables G A) need) (entered (refused 7) A) taken (other (λ e. cc)) (other (λ e. cc))))
-      (small no (tests-small (A .levels) a b s k))
-  never-eight A (unmapC a) = either (eqb (unmapTests G (A .levels) a) 0) (unmapOf G A a (coverOf a (A .live))) (entered (refused (unmapTests G (A .levels) a)) A) (on (coverOf a (A .live))) (small (unmapTests G (A .levels) a) (unmap-small (A .levels) a))
+      (another no (map-other (A .levels) (A .area) a b s k))
+  never-eight A (unmapC a) = either (eqb (unmapTests G (A .levels) a) 0) (unmapOf G A a (coverOf a (A .live))) (entered (refused (unmapTests G (A .levels) a)) A) (on (coverOf a (A .live))) (another (unmapTests G (A .levels) a) (unmap-other (A .levels) a))
     where
       on : (m : Option Mapping) → unmapOf G A a m .answer ≢ refused 8
       on none = other (λ e. cc)

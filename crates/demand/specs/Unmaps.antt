@@ -177,6 +177,7 @@ module _ (G : Granule) (Z : Sane G) {C D : Type 0} {p : Pool} {B : Ledger} (I : 
       once = distinct-without h r (I .L) (I .once);
       T = cut .T;
       S = cut .S;
+      outside = λ d m i. I .outside d m (without-gives h r m (I .L) i .0);
       inv = cut .inv;
     })
 

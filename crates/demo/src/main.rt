@@ -75,6 +75,9 @@ fn refused(k: u64) {
     if k == 10 {
         text(b": no mapping starts there");
     }
+    if k == 11 {
+        text(b": the frame shares a byte with the pool");
+    }
     text(b".\n");
 }
 
@@ -277,6 +280,11 @@ fn no_table_is_left(s: Setup, words: &mut Words, list: &mut List) -> Setup {
     unmap(s, words, list, 0x4000_1000)
 }
 
+fn scan_asks_for_its_tables(s: Setup, words: &mut Words, list: &mut List) -> Setup {
+    text(b"\nNo guest is given its own tables: the page of table 1 is refused.\n");
+    map(s, words, list, 0x2000, 0x4000_1000, PAGE, 3)
+}
+
 fn scan_gives_back(s: Setup, words: &mut Words, list: &mut List) -> Setup {
     text(b"\nThe scan guest gives up all that it has, and every table comes back.\n");
     let s = unmap(s, words, list, 0x4000_0000);
@@ -298,6 +306,7 @@ fn main() {
     let s = scan_starts(s, &mut words, &mut list);
     let s = scan_asks_for_too_much(s, &mut words, &mut list);
     let s = no_table_is_left(s, &mut words, &mut list);
+    let s = scan_asks_for_its_tables(s, &mut words, &mut list);
     let s = scan_gives_back(s, &mut words, &mut list);
     scan_asks_again(s, &mut words, &mut list);
 }

@@ -118,7 +118,7 @@ fn attrs_in(w: u64) -> u64
 }
 
 // The base that a word has: bits 47:12.
-fn base_in(w: u64) -> u64
+pub fn base_in(w: u64) -> u64
     ensures { λ r. ⌜ r ≡ baseIn w ⌝ }
 {
     w % path::PHYSICAL - w % BELOW_BASE

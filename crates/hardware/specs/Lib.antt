@@ -11,3 +11,5 @@ pub mod UnmapSeen
 pub mod Theorem
 pub mod Meanings
 pub mod Examples
+pub mod Isolation
+pub mod Isolated

@@ -79,8 +79,8 @@ module _ (G : Granule) (Z : Sane G) {p : Pool} {B : Ledger} (I : Sim G Z p B) (a
 
   -- ---- what the call has found
 
-  F : Fine G top a b size k
-  F = tests-fine G top a b size k (Y .tests)
+  F : Fine G top (areaOf (p .numbers)) a b size k
+  F = tests-fine G top (areaOf (p .numbers)) a b size k (Y .tests)
 
   E : Ended G Z (area G Z I) top (al G Z I) (few G Z I) (p .words) (R G Z I) a g (k₀ G Z I) o
   E = walk-ended G Z I g a (low G Z I a b size k F) (F .start-in)

@@ -65,7 +65,7 @@ module _ (G : Granule) (p : Pool) where
     -- an accepted map: no test refuses, the walk ended at an empty entry, and there are tables to take
     pub record Took : Type 0 where
       pub good : goodPool G p ≡ true
-      pub tests : mapTests G (p .numbers .levels) a b size k ≡ 0
+      pub tests : mapTests G (p .numbers .levels) (areaOf (p .numbers)) a b size k ≡ 0
       pub vacant : o .entry ≡ Empty
       pub room : need ≤ f
       pub may : mayTake (p .list) (total (areaOf (p .numbers))) (o .tables) f need ≡ true
@@ -83,7 +83,7 @@ module _ (G : Granule) (p : Pool) where
     map-view = first (goodPool G p) refl
       where
         no : ℕ
-        no = mapTests G (p .numbers .levels) a b size k
+        no = mapTests G (p .numbers .levels) (areaOf (p .numbers)) a b size k
 
         may : Bool
         may = mayTake (p .list) (total (areaOf (p .numbers))) (o .tables) f need
@@ -250,7 +250,7 @@ module _ (G : Granule) (A : Ledger) where
   map-live a b size k = by A M (eqb no 0) other (entered (refused no) A) (by A M met six rest refl (by A M short seven taken refl refl)) refl
     where
       no : ℕ
-      no = mapTests G (A .levels) a b size k
+      no = mapTests G (A .levels) (A .area) a b size k
 
       need : ℕ
       need = tablesLacking G (A .levels) (A .live) (mapping a b size k)

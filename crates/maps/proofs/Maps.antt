@@ -35,13 +35,13 @@ module _ (G : Granule) (p : Pool) (a b size k : ℕ) {r : Bool} (e : r ≡ goodP
   unfolding mapW
   map-bad n = rw (sym e ∙ not-true _ n)
 
-  module _ (n : not r ≡ false) {no : ℕ} (t : no ≡ mapTests G (p .numbers .levels) a b size k) where
+  module _ (n : not r ≡ false) {no : ℕ} (t : no ≡ mapTests G (p .numbers .levels) (areaOf (p .numbers)) a b size k) where
     pub map-refuses : no ≢ 0 → refuse no p ≡ mapW G p a b size k
     unfolding mapW
     map-refuses z = rw (passed e n, ← t, ne-eqb no 0 z)
 
   -- no test refused
-  pub map-from : goodPool G p ≡ true → mapTests G (p .numbers .levels) a b size k ≡ 0 → {h : ℕ} → h ≡ heightOf G size → mapFrom G p a b h k ≡ mapW G p a b size k
+  pub map-from : goodPool G p ≡ true → mapTests G (p .numbers .levels) (areaOf (p .numbers)) a b size k ≡ 0 → {h : ℕ} → h ≡ heightOf G size → mapFrom G p a b h k ≡ mapW G p a b size k
   unfolding mapW
   map-from g t d = rw (g, t, ← d)
 

@@ -8,6 +8,7 @@ use native.Mathlib.Omega.{arith}
 use borrow.Author.Tests.{not-true, not-false, lt-ltb, le-ltb, ltb-false, le-leb, lt-leb, eq-eqb, ne-eqb}
 use lib.Dec.{ltb, leb, eqb}
 use Rattle.path.specs.Geometry.{Granule, Sane, sizeAt, physical, atLevel, goodLevels, spaceOf, heightOf}
+use Rattle.path.specs.Areas.{Area, meetsArea}
 use Rattle.path.specs.Laws.{size-pos, size-fits, level-some, height-size, in-space, past-space}
 use Rattle.model.specs.Calls.{mapTests}
 
@@ -27,25 +28,25 @@ module _ (G : Granule) (S : Sane G) (size : ℕ) {h : ℕ} (e : h ≡ heightOf G
   rest-is x d = d ∙ level-some G (omega (arith, S)) (x % sizeAt G h) ∙ ap (λ (y : ℕ). x % y) is-size
 
 -- the tests, in their order
-module _ (G : Granule) (levels a b size k : ℕ) {h : ℕ} (e : h ≡ heightOf G size) where
-  pub refuses-size : G .large < h → 2 ≡ mapTests G levels a b size k
+module _ (G : Granule) (levels : ℕ) (area : Area) (a b size k : ℕ) {h : ℕ} (e : h ≡ heightOf G size) where
+  pub refuses-size : G .large < h → 2 ≡ mapTests G levels area a b size k
   unfolding mapTests
   refuses-size l = rw (← e, lt-ltb _ _ l)
 
   module _ (l : h ≤ G .large) where
-    pub refuses-attributes : 15 < k → 3 ≡ mapTests G levels a b size k
+    pub refuses-attributes : 15 < k → 3 ≡ mapTests G levels area a b size k
     unfolding mapTests
     refuses-attributes m = rw (← e, le-ltb _ _ l, lt-ltb _ _ m)
 
     module _ (m : k ≤ 15) (some : 1 ≤ size) {inside : Bool} (s : inside ≡ (goodLevels G levels && leb (a + size) (spaceOf G levels))) where
-      pub refuses-space : not inside ≡ true → 4 ≡ mapTests G levels a b size k
+      pub refuses-space : not inside ≡ true → 4 ≡ mapTests G levels area a b size k
       unfolding mapTests
       refuses-space n = go (decLt a (spaceOf G levels))
         where
           past : spaceOf G levels < a + size
           past = past-space G levels a size (sym s ∙ not-true _ n) some
 
-          go : Dec (a < spaceOf G levels) → 4 ≡ mapTests G levels a b size k
+          go : Dec (a < spaceOf G levels) → 4 ≡ mapTests G levels area a b size k
           go (yes p) = rw (← e, le-ltb _ _ l, le-ltb _ _ m, lt-leb _ _ p, lt-ltb _ _ past)
           go (no p) = let q : spaceOf G levels ≤ a = omega arith in rw (← e, le-ltb _ _ l, le-ltb _ _ m, le-leb _ _ q)
 
@@ -56,44 +57,52 @@ module _ (G : Granule) (levels a b size k : ℕ) {h : ℕ} (e : h ≡ heightOf G
         starts : a < spaceOf G levels
         starts = omega (arith, ends)
 
-        pub refuses-frame : physical < b + size → 4 ≡ mapTests G levels a b size k
+        pub refuses-frame : physical < b + size → 4 ≡ mapTests G levels area a b size k
         unfolding mapTests
         refuses-frame r = rw (← e, le-ltb _ _ l, le-ltb _ _ m, lt-leb _ _ starts, le-ltb _ _ ends, lt-ltb _ _ r)
 
         module _ (r : b + size ≤ physical) {x y : ℕ} (u : x ≡ a % size) (v : y ≡ b % size) where
-          pub refuses-unaligned : (x + y ≢ 0) → 5 ≡ mapTests G levels a b size k
+          pub refuses-unaligned : (x + y ≢ 0) → 5 ≡ mapTests G levels area a b size k
           unfolding mapTests
           refuses-unaligned f = go (ℕ-discrete (a % size) 0)
             where
-              go : Dec (a % size ≡ 0) → 5 ≡ mapTests G levels a b size k
+              go : Dec (a % size ≡ 0) → 5 ≡ mapTests G levels area a b size k
               go (yes z) =
                   let w : b % size ≢ 0 = λ t. f (omega arith) in
                   rw (← e, le-ltb _ _ l, le-ltb _ _ m, lt-leb _ _ starts, le-ltb _ _ ends, le-ltb _ _ r, eq-eqb _ _ z, ne-eqb _ _ w)
               go (no z) = rw (← e, le-ltb _ _ l, le-ltb _ _ m, lt-leb _ _ starts, le-ltb _ _ ends, le-ltb _ _ r, ne-eqb _ _ z)
 
-          pub refuses-nothing : x + y ≡ 0 → 0 ≡ mapTests G levels a b size k
-          unfolding mapTests
-          refuses-nothing f =
-              let z : a % size ≡ 0 = omega arith in
-              let w : b % size ≡ 0 = omega arith in
-              rw (← e, le-ltb _ _ l, le-ltb _ _ m, lt-leb _ _ starts, le-ltb _ _ ends, le-ltb _ _ r, eq-eqb _ _ z, eq-eqb _ _ w)
+          module _ (f : x + y ≡ 0) {met : Bool} (t : met ≡ meetsArea G area b size) where
+            -- no test but the last refuses
+            last-left : mapTests G levels area a b size k ≡ cond met 11 0
+            unfolding mapTests
+            last-left =
+                let z : a % size ≡ 0 = omega arith in
+                let w : b % size ≡ 0 = omega arith in
+                rw (← e, le-ltb _ _ l, le-ltb _ _ m, lt-leb _ _ starts, le-ltb _ _ ends, le-ltb _ _ r, eq-eqb _ _ z, eq-eqb _ _ w, ← t)
+
+            pub refuses-pool : met ≡ true → 11 ≡ mapTests G levels area a b size k
+            refuses-pool q = sym (last-left ∙ ap (λ (x : Bool). cond x 11 0) q)
+
+            pub refuses-nothing : met ≡ false → 0 ≡ mapTests G levels area a b size k
+            refuses-nothing q = sym (last-left ∙ ap (λ (x : Bool). cond x 11 0) q)
 
 -- where no test refuses, the size has a height, and the frame ends within the physical addresses
-pub passed-size : (G : Granule) (levels a b size k : ℕ) → mapTests G levels a b size k ≡ 0 → heightOf G size ≤ G .large
+pub passed-size : (G : Granule) (levels : ℕ) (area : Area) (a b size k : ℕ) → mapTests G levels area a b size k ≡ 0 → heightOf G size ≤ G .large
 unfolding mapTests
-passed-size G levels a b size k e = go (decLt (G .large) (heightOf G size))
+passed-size G levels area a b size k e = go (decLt (G .large) (heightOf G size))
   where
     go : Dec (G .large < heightOf G size) → heightOf G size ≤ G .large
-    go (yes l) = absurd (omega (arith, refuses-size G levels a b size k refl l ∙ e))
+    go (yes l) = absurd (omega (arith, refuses-size G levels area a b size k refl l ∙ e))
     go (no n) = omega arith
 
-pub passed-frame : (G : Granule) (levels a b size k : ℕ) → mapTests G levels a b size k ≡ 0 → b + size ≤ physical
+pub passed-frame : (G : Granule) (levels : ℕ) (area : Area) (a b size k : ℕ) → mapTests G levels area a b size k ≡ 0 → b + size ≤ physical
 unfolding mapTests
-passed-frame G levels a b size k e =
+passed-frame G levels area a b size k e =
     go (ltb (G .large) (heightOf G size)) (ltb 15 k) (leb (spaceOf G levels) a) (ltb (spaceOf G levels) (a + size)) (ltb physical (b + size)) refl e
   where
     rest : ℕ
-    rest = cond (eqb (a % size) 0) (cond (eqb (b % size) 0) 0 5) 5
+    rest = cond (eqb (a % size) 0) (cond (eqb (b % size) 0) (cond (meetsArea G area b size) 11 0) 5) 5
 
     go : (p q r s t : Bool) → ltb physical (b + size) ≡ t → _≡_ {A = ℕ} (cond p 2 (cond q 3 (cond r 4 (cond s 4 (cond t 4 rest))))) 0 → b + size ≤ physical
     go false false false false false f e = ltb-false physical (b + size) f

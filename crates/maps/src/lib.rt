@@ -9,7 +9,7 @@ ghost use mathlib.Core.Bool.{true};
 ghost use Prim.Native.Nat.{ℕ, _+_, _-_, _≤_};
 ghost use lib.ListN.{length};
 ghost use Rattle.path.specs.Geometry.{four, physical, heightOf};
-ghost use Rattle.path.specs.Areas.{areaAt};
+ghost use Rattle.path.specs.Areas.{areaAt, areaOf};
 ghost use Rattle.path.specs.Numbers.{goodSetup};
 ghost use Rattle.entry.specs.Words.{frameWord};
 ghost use Rattle.entry.specs.declared.Entry.the-variants.{Empty};
@@ -21,17 +21,10 @@ ghost use Rattle.lookup.specs.Walks.{walkBy};
 ghost use Rattle.plans.specs.Plan.{planned};
 ghost use Rattle.maps.specs.Parts.{metBy, mapFrom};
 
-// Map's tests 2 to 5, or 0, for a size of this height.
-fn map_tests(
-    levels: u64,
-    address: u64,
-    frame: u64,
-    size: u64,
-    height: usize,
-    attributes: u64,
-) -> u64
+// Map's tests 2 to 5 and then 11, or 0, for a size of this height.
+fn map_tests(s: Setup, address: u64, frame: u64, size: u64, height: usize, attributes: u64) -> u64
     requires { ⌜ height ≡ heightOf four size ⌝ }
-    ensures { λ r. ⌜ r ≡ mapTests four levels address frame size attributes ⌝ }
+    ensures { λ r. ⌜ r ≡ mapTests four (s .levels) (areaOf s) address frame size attributes ⌝ }
 {
     if height > 2 {
         return 2;
@@ -39,14 +32,19 @@ fn map_tests(
     if attributes > 15 {
         return 3;
     }
-    if !path::in_space(levels, address, size) {
+    if !path::in_space(s.levels, address, size) {
         return 4;
     }
     if frame > path::PHYSICAL - size {
         return 4;
     }
-    if path::rest_at(address, height) + path::rest_at(frame, height) != 0 {
+    let rest = path::rest_at(address, height) + path::rest_at(frame, height);
+    let met = path::meets_area(s.base, s.tables, frame, size);
+    if rest != 0 {
         return 5;
+    }
+    if met {
+        return 11;
     }
     0
 }
@@ -206,7 +204,7 @@ fn map_walk(
     }
 }
 
-// A mapping of `size` addresses from `address` on to a frame. Answers the tables taken, or a refusal: 1 to 8.
+// A mapping of `size` addresses from `address` on to a frame. Answers the tables taken, or a refusal: 1 to 8, or 11.
 pub fn map(
     s: Setup,
     words: &mut [u64],
@@ -223,7 +221,7 @@ pub fn map(
         return map_refused(1, s);
     }
     let height = path::height_of(size);
-    let no = map_tests(s.levels, address, frame, size, height, attributes);
+    let no = map_tests(s, address, frame, size, height, attributes);
     if no != 0 {
         return map_refused(no, s);
     }

@@ -6,7 +6,7 @@ use lib.Dec.{ltb, eqb}
 use lib.ListN.{length, take}
 use Rattle.laws.specs.Lists.{part, allZero, distinct}
 use Rattle.path.specs.Geometry.{Granule, entries, sizeAt}
-use Rattle.path.specs.Areas.{Area, areaOf, total}
+use Rattle.path.specs.Areas.{Area, areaOf, total, meetsArea}
 use Rattle.entry.specs.Words.{entryAt}
 use Rattle.entry.specs.declared.Entry.{Entry}
 use Rattle.entry.specs.declared.Entry.the-variants.{Empty, Table, Frame, Damaged}
@@ -74,12 +74,17 @@ unfoldable pub freeSound : Granule → List ℕ → ℕ → List ℕ → Bool
 freeSound G ws n [] = true
 freeSound G ws n (t ∷ ts) = ltb t n && (allZero (tableWords G ws t) && freeSound G ws n ts)
 
--- the audit's rules: every reached entry is sound and no table below the root is empty; no table is reached twice, no free number stands twice or is
--- reached; free numbers are in range and their tables all zero; free + reached are all
+-- no frame of these mappings shares a byte with the tables
+unfoldable pub noneInside : Granule → Area → List Mapping → Bool
+noneInside G area [] = true
+noneInside G area (m ∷ L) = not (meetsArea G area (m .frame) (m .size)) && noneInside G area L
+
+-- the audit's rules: every reached entry is sound, no table below the root is empty and no frame shares a byte with the tables; no table is reached
+-- twice, no free number stands twice or is reached; free numbers are in range and their tables all zero; free + reached are all
 unfoldable pub soundPool : Granule → Pool → Bool
 soundPool G p =
     let o = ofPool G p in
-    (o .ok && o .full)
+    (noneInside G (areaOf (p .numbers)) (o .mappings) && (o .ok && o .full))
     && (distinct (o .reached ++ freeOf p)
     && (freeSound G (p .words) (total (areaOf (p .numbers))) (freeOf p)
     && eqb (length (o .reached) + p .numbers .free) (total (areaOf (p .numbers)))))

@@ -9,22 +9,22 @@ use native.Mathlib.Decide.{decLt}
 use native.Mathlib.Omega.{arith}
 use lib.Dec.{eqb, ltb}
 use lib.ListN.{length, getD, take, drop, replicate, length-replicate, take-append-drop, List·getD-eq-default}
-use borrow.Author.Tests.{eq-eqb, eqb-true, eqb-false, lt-ltb, ltb-true}
+use borrow.Author.Tests.{eq-eqb, eqb-true, eqb-false, lt-ltb, ltb-true, not-true}
 use Rattle.laws.specs.Lists.{part, allZero, distinct, down, Distinct}
 use Rattle.laws.specs.ListLaws.{length-part-le, getD-part, allZero-at, allZero-replicate, allZero-part-at, allZero-part-of, mem-at, at-mem, distinct-head, distinct-tail, distinct-cons, distinct-append, distinct-left, distinct-right, distinct-apart, length-down, distinct-down}
 use Rattle.path.specs.Geometry.{Granule, Sane, entries}
-use Rattle.path.specs.Areas.{Area, areaOf, total}
+use Rattle.path.specs.Areas.{Area, areaOf, total, meetsArea}
 use Rattle.path.specs.Numbers.{noSetup, setupOf, goodNumbers, GoodNumbers}
-use Rattle.path.specs.Laws.{good-numbers, good-setup, setup-good}
+use Rattle.path.specs.Laws.{good-numbers, good-setup, setup-good, meets-apart, apart-meets}
 use Rattle.entry.specs.Words.{entryAt}
 use Rattle.entry.specs.Laws.{entry-zero, table-only}
 use Rattle.entry.specs.declared.Entry.{Entry}
 use Rattle.entry.specs.declared.Entry.the-variants.{Empty, Table, Frame, Damaged}
-use Rattle.model.specs.Answers.{formatted, audited, refused, Pool, pool, Done, done, refuse}
+use Rattle.model.specs.Answers.{Mapping, formatted, audited, refused, Pool, pool, Done, done, refuse}
 use Rattle.model.specs.Walk.{slot}
 use Rattle.model.specs.Calls.{goodPool, formatW}
-use Rattle.model.specs.Audit.{Found, nothing, _⊕_, tableWords, ofEntry, ofEntries, ofVisit, ofTable, ofPool, freeOf, freeSound, soundPool, auditW}
-use Rattle.model.specs.Sound.{Each, wordAt, SoundEntry, SoundTable, EmptyTable, reachedOf, mappingsOf, SoundPool}
+use Rattle.model.specs.Audit.{Found, nothing, _⊕_, tableWords, ofEntry, ofEntries, ofVisit, ofTable, ofPool, freeOf, freeSound, noneInside, soundPool, auditW}
+use Rattle.model.specs.Sound.{Each, wordAt, SoundEntry, SoundTable, EmptyTable, reachedOf, mappingsOf, OffTables, SoundPool}
 
 -- ---- each member of a list
 
@@ -269,6 +269,21 @@ module _ (G : Granule) (ws : List ℕ) (n : ℕ) where
   free-some (t ∷ l) r z =
       rw (lt-ltb t n (r t (here refl)), zero-some G ws t (z t (here refl))) (free-some l (λ u m. r u (there m)) (λ u m. z u (there m)))
 
+-- ---- frames and the tables
+
+module _ (G : Granule) (area : Area) where
+  inside-back : (l : List Mapping) → noneInside G area l ≡ true → Each (OffTables G area) l
+  unfolding noneInside
+  inside-back [] e = each-nil (OffTables G area)
+  inside-back (m ∷ l) e =
+      let (a, b) = and-eq-true-iff (not (meetsArea G area (m .frame) (m .size))) _ .0 e in
+      each-cons (OffTables G area) m l (meets-apart (not-true (meetsArea G area (m .frame) (m .size)) a)) (inside-back l b)
+
+  inside-some : (l : List Mapping) → Each (OffTables G area) l → noneInside G area l ≡ true
+  unfolding noneInside
+  inside-some [] f = refl
+  inside-some (m ∷ l) f = rw (apart-meets (f m (here refl))) (inside-some l (λ k i. f k (there i)))
+
 -- ---- the rules
 
 module _ (G : Granule) (p : Pool) where
@@ -277,7 +292,8 @@ module _ (G : Granule) (p : Pool) where
   unfolding soundPool
   sound-only e =
       let R = reachedOf G p in
-      let (w, e₁) = and-eq-true-iff (ofPool G p .ok && ofPool G p .full) _ .0 e in
+      let (q, e₁) = and-eq-true-iff (noneInside G (areaOf (p .numbers)) (mappingsOf G p) && (ofPool G p .ok && ofPool G p .full)) _ .0 e in
+      let (i, w) = and-eq-true-iff (noneInside G (areaOf (p .numbers)) (mappingsOf G p)) _ .0 q in
       let (o, y) = and-eq-true-iff (ofPool G p .ok) (ofPool G p .full) .0 w in
       let (d, e₂) = and-eq-true-iff (distinct (R ++ freeOf p)) _ .0 e₁ in
       let (f, c) = and-eq-true-iff (freeSound G (p .words) (total (areaOf (p .numbers))) (freeOf p)) _ .0 e₂ in
@@ -286,6 +302,7 @@ module _ (G : Granule) (p : Pool) where
         tree = table-back G (p .words) (areaOf (p .numbers)) (p .numbers .levels - 1) 0 0 o;
         once = distinct-back R (distinct-left R (freeOf p) d);
         used = table-used G (p .words) (areaOf (p .numbers)) (p .numbers .levels - 1) 0 0 y;
+        outside = inside-back G (areaOf (p .numbers)) (mappingsOf G p) i;
         free-once = distinct-back (freeOf p) (distinct-right R (freeOf p) d);
         free-range = λ t m. z t m .0;
         free-apart = λ t m k. distinct-apart R (freeOf p) d t k m;
@@ -300,10 +317,11 @@ module _ (G : Granule) (p : Pool) where
       let R = reachedOf G p in
       let o = table-some G (p .words) (areaOf (p .numbers)) (p .numbers .levels - 1) 0 0 (s .tree) in
       let y = table-full G (p .words) (areaOf (p .numbers)) (p .numbers .levels - 1) 0 0 (s .used) in
+      let i = inside-some G (areaOf (p .numbers)) (mappingsOf G p) (s .outside) in
       let d = distinct-append R (freeOf p) (distinct-some R (s .once)) (distinct-some (freeOf p) (s .free-once)) (λ t m k. s .free-apart t k m) in
       let f = free-some G (p .words) (total (areaOf (p .numbers))) (freeOf p) (s .free-range) (s .free-zero) in
       let c : length R + p .numbers .free ≡ total (areaOf (p .numbers)) = omega (arith, s .total) in
-      and-eq-true-iff _ _ .1 (and-eq-true-iff _ _ .1 (o, y), and-eq-true-iff _ _ .1 (d, and-eq-true-iff _ _ .1 (f, eq-eqb _ _ c)))
+      and-eq-true-iff _ _ .1 (and-eq-true-iff _ _ .1 (i, and-eq-true-iff _ _ .1 (o, y)), and-eq-true-iff _ _ .1 (d, and-eq-true-iff _ _ .1 (f, eq-eqb _ _ c)))
 
   -- the audit's test is exactly the rules
   pub exact : (soundPool G p ≡ true) ↔ SoundPool G p
@@ -380,7 +398,7 @@ module _ (G : Granule) (levels : ℕ) (area : Area) (n k : ℕ) (is : total area
   only-root = empty-root G (replicate k 0) area (levels - 1) 0 (all-empty 0)
 
   pub fresh-sound : soundPool G fresh ≡ true
-  unfolding soundPool
+  unfolding soundPool noneInside
   fresh-sound =
       let F = take n (down (suc n)) in
       let d : distinct F ≡ true = distinct-left F (drop n (down (suc n))) (rw (take-append-drop n (down (suc n))) (distinct-down (suc n))) in

@@ -6,7 +6,7 @@ use lib.Dec.{ltb, leb, eqb}
 use lib.ListN.{length, replicate}
 use Rattle.laws.specs.Lists.{down}
 use Rattle.path.specs.Geometry.{Granule, pageSize, sizeAt, physical, spaceOf, heightOf}
-use Rattle.path.specs.Areas.{Area, areaOf, total}
+use Rattle.path.specs.Areas.{Area, areaOf, total, meetsArea}
 use Rattle.path.specs.Numbers.{noSetup, setupOf, withFree, goodNumbers, goodSetup}
 use Rattle.path.specs.Paths.{baseAt, pathOf}
 use Rattle.path.specs.declared.Setup.{Setup}
@@ -53,15 +53,15 @@ queryW G p a =
     (let o = walkTo G p 0 a in foundAt G a (o .entry) (o .left)))
     (refused 1)
 
--- Map: the tests 2 to 5 of its arguments, or 0
-unfoldable pub mapTests : Granule → ℕ → ℕ → ℕ → ℕ → ℕ → ℕ
-mapTests G levels a b size k =
+-- Map: the tests 2 to 5 of its arguments and then 11, or 0
+unfoldable pub mapTests : Granule → ℕ → Area → ℕ → ℕ → ℕ → ℕ → ℕ
+mapTests G levels area a b size k =
     cond (ltb (G .large) (heightOf G size)) 2
     (cond (ltb 15 k) 3
     (cond (leb (spaceOf G levels) a) 4
     (cond (ltb (spaceOf G levels) (a + size)) 4
     (cond (ltb physical (b + size)) 4
-    (cond (eqb (a % size) 0) (cond (eqb (b % size) 0) 0 5) 5)))))
+    (cond (eqb (a % size) 0) (cond (eqb (b % size) 0) (cond (meetsArea G area b size) 11 0) 5) 5)))))
 
 -- the walk ended at an empty entry that lacks `need` tables down to the frame's height g
 unfoldable pub mapHere : Granule → Pool → ℕ → ℕ → ℕ → ℕ → Walked → ℕ → Done
@@ -83,7 +83,7 @@ mapAt G p a b g k o Damaged = refuse 8 p
 unfoldable pub mapW : Granule → Pool → ℕ → ℕ → ℕ → ℕ → Done
 mapW G p a b size k =
     cond (goodPool G p)
-    (let no = mapTests G (p .numbers .levels) a b size k in
+    (let no = mapTests G (p .numbers .levels) (areaOf (p .numbers)) a b size k in
     cond (eqb no 0) (let o = walkTo G p (heightOf G size) a in mapAt G p a b (heightOf G size) k o (o .entry)) (refuse no p))
     (refuse 1 p)
 

@@ -7,7 +7,7 @@ use mathlib.Core.List.{[], _∷_}
 use lib.ListN.{getD, replicate}
 use Rattle.laws.specs.Lists.{down, part, zeroed, allZero, among}
 use Rattle.path.specs.Geometry.{four, sizeAt, goodLevels, spaceOf, seek, heightOf}
-use Rattle.path.specs.Areas.{areaAt}
+use Rattle.path.specs.Areas.{areaAt, meetsArea}
 use Rattle.path.specs.Numbers.{goodNumbers, goodSetup}
 use Rattle.path.specs.Paths.{indexAt, baseAt, indices, pathOf}
 use Rattle.entry.specs.Words.{typeAt, frameWord, tableWord, childAt, frameAt, entryAt}
@@ -33,7 +33,7 @@ format levels =
 
 -- a map, and an unmap, of what a call left
 unfoldable pub map : Both → ℕ → ℕ → ℕ → ℕ → Both
-unfolding goodSetup sizeAt spaceOf seek heightOf mapTests indexAt indices pathOf typeAt frameWord tableWord childAt frameAt entryAt among onward walkFrom zeroed performAll mapWrites mayTake mapHere mapAt mapW baseAt anyOverlap regionsOf hasRegion newRegions regionsNeeded tablesNeeded tablesLacking freeTables mapL
+unfolding goodSetup sizeAt spaceOf seek heightOf meetsArea mapTests indexAt indices pathOf typeAt frameWord tableWord childAt frameAt entryAt among onward walkFrom zeroed performAll mapWrites mayTake mapHere mapAt mapW baseAt anyOverlap regionsOf hasRegion newRegions regionsNeeded tablesNeeded tablesLacking freeTables mapL
 map B a b size k = record { pool = mapW four (B .pool .after) a b size k; ledger = mapL four (B .ledger .after) a b size k }
 
 unfoldable pub unmap : Both → ℕ → Both

@@ -119,7 +119,7 @@ formatL G A levels area =
 -- Map: 6 exactly where the range overlaps a live mapping, 7 exactly where more new tables are needed than are free
 unfoldable pub mapL : Granule → Ledger → ℕ → ℕ → ℕ → ℕ → Entered
 mapL G A a b size k =
-    let no = mapTests G (A .levels) a b size k in
+    let no = mapTests G (A .levels) (A .area) a b size k in
     cond (eqb no 0)
     (cond (anyOverlap a size (A .live)) (entered (refused 6) A)
     (let need = tablesLacking G (A .levels) (A .live) (mapping a b size k) in

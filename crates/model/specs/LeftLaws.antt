@@ -76,7 +76,7 @@ module _ (G : Granule) (p : Pool) where
     unfolding mapW
     map-leaves =
         let o = walkTo G p (heightOf G size) a in
-        let no = mapTests G (p .numbers .levels) a b size k in
+        let no = mapTests G (p .numbers .levels) (areaOf (p .numbers)) a b size k in
         chosen (goodPool G p) _ (refuse 1 p)
         (chosen (eqb no 0) (mapAt G p a b (heightOf G size) k o (o .entry)) (refuse no p) (map-at (heightOf G size) o (o .entry)) (λ _. as-it-was))
         (λ _. as-it-was)

@@ -13,10 +13,10 @@ use borrow.Author.Tests.{ltb-true, ltb-false, leb-true, leb-false, eqb-true, eqb
 use Rattle.laws.specs.Lists.{part, among}
 use Rattle.laws.specs.ListLaws.{length-part-le, getD-part, allZero-at, allZero-of, among-mem, not-among}
 use Rattle.path.specs.Geometry.{four, sizeAt, goodLevels, spaceOf, seek, heightOf, physical}
-use Rattle.path.specs.Areas.{Area, areaAt, areaOf, total, GoodArea}
+use Rattle.path.specs.Areas.{Area, areaAt, areaOf, total, GoodArea, meetsArea}
 use Rattle.path.specs.Numbers.{noSetup, goodNumbers, goodSetup, GoodNumbers}
 use Rattle.path.specs.Paths.{baseAt, pathOf}
-use Rattle.path.specs.Laws.{four-sane, no-frame, height-most, height-size, good-numbers, good-setup}
+use Rattle.path.specs.Laws.{four-sane, no-frame, height-most, height-size, good-numbers, good-setup, meets-shares, meets-apart}
 use Rattle.entry.specs.Words.{entryAt}
 use Rattle.entry.specs.Laws.{table-only}
 use Rattle.entry.specs.declared.Entry.{Entry}
@@ -31,7 +31,7 @@ use Rattle.model.specs.Audit.{soundPool, auditW}
 use Rattle.model.specs.AuditLaws.{sound-only, sound-all, audit-counts}
 use Rattle.model.specs.Sound.{wordAt, reachedOf, mappingsOf, SoundPool}
 use Rattle.model.specs.DescentLaws.{clash}
-use Rattle.model.specs.Refusals.{Broken, Breaks, NoSize, NoAttributes, NotBelow, Above, Outside, Misplaced, Occupied, Damage, Vacant}
+use Rattle.model.specs.Refusals.{Broken, Breaks, NoSize, NoAttributes, NotBelow, Above, Outside, Misplaced, InPool, Occupied, Damage, Vacant}
 use Rattle.model.specs.Refusals.{mapWalk, needed, taken, BadTaken, BadList, lastWalk, OffPage, OffStart, Starts, Emptied, GivesBack, FullList}
 use Rattle.model.specs.Refusals.{Row, row, First, None, mapTable, unmapTable, queryTable, auditTable, formatTable}
 use Rattle.model.specs.Refusals.{bare, withHole, ByTable, FormatNumbers, WellFormedMap, MapNumbers, UnmapNumbers, QueryNumbers, AuditNumbers}
@@ -508,19 +508,31 @@ module _ (p : Pool) (a b size k : ℕ) where
   walk-told Damaged q = miss (⊎-elim (λ (c, d, z). clash (cc)) (λ (c, z). clash (cc))) (hit q)
   walk-told Empty q = miss (⊎-elim (λ (c, d, z). clash (cc)) (λ (c, z). clash (cc))) (miss (λ z. clash (cc)) here-told)
 
-  abbrev number : Bool → Bool → Bool → Bool → Bool → Bool → Bool → ℕ
-  number x₁ x₂ x₃ x₄ x₅ x₆ x₇ = cond x₁ 2 (cond x₂ 3 (cond x₃ 4 (cond x₄ 4 (cond x₅ 4 (cond x₆ (cond x₇ 0 5) 5)))))
+  -- whether the frame shares a byte with the tables
+  abbrev inPool : Bool
+  inPool = meetsArea four (areaOf (p .numbers)) b size
 
-  abbrev Arguments : List Row → List Row
-  Arguments rows = row 2 (NoSize size) ∷ row 3 (NoAttributes k) ∷ row 4 (Outside (p .numbers .levels) a b size) ∷ row 5 (Misplaced a b size) ∷ rows
+  pub in-pool : inPool ≡ true → InPool (p .numbers .base) (p .numbers .tables) b size
+  in-pool e = let S = meets-shares e in record { byte = S .byte; frame-starts = S .starts; frame-ends = S .ends; pool-starts = S .inside .0; pool-ends = S .inside .1 }
+
+  pub off-pool : inPool ≡ false → InPool (p .numbers .base) (p .numbers .tables) b size → ⊥
+  off-pool e i = meets-apart e (record { byte = i .byte; starts = i .frame-starts; ends = i .frame-ends; inside = (i .pool-starts, i .pool-ends) })
+
+  -- the tests from 4 on
+  abbrev number : Bool → Bool → Bool → Bool → Bool → Bool → ℕ
+  number x₃ x₄ x₅ x₆ x₇ x₈ = cond x₃ 4 (cond x₄ 4 (cond x₅ 4 (cond x₆ (cond x₇ (cond x₈ 11 0) 5) 5)))
+
+  abbrev Places : List Row
+  Places = row 5 (Misplaced a b size) ∷ row 11 (InPool (p .numbers .base) (p .numbers .tables) b size) ∷ Walks
+
+  abbrev Arguments : List Row
+  Arguments = row 2 (NoSize size) ∷ row 3 (NoAttributes k) ∷ row 4 (Outside (p .numbers .levels) a b size) ∷ Places
 
   tests-told : (p .numbers .levels ≡ 3) ⊎ (p .numbers .levels ≡ 4) → (d : Done) → Told Walks bare p Took d
-      → Told (Arguments Walks) bare p Took
-      (cond (eqb (mapTests four (p .numbers .levels) a b size k) 0) d (refuse (mapTests four (p .numbers .levels) a b size k) p))
+      → Told Arguments bare p Took
+      (cond (eqb (mapTests four (p .numbers .levels) (areaOf (p .numbers)) a b size k) 0) d (refuse (mapTests four (p .numbers .levels) (areaOf (p .numbers)) a b size k) p))
   unfolding mapTests
-  tests-told levels d T =
-      go (ltb 2 g) (ltb 15 k) (leb space a) (ltb space (a + size)) (ltb physical (b + size)) (eqb (a % size) 0) (eqb (b % size) 0)
-      refl refl refl refl refl refl refl
+  tests-told levels d T = go (ltb 2 g) (ltb 15 k) refl refl
     where
       l : ℕ
       l = p .numbers .levels
@@ -528,38 +540,46 @@ module _ (p : Pool) (a b size k : ℕ) where
       space : ℕ
       space = spaceOf four (p .numbers .levels)
 
-      go : (x₁ x₂ x₃ x₄ x₅ x₆ x₇ : Bool) → ltb 2 g ≡ x₁ → ltb 15 k ≡ x₂ → leb space a ≡ x₃ → ltb space (a + size) ≡ x₄ → ltb physical (b + size) ≡ x₅
-          → eqb (a % size) 0 ≡ x₆ → eqb (b % size) 0 ≡ x₇
-          → Told (Arguments Walks) bare p Took (cond (eqb (number x₁ x₂ x₃ x₄ x₅ x₆ x₇) 0) d (refuse (number x₁ x₂ x₃ x₄ x₅ x₆ x₇) p))
-      go true x₂ x₃ x₄ x₅ x₆ x₇ e₁ e₂ e₃ e₄ e₅ e₆ e₇ = hit (no-size size e₁)
-      go false true x₃ x₄ x₅ x₆ x₇ e₁ e₂ e₃ e₄ e₅ e₆ e₇ = miss (some-size size e₁) (hit (ltb-true 15 k e₂))
-      go false false x₃ x₄ x₅ x₆ x₇ e₁ e₂ e₃ e₄ e₅ e₆ e₇ =
-          miss (some-size size e₁) (miss (λ m. omega (arith, ltb-false 15 k e₂)) (range x₃ x₄ x₅ e₃ e₄ e₅))
-        where
-          aligned : (x₆ x₇ : Bool) → eqb (a % size) 0 ≡ x₆ → eqb (b % size) 0 ≡ x₇
-              → Told (row 5 (Misplaced a b size) ∷ Walks) bare p Took (cond (eqb (cond x₆ (cond x₇ 0 5) 5) 0) d (refuse (cond x₆ (cond x₇ 0 5) 5) p))
-          aligned false x₇ e₆ e₇ = hit (inl (eqb-false (a % size) 0 e₆))
-          aligned true false e₆ e₇ = hit (inr (eqb-false (b % size) 0 e₇))
-          aligned true true e₆ e₇ = miss (⊎-elim (λ z. z (eqb-true (a % size) 0 e₆)) (λ z. z (eqb-true (b % size) 0 e₇))) T
+      -- what a test that gives this number comes to
+      by : ℕ → Done
+      by n = cond (eqb n 0) d (refuse n p)
 
-          within : leb space a ≡ false → ltb space (a + size) ≡ false → ltb physical (b + size) ≡ false → Outside l a b size → ⊥
-          within e₃ e₄ e₅ (starts-outside z) = is-below l a e₃ z
-          within e₃ e₄ e₅ (ends-outside z) = not-above l (a + size) e₄ z
-          within e₃ e₄ e₅ (frame-outside z) = let m = ltb-false (2 ^ 48) (b + size) e₅ in omega arith
+      placed : (x₆ x₇ x₈ : Bool) → eqb (a % size) 0 ≡ x₆ → eqb (b % size) 0 ≡ x₇ → inPool ≡ x₈
+          → Told Places bare p Took (by (cond x₆ (cond x₇ (cond x₈ 11 0) 5) 5))
+      placed false x₇ x₈ e₆ e₇ e₈ = hit (inl (eqb-false (a % size) 0 e₆))
+      placed true false x₈ e₆ e₇ e₈ = hit (inr (eqb-false (b % size) 0 e₇))
+      placed true true true e₆ e₇ e₈ =
+          miss (⊎-elim (λ z. z (eqb-true (a % size) 0 e₆)) (λ z. z (eqb-true (b % size) 0 e₇))) (hit (in-pool e₈))
+      placed true true false e₆ e₇ e₈ =
+          miss (⊎-elim (λ z. z (eqb-true (a % size) 0 e₆)) (λ z. z (eqb-true (b % size) 0 e₇))) (miss (off-pool e₈) T)
 
-          range : (x₃ x₄ x₅ : Bool) → leb space a ≡ x₃ → ltb space (a + size) ≡ x₄ → ltb physical (b + size) ≡ x₅
-              → Told (row 4 (Outside l a b size) ∷ row 5 (Misplaced a b size) ∷ Walks) bare p Took (cond (eqb (number false false x₃ x₄ x₅ x₆ x₇) 0) d (refuse (number false false x₃ x₄ x₅ x₆ x₇) p))
-          range true x₄ x₅ e₃ e₄ e₅ = hit (starts-outside (not-below l a levels e₃))
-          range false true x₅ e₃ e₄ e₅ = hit (ends-outside (above l (a + size) levels e₄))
-          range false false true e₃ e₄ e₅ = hit (frame-outside (ltb-true (2 ^ 48) (b + size) e₅))
-          range false false false e₃ e₄ e₅ = miss (within e₃ e₄ e₅) (aligned x₆ x₇ e₆ e₇)
+      within : leb space a ≡ false → ltb space (a + size) ≡ false → ltb physical (b + size) ≡ false → Outside l a b size → ⊥
+      within e₃ e₄ e₅ (starts-outside z) = is-below l a e₃ z
+      within e₃ e₄ e₅ (ends-outside z) = not-above l (a + size) e₄ z
+      within e₃ e₄ e₅ (frame-outside z) = let m = ltb-false (2 ^ 48) (b + size) e₅ in omega arith
+
+      range : (x₃ x₄ x₅ : Bool) → leb space a ≡ x₃ → ltb space (a + size) ≡ x₄ → ltb physical (b + size) ≡ x₅
+          → Told (row 4 (Outside l a b size) ∷ Places) bare p Took (by (number x₃ x₄ x₅ (eqb (a % size) 0) (eqb (b % size) 0) inPool))
+      range true x₄ x₅ e₃ e₄ e₅ = hit (starts-outside (not-below l a levels e₃))
+      range false true x₅ e₃ e₄ e₅ = hit (ends-outside (above l (a + size) levels e₄))
+      range false false true e₃ e₄ e₅ = hit (frame-outside (ltb-true (2 ^ 48) (b + size) e₅))
+      range false false false e₃ e₄ e₅ = miss (within e₃ e₄ e₅) (placed (eqb (a % size) 0) (eqb (b % size) 0) inPool refl refl refl)
+
+      go : (x₁ x₂ : Bool) → ltb 2 g ≡ x₁ → ltb 15 k ≡ x₂
+          → Told Arguments bare p Took
+          (by (cond x₁ 2 (cond x₂ 3 (number (leb space a) (ltb space (a + size)) (ltb physical (b + size)) (eqb (a % size) 0) (eqb (b % size) 0) inPool))))
+      go true x₂ e₁ e₂ = hit (no-size size e₁)
+      go false true e₁ e₂ = miss (some-size size e₁) (hit (ltb-true 15 k e₂))
+      go false false e₁ e₂ =
+          miss (some-size size e₁)
+          (miss (λ m. omega (arith, ltb-false 15 k e₂)) (range (leb space a) (ltb space (a + size)) (ltb physical (b + size)) refl refl refl))
 
   map-told : Told (mapTable p a b size k) bare p Took (mapW four p a b size k)
   unfolding mapW
   map-told = go (goodPool four p) refl
     where
       no : ℕ
-      no = mapTests four (p .numbers .levels) a b size k
+      no = mapTests four (p .numbers .levels) (areaOf (p .numbers)) a b size k
 
       go : (x : Bool) → goodPool four p ≡ x → Told (mapTable p a b size k) bare p Took (cond x (cond (eqb no 0) (mapAt four p a b g k o (o .entry)) (refuse no p)) (refuse 1 p))
       go true e = miss (good-keeps p e) (tests-told (three-or-four p e) (mapAt four p a b g k o (o .entry)) (walk-told (o .entry) refl))
@@ -880,12 +900,13 @@ map-numbers p a b size k = record {
   no-3 = Iff·trans (row-of T 2 3 refl) (λ (x, (y, z)). (x, y, z), λ (x, y, z). (x, (y, z)));
   no-4 = Iff·trans (row-of T 3 4 refl) (λ (x, (y, (z, v))). (x, y, z, v), λ (x, y, z, v). (x, (y, (z, v))));
   no-5 = Iff·trans (row-of T 4 5 refl) (λ (x, (y, (z, (v, u)))). (x, y, z, v, u), λ (x, y, z, v, u). (x, (y, (z, (v, u)))));
-  no-6 = Iff·trans (row-of T 5 6 refl) (λ (x, (y, (z, (v, (u, m))))). ((x, y, z, v, u), m), λ ((x, y, z, v, u), m). (x, (y, (z, (v, (u, m))))));
-  no-7 = Iff·trans (row-of T 7 7 refl) (
-    λ (x, (y, (z, (v, (u, (m, (d, l))))))). ((x, y, z, v, u), vacant m d, l),
-    λ ((x, y, z, v, u), m, l). (x, (y, (z, (v, (u, (free m, (sound m, l))))))),
+  no-11 = Iff·trans (row-of T 5 11 refl) (λ (x, (y, (z, (v, (u, i))))). (x, y, z, v, u, i), λ (x, y, z, v, u, i). (x, (y, (z, (v, (u, i))))));
+  no-6 = Iff·trans (row-of T 6 6 refl) (λ (x, (y, (z, (v, (u, (i, m)))))). ((x, y, z, v, u, i), m), λ ((x, y, z, v, u, i), m). (x, (y, (z, (v, (u, (i, m)))))));
+  no-7 = Iff·trans (row-of T 8 7 refl) (
+    λ (x, (y, (z, (v, (u, (i, (m, (d, l)))))))). ((x, y, z, v, u, i), vacant m d, l),
+    λ ((x, y, z, v, u, i), m, l). (x, (y, (z, (v, (u, (i, (free m, (sound m, l)))))))),
   );
-  no-8 = Iff·trans (rows-of T 6 8 8 refl) (forth, back);
+  no-8 = Iff·trans (rows-of T 7 9 8 refl) (forth, back);
   accepted = λ t. (λ e. taken-forth t e (by-none (map-told p a b size k) (took t) (λ n v z. clash (cc)) e), taken-back t);
 }
   where
@@ -922,15 +943,15 @@ map-numbers p a b size k = record {
     Eight : Type 0
     Eight = WellFormedMap p a b size k × (Damage W ⊎ (Vacant W × (needed p a size ≤ p .numbers .free) × BadList p a size))
 
-    forth : At (mapTable p a b size k) 6 ⊎ At (mapTable p a b size k) 8 → Eight
-    forth (inl (x, (y, (z, (v, (u, (m, d))))))) = ((x, y, z, v, u), inl d)
-    forth (inr (x, (y, (z, (v, (u, (m, (d, (l, t))))))))) = ((x, y, z, v, u), inr (vacant m d, enough l, t))
+    forth : At (mapTable p a b size k) 7 ⊎ At (mapTable p a b size k) 9 → Eight
+    forth (inl (x, (y, (z, (v, (u, (i, (m, d)))))))) = ((x, y, z, v, u, i), inl d)
+    forth (inr (x, (y, (z, (v, (u, (i, (m, (d, (l, t)))))))))) = ((x, y, z, v, u, i), inr (vacant m d, enough l, t))
 
-    back : Eight → At (mapTable p a b size k) 6 ⊎ At (mapTable p a b size k) 8
-    back ((x, y, z, v, u), m) =
+    back : Eight → At (mapTable p a b size k) 7 ⊎ At (mapTable p a b size k) 9
+    back ((x, y, z, v, u, i), m) =
         ⊎-elim
-        (λ d. inl (x, (y, (z, (v, (u, (unmet d, d)))))))
-        (λ (e, l, t). inr (x, (y, (z, (v, (u, (free e, (sound e, (few l, t)))))))))
+        (λ d. inl (x, (y, (z, (v, (u, (i, (unmet d, d))))))))
+        (λ (e, l, t). inr (x, (y, (z, (v, (u, (i, (free e, (sound e, (few l, t))))))))))
         m
 
     Takes : ℕ → Type 0
@@ -940,8 +961,8 @@ map-numbers p a b size k = record {
     same e = cc
 
     taken-forth : (t : ℕ) → mapW four p a b size k .answer ≡ took t → None (mapTable p a b size k) × Took p a b size k (mapW four p a b size k) → Takes t
-    taken-forth t e ((x, (y, (z, (v, (u, (m, (d, (l, (r, _))))))))), q) = ((x, y, z, v, u), vacant m d, enough l, r, same (sym e ∙ q))
+    taken-forth t e ((x, (y, (z, (v, (u, (i, (m, (d, (l, (r, _)))))))))), q) = ((x, y, z, v, u, i), vacant m d, enough l, r, same (sym e ∙ q))
 
     taken-back : (t : ℕ) → Takes t → mapW four p a b size k .answer ≡ took t
-    taken-back t ((x, y, z, v, u), m, l, r, e) =
-        none-by (map-told p a b size k) (x, (y, (z, (v, (u, (free m, (sound m, (few l, (r, tt))))))))) ∙ ap took (sym e)
+    taken-back t ((x, y, z, v, u, i), m, l, r, e) =
+        none-by (map-told p a b size k) (x, (y, (z, (v, (u, (i, (free m, (sound m, (few l, (r, tt)))))))))) ∙ ap took (sym e)

@@ -61,6 +61,14 @@ pub data Outside (levels a b size : ℕ) : Type 0 where
 abbrev pub Misplaced : ℕ → ℕ → ℕ → Type 0
 Misplaced a b size = (a % size ≢ 0) ⊎ (b % size ≢ 0)
 
+-- 11: the frame shares a byte with base to base + 4096 × tables
+pub record InPool (base tables b size : ℕ) : Type 0 where
+  pub byte : ℕ
+  pub frame-starts : b ≤ byte
+  pub frame-ends : byte < b + size
+  pub pool-starts : base ≤ byte
+  pub pool-ends : byte < base + 4096 * tables
+
 -- Where a walk ends is in Descent, in the paper's words; DescentLaws says that `walkTo` ends there.
 -- 6: the walk meets a frame, or the target entry is a table or a frame
 abbrev pub Occupied : Walked → Type 0
@@ -153,6 +161,7 @@ mapTable p a b size k =
     ∷ row 3 (NoAttributes k)
     ∷ row 4 (Outside (p .numbers .levels) a b size)
     ∷ row 5 (Misplaced a b size)
+    ∷ row 11 (InPool (p .numbers .base) (p .numbers .tables) b size)
     ∷ row 6 (Occupied (mapWalk p a size))
     ∷ row 8 (Damage (mapWalk p a size))
     ∷ row 7 (p .numbers .free < needed p a size)
@@ -206,10 +215,15 @@ pub record FormatNumbers (levels base tables : ℕ) (ws list : List ℕ) : Type 
   pub no-1 : (formatW four levels (areaAt base tables) ws list .answer ≡ refused 1) ↔ Broken levels base tables (length ws) (length list)
   pub accepted : (formatW four levels (areaAt base tables) ws list .answer ≡ formatted) ↔ (¬ Broken levels base tables (length ws) (length list))
 
--- a map is well-formed when none of 1 to 5 applies
+-- a map is well-formed when none of 1 to 5 and 11 applies
 abbrev pub WellFormedMap : Pool → ℕ → ℕ → ℕ → ℕ → Type 0
 WellFormedMap p a b size k =
-    (¬ Breaks p) × (¬ NoSize size) × (¬ NoAttributes k) × (¬ Outside (p .numbers .levels) a b size) × (¬ Misplaced a b size)
+    (¬ Breaks p)
+    × (¬ NoSize size)
+    × (¬ NoAttributes k)
+    × (¬ Outside (p .numbers .levels) a b size)
+    × (¬ Misplaced a b size)
+    × (¬ InPool (p .numbers .base) (p .numbers .tables) b size)
 
 pub record MapNumbers (p : Pool) (a b size k : ℕ) : Type 0 where
   pub no-1 : (mapW four p a b size k .answer ≡ refused 1) ↔ Breaks p
@@ -221,6 +235,14 @@ pub record MapNumbers (p : Pool) (a b size k : ℕ) : Type 0 where
   pub no-5 :
       (mapW four p a b size k .answer ≡ refused 5)
       ↔ ((¬ Breaks p) × (¬ NoSize size) × (¬ NoAttributes k) × (¬ Outside (p .numbers .levels) a b size) × Misplaced a b size)
+  pub no-11 :
+      (mapW four p a b size k .answer ≡ refused 11)
+      ↔ ((¬ Breaks p)
+      × (¬ NoSize size)
+      × (¬ NoAttributes k)
+      × (¬ Outside (p .numbers .levels) a b size)
+      × (¬ Misplaced a b size)
+      × InPool (p .numbers .base) (p .numbers .tables) b size)
   -- then the walk
   pub no-6 : (mapW four p a b size k .answer ≡ refused 6) ↔ (WellFormedMap p a b size k × Occupied (mapWalk p a size))
   -- then the free count, at an empty entry

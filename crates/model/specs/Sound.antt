@@ -6,7 +6,7 @@ use mathlib.Core.List.{List, [], _∷_, List·Memᴰ}
 use lib.ListN.{length, getD}
 use Rattle.laws.specs.Lists.{Distinct}
 use Rattle.path.specs.Geometry.{Granule, entries, sizeAt}
-use Rattle.path.specs.Areas.{Area, areaOf, total}
+use Rattle.path.specs.Areas.{Area, areaOf, total, Shares}
 use Rattle.entry.specs.Words.{entryAt, Framed}
 use Rattle.entry.specs.declared.Entry.{Entry}
 use Rattle.entry.specs.declared.Entry.the-variants.{Empty, Table, Frame, Damaged}
@@ -47,6 +47,10 @@ reachedOf G p = ofPool G p .reached
 abbrev pub mappingsOf : Granule → Pool → List Mapping
 mappingsOf G p = ofPool G p .mappings
 
+-- a mapping's frame shares no byte with the tables
+abbrev pub OffTables : Granule → Area → Mapping → Type 0
+OffTables G area m = ¬ Shares G area (m .frame) (m .size)
+
 pub record SoundPool (G : Granule) (p : Pool) : Type 0 where
   -- every table and every entry that is reached is sound
   pub tree : SoundTable G (p .words) (areaOf (p .numbers)) (p .numbers .levels - 1) 0
@@ -54,6 +58,8 @@ pub record SoundPool (G : Granule) (p : Pool) : Type 0 where
   pub once : Distinct (reachedOf G p)
   -- no table but the root is empty
   pub used : Each (λ t. t ≢ 0 → EmptyTable G (p .words) t → ⊥) (reachedOf G p)
+  -- no frame shares a byte with the tables
+  pub outside : Each (OffTables G (areaOf (p .numbers))) (mappingsOf G p)
   -- free numbers are distinct,
   pub free-once : Distinct (freeOf p)
   -- in range

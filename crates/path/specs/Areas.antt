@@ -1,6 +1,8 @@
 -- Where a pool's tables stand.
-use Prim.Native.Nat.{ℕ, _+_, _*_, _%_, _≤_}
+use Prim.Native.Nat.{ℕ, _+_, _*_, _%_, _≤_, _<_}
 use mathlib.Core.Path.{_≡_}
+use mathlib.Core.Bool.{Bool, _&&_}
+use lib.Dec.{ltb}
 use Rattle.path.specs.Geometry.{Granule, pageSize, physical}
 use Rattle.path.specs.declared.Setup.{Setup}
 
@@ -28,3 +30,19 @@ tableAt G area t = area .base + pageSize G * t
 pub record GoodArea (G : Granule) (area : Area) : Type 0 where
   pub aligned : area .base % pageSize G ≡ 0
   pub fits : area .base + pageSize G * area .tables ≤ physical
+
+-- address x is that of a byte of the tables
+abbrev pub InArea : Granule → Area → ℕ → Type 0
+InArea G area x = (area .base ≤ x) × (x < area .base + pageSize G * area .tables)
+
+-- the size bytes from b on share a byte with the tables
+pub record Shares (G : Granule) (area : Area) (b size : ℕ) : Type 0 where
+  pub byte : ℕ
+  pub starts : b ≤ byte
+  pub ends : byte < b + size
+  pub inside : InArea G area byte
+
+-- The same, computed; Laws says that the two agree. Neither is empty, and each starts before the other ends: an end is the first address past it.
+unfoldable pub meetsArea : Granule → Area → ℕ → ℕ → Bool
+meetsArea G area b size =
+    (ltb 0 size && ltb 0 (area .tables)) && (ltb b (area .base + pageSize G * area .tables) && ltb (area .base) (b + size))

@@ -6,11 +6,11 @@ use mathlib.Core.Bool.{Bool, true, false, cond, _&&_, false≢true}
 use native.Mathlib.Nat.{mul-comm, mul-le-mul-left, mul-lt-mul-of-pos-left, mul-mod-right, le-dest}
 use native.Mathlib.Decide.{decLt, ℕ-discrete}
 use native.Mathlib.Omega.{arith}
-use lib.Dec.{leb, eqb}
+use lib.Dec.{ltb, leb, eqb}
 use lib.Pow.{pow-pos, pow-mono, pow-lt, pow-add}
 use borrow.Author.Tests.{ltb-true, leb-true, leb-false, eqb-true, eqb-false, lt-ltb, le-ltb, le-leb, eq-eqb}
 use Rattle.path.specs.Geometry.{Granule, Sane, four, pageSize, entries, sizeAt, physical, atLevel, goodLevels, spaceOf, seek, heightOf}
-use Rattle.path.specs.Areas.{Area, areaOf, total}
+use Rattle.path.specs.Areas.{Area, areaOf, total, Shares, meetsArea}
 use Rattle.path.specs.Numbers.{mostTables, goodNumbers, goodSetup, GoodNumbers, GoodSetup}
 use Rattle.path.specs.declared.Setup.{Setup}
 
@@ -277,3 +277,45 @@ module _ {G : Granule} {s : Setup} {words places : ℕ} where
 
   pub setup-bad : (GoodSetup G s words places → ⊥) → goodSetup G s words places ≡ false
   setup-bad f = untrue _ (λ e. f (good-setup e))
+
+-- ---- bytes of the tables
+
+module _ {G : Granule} {area : Area} {b size : ℕ} where
+  -- the test is that a byte is shared
+  pub meets-shares : meetsArea G area b size ≡ true → Shares G area b size
+  unfolding meetsArea
+  meets-shares e =
+      let (u, v) = both (ltb 0 size && ltb 0 (area .tables)) _ e in
+      let (x, y) = both (ltb 0 size) (ltb 0 (area .tables)) u in
+      let (l, m) = both (ltb b (area .base + pageSize G * area .tables)) _ v in
+      at (ltb-true 0 size x) (ltb-true 0 (area .tables) y) (ltb-true b _ l) (ltb-true (area .base) (b + size) m) (decLt b (area .base))
+    where
+      at : 0 < size → 0 < area .tables → b < area .base + pageSize G * area .tables → area .base < b + size → Dec (b < area .base) → Shares G area b size
+      at x y l m (yes q) = record {
+        byte = area .base;
+        starts = omega arith;
+        ends = m;
+        inside = (omega arith, omega (arith, page-pos G, mul-lt-mul-of-pos-left {k = pageSize G} y (page-pos G)));
+      }
+      at x y l m (no q) = record { byte = b; starts = omega arith; ends = omega arith; inside = (omega arith, l) }
+
+  pub shares-meets : Shares G area b size → meetsArea G area b size ≡ true
+  unfolding meetsArea
+  shares-meets S =
+      simp (
+        lt-ltb 0 size (omega (arith, S .starts, S .ends)),
+        lt-ltb 0 (area .tables) (some-table (ℕ-discrete (area .tables) 0)),
+        lt-ltb b (area .base + pageSize G * area .tables) (omega (arith, S .starts, S .inside .1)),
+        lt-ltb (area .base) (b + size) (omega (arith, S .ends, S .inside .0)),
+      )
+    where
+      some-table : Dec (area .tables ≡ 0) → 0 < area .tables
+      some-table (yes e) = absurd (omega (arith, S .inside .0, S .inside .1, ap (λ (t : ℕ). pageSize G * t) e))
+      some-table (no d) = omega arith
+
+  -- and where it does not hold, none is
+  pub meets-apart : meetsArea G area b size ≡ false → Shares G area b size → ⊥
+  meets-apart e S = false≢true (sym e ∙ shares-meets S)
+
+  pub apart-meets : (Shares G area b size → ⊥) → meetsArea G area b size ≡ false
+  apart-meets f = untrue _ (λ e. f (meets-shares e))

@@ -4,7 +4,7 @@ ghost use Prim.Native.Nat.{_+_, _%_};
 ghost use mathlib.Core.Bool.{_&&_};
 ghost use lib.Dec.{leb};
 ghost use Rattle.path.specs.Geometry.{four, sizeAt, atLevel, goodLevels, spaceOf, heightOf};
-ghost use Rattle.path.specs.Areas.{areaAt};
+ghost use Rattle.path.specs.Areas.{areaAt, meetsArea};
 ghost use Rattle.path.specs.Numbers.{noSetup, withFree, goodNumbers, goodSetup};
 ghost use Rattle.path.specs.Paths.{indexAt, baseAt, pathOf, addressOf};
 
@@ -109,6 +109,22 @@ pub fn in_space(levels: u64, address: u64, size: u64) -> bool
         return address <= PHYSICAL - size;
     }
     false
+}
+
+// Whether so many bytes from a frame's base on share one with the tables, so many, from base on. No sum is made that could wrap.
+pub fn meets_area(base: u64, tables: u64, frame: u64, size: u64) -> bool
+    ensures { λ r. ⌜ r ≡ meetsArea four (areaAt base tables) frame size ⌝ }
+{
+    if frame < base {
+        if tables == 0 {
+            return false;
+        }
+        return base - frame < size;
+    }
+    if size < 1 {
+        return false;
+    }
+    (frame - base) / PAGE < tables
 }
 
 // The bytes that an entry of a height stands for; 0 where no level has it.

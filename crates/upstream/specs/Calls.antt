@@ -60,7 +60,7 @@ module _ (G : Granule) (p : Pool) where
       o = walkTo G p (heightOf G size) a
 
       no : ℕ
-      no = mapTests G (p .numbers .levels) a b size k
+      no = mapTests G (p .numbers .levels) (areaOf (p .numbers)) a b size k
 
       need : ℕ
       need = lacking G p a size
@@ -116,9 +116,9 @@ module _ (G : Granule) (p : Pool) where
       go true true Damaged q = inl (8, [], refl)
       go true true (Frame b x) q = at b x q (eqb (a % sizeAt G (o .left)) 0) refl (ltb (total (areaOf (p .numbers)) - 1) (p .numbers .free + giving G p a))
 
-  -- a map that succeeds passed its tests: good numbers, 2 to 5, and the tables that it takes
+  -- a map that succeeds passed its tests: good numbers, 2 to 5 and 11, and the tables that it takes
   pub took-passed : (a b size k t : ℕ) → mapW G p a b size k .answer ≡ took t
-      → (goodPool G p ≡ true) × (mapTests G (p .numbers .levels) a b size k ≡ 0)
+      → (goodPool G p ≡ true) × (mapTests G (p .numbers .levels) (areaOf (p .numbers)) a b size k ≡ 0)
       × (mayTake (p .list) (total (areaOf (p .numbers))) (walkTo G p (heightOf G size) a .tables) (p .numbers .free) (lacking G p a size) ≡ true)
   unfolding mapW mapAt mapHere
   took-passed a b size k t = go (goodPool G p) (eqb no 0) (o .entry) refl refl
@@ -127,7 +127,7 @@ module _ (G : Granule) (p : Pool) where
       o = walkTo G p (heightOf G size) a
 
       no : ℕ
-      no = mapTests G (p .numbers .levels) a b size k
+      no = mapTests G (p .numbers .levels) (areaOf (p .numbers)) a b size k
 
       need : ℕ
       need = lacking G p a size

@@ -50,7 +50,7 @@ use Rattle.demand.specs.Queries.{area, n, k₀, al, X, R, own, few, root-at, wa
 use Rattle.demand.specs.Maps.{Fine, tests-fine, met-any, Takes, low, map-after}
 use Rattle.demand.specs.Rest.{table-stands}
 use Rattle.demand.specs.Demand3.{StandsFor}
-use Rattle.upstream.specs.State.{Mappable, UnmapPre}
+use Rattle.upstream.specs.State.{MapPre, UnmapPre}
 use Rattle.model.specs.LedgerLaws.{any-overlap}
 use Rattle.upstream.specs.Calls.{lacking, writesOfMap, took-not, map-does, map-took, took-passed, unmap-gave}
 use Rattle.upstream.specs.Trait.{map-pre, unmap-pre}
@@ -146,8 +146,8 @@ module _ (G : Granule) (Z : Sane G) where
         good : GoodSetup G (p .numbers) (length (p .words)) (length (p .list))
         good = good-setup (took-passed G p (m .at) (m .frame) (m .size) (m .attributes) t e .0)
 
-        F : Fine G (p .numbers .levels) (m .at) (m .frame) (m .size) (m .attributes)
-        F = tests-fine G (p .numbers .levels) (m .at) (m .frame) (m .size) (m .attributes) (took-passed G p (m .at) (m .frame) (m .size) (m .attributes) t e .1)
+        F : Fine G (p .numbers .levels) (areaOf (p .numbers)) (m .at) (m .frame) (m .size) (m .attributes)
+        F = tests-fine G (p .numbers .levels) (areaOf (p .numbers)) (m .at) (m .frame) (m .size) (m .attributes) (took-passed G p (m .at) (m .frame) (m .size) (m .attributes) t e .1)
 
         abbrev went : Walked
         went = walkTo G p (heightOf G (m .size)) (m .at)
@@ -231,9 +231,9 @@ module _ (G : Granule) (Z : Sane G) where
           (λ (_, _, q). let e = ap (λ (d : Done). d .answer) q in insert-adds-path-mapping (lacking G p (m .at) (m .size)) e (new (lacking G p (m .at) (m .size)) e) k .1 (inr i))
           (map-does G p (m .at) (m .frame) (m .size) (m .attributes))
 
-      module _ (good : goodPool G p ≡ true) (ok : Mappable G (p .numbers .levels) m) where
-        tests : mapTests G (p .numbers .levels) (m .at) (m .frame) (m .size) (m .attributes) ≡ 0
-        tests = map-pre G Z (good-setup good .numbers .enough) (good-setup good .numbers .not-more) m .1 ok
+      module _ (good : goodPool G p ≡ true) (ok : MapPre G (ledgerOf G p) m) where
+        tests : mapTests G (p .numbers .levels) (areaOf (p .numbers)) (m .at) (m .frame) (m .size) (m .attributes) ≡ 0
+        tests = map-pre G Z (ledgerOf G p) (good-setup good .numbers .enough) (good-setup good .numbers .not-more) m .1 ok
 
         -- lemma_insert_fails_implies_prefix
         pub insert-fails-implies-prefix : TreeNonempty G p → mapped .answer ≡ refused 6
@@ -253,8 +253,8 @@ module _ (G : Granule) (Z : Sane G) where
             Found : Type 0
             Found = (k : answers.Mapping) × InTree G p k × (Inside (k .at) (k .size) (m .at) (m .size) ⊎ Inside (m .at) (m .size) (k .at) (k .size))
 
-            F₁ : Fine G (p .numbers .levels) (m .at) (m .frame) (m .size) (m .attributes)
-            F₁ = tests-fine G (p .numbers .levels) (m .at) (m .frame) (m .size) (m .attributes) tests
+            F₁ : Fine G (p .numbers .levels) (areaOf (p .numbers)) (m .at) (m .frame) (m .size) (m .attributes)
+            F₁ = tests-fine G (p .numbers .levels) (areaOf (p .numbers)) (m .at) (m .frame) (m .size) (m .attributes) tests
 
             E : Ended G Z (area G Z J) (p .numbers .levels) (al G Z J) (few G Z J) (p .words) (R G Z J) (m .at) g (k₀ G Z J) o₁
             E = walk-ended G Z J g (m .at) (low G Z J (m .at) (m .frame) (m .size) (m .attributes) F₁) (F₁ .start-in)
@@ -263,7 +263,7 @@ module _ (G : Granule) (Z : Sane G) where
             met x =
                 let (k, i, v) = any-overlap (m .at) (m .size) (map (shown G Z) (J .L)) .0 (met-any G Z J (m .at) (m .frame) (m .size) (m .attributes) F₁ x) in
                 let j = subst (λ (l : List answers.Mapping). List·Memᴰ k l) (sym (J .live-is)) i in
-                (k, j, overlap-nested G Z (path-mappings-valid G Z p good k j) ok v)
+                (k, j, overlap-nested G Z (path-mappings-valid G Z p good k j) (ok .mappable) v)
 
             by : (n : Entry) → o₁ .entry ≡ n → mapAt G p (m .at) (m .frame) g (m .attributes) o₁ n .answer ≡ refused 6 → Found
             by (Frame b x) q e = met (frame-meets (R G Z J) (J .inv .holds) (E .ends) (low G Z J (m .at) (m .frame) (m .size) (m .attributes) F₁) (b + x)
@@ -301,7 +301,7 @@ module _ (G : Granule) (Z : Sane G) where
         low : top < 4
         low = omega (arith, good-setup good .numbers .enough, good-setup good .numbers .not-more, Z .most-four)
 
-    module _ (m : answers.Mapping) (ok : Mappable G (p .numbers .levels) m) where
+    module _ (m : answers.Mapping) (ok : MapPre G (ledgerOf G p) m) where
       -- the tables that it would take may be taken: refusals 7, and 8 for the free list, are not given
       pub record Room : Type 0 where
         pub enough : lacking G p (m .at) (m .size) ≤ p .numbers .free
@@ -312,7 +312,7 @@ module _ (G : Granule) (Z : Sane G) where
           → mapW G p (m .at) (m .frame) (m .size) (m .attributes) .answer ≡ took (lacking G p (m .at) (m .size))
       unfolding mapW mapAt mapHere
       empty-entry-implies-insert-ok r e =
-          rw (good, map-pre G Z (good-setup good .numbers .enough) (good-setup good .numbers .not-more) m .1 ok, e, le-ltb (p .numbers .free) (lacking G p (m .at) (m .size)) (r .enough), r .may)
+          rw (good, map-pre G Z (ledgerOf G p) (good-setup good .numbers .enough) (good-setup good .numbers .not-more) m .1 ok, e, le-ltb (p .numbers .free) (lacking G p (m .at) (m .size)) (r .enough), r .may)
 
       -- lemma_empty_implies_insert_ok
       pub empty-implies-insert-ok : Room → EmptyTable G (p .words) 0 → mapW G p (m .at) (m .frame) (m .size) (m .attributes) .answer ≡ took (lacking G p (m .at) (m .size))

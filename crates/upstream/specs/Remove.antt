@@ -203,6 +203,7 @@ module _ (G : Granule) (Z : Sane G) where
         once = distinct-without h r (J .L) (J .once);
         T = upd (J .T) h r 0;
         S = upd (J .S) h r empty;
+        outside = λ d. absurd d;
         inv = record { ren = after .ren; holds = after .holds; dense = λ c. absurd c; spare = λ d. absurd d };
       }
         where
@@ -384,6 +385,7 @@ module _ (G : Granule) (Z : Sane G) where
         once = K .once;
         T = cut .T;
         S = cut .S;
+        outside = λ d. absurd d;
         inv = subst (λ (q : prunes.Pool Tables). InvIf ⊥ ⊥ (X G Z K) (readAt G (q .m)) (placeAt (p .list)) f (cut .T) (cut .S) (K .L) (p .numbers .levels) 0) (sym carried)
             (record { ren = cut .inv .ren; holds = cut .inv .holds; dense = λ c. absurd c; spare = λ d. absurd d });
       }

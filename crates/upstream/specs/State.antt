@@ -5,6 +5,7 @@ use mathlib.Core.List.{[], List·Memᴰ}
 use Prim.Native.Nat.{ℕ, _+_, _-_, _%_, _≤_, _<_}
 use Rattle.path.specs.Geometry.{Granule, pageSize, sizeAt, spaceOf, physical}
 use Rattle.model.specs.Answers.{Mapping, Answer, took, gave, found, refused}
+use Rattle.model.specs.Sound.{OffTables}
 use Rattle.model.specs.Ledger.{Ledger, tablesLacking, freeTables, holeOf, holeAt}
 
 -- `contains_pair`: m is a mapping of the state
@@ -51,6 +52,11 @@ pub record Mappable (G : Granule) (levels : ℕ) (m : Mapping) : Type 0 where
   pub valid : Valid G levels m
   pub few : m .attributes < 16
   pub fits : m .frame + m .size ≤ physical
+
+-- `map_pre`: what map asks of a new mapping, all of that and, by refusal 11, a frame that shares no byte with the tables
+pub record MapPre (G : Granule) (A : Ledger) (m : Mapping) : Type 0 where
+  pub mappable : Mappable G (A .levels) m
+  pub outside : OffTables G (A .area) m
 
 -- `wf`: each mapping is valid, and two that share a byte are one
 pub record Wf (G : Granule) (A : Ledger) : Type 0 where

@@ -9,8 +9,8 @@ use native.Mathlib.Omega.{arith}
 use lib.Dec.{ltb, leb, eqb}
 use borrow.Author.Tests.{ltb-true, ltb-false, leb-false, eqb-true, eqb-false, le-ltb, le-leb, lt-leb, eq-eqb}
 use Rattle.path.specs.Geometry.{Granule, pageSize, sizeAt, spaceOf, physical, heightOf, Sane}
-use Rattle.path.specs.Areas.{Area, areaOf, total, tableAt, GoodArea}
-use Rattle.path.specs.Laws.{size-pos, size-divides, height-size, size-height, space-some, setup-good}
+use Rattle.path.specs.Areas.{Area, areaOf, total, tableAt, GoodArea, Shares, meetsArea}
+use Rattle.path.specs.Laws.{size-pos, size-divides, height-size, size-height, space-some, setup-good, shares-meets, apart-meets}
 use Rattle.path.specs.RegionLaws.{multiple-gap}
 use Rattle.model.specs.Answers.{Mapping, Answer, formatted, took, gave, found, refused, Pool, Done, refuse}
 use Rattle.model.specs.Calls.{goodPool, walkTo, formatW, mapTests, mapAt, mapW, unmapTests, unmapAt, unmapW, queryW}
@@ -23,7 +23,7 @@ use Rattle.demand.specs.Maps.{tests-fine}
 use Rattle.demand.specs.Others.{accepted-holds}
 use Rattle.demand.specs.Demand3.{mapC, unmapC, queryC}
 use Rattle.demand.specs.Theorem.{rests, step-holds, from-format}
-use Rattle.upstream.specs.State.{Has, StartsAt, Overlap, Within, OverlapsVmem, SameMappings, SameConstants, Mappable, Wf, Maps, UnmapPre, Unmaps, Queries}
+use Rattle.upstream.specs.State.{Has, StartsAt, Overlap, Within, OverlapsVmem, SameMappings, SameConstants, Mappable, MapPre, Wf, Maps, UnmapPre, Unmaps, Queries}
 use Rattle.model.specs.LedgerLaws.{any-overlap, cover-some, cover-none}
 use Rattle.upstream.specs.Facts.{drop-has}
 
@@ -56,65 +56,85 @@ wf-less {G} w c f = record {
   apart = λ m k i j. w .apart m k (f m i) (f k j);
 }
 
--- the tests of map's arguments answer 0, or a number from 2 to 5
-tests-range : (G : Granule) (levels a b size k : ℕ) → (mapTests G levels a b size k ≡ 0) ⊎ ((2 ≤ mapTests G levels a b size k) × (mapTests G levels a b size k ≤ 5))
-unfolding mapTests
-tests-range G levels a b size k =
-    go (ltb (G .large) (heightOf G size)) (ltb 15 k) (leb (spaceOf G levels) a) (ltb (spaceOf G levels) (a + size)) (ltb physical (b + size))
-    (eqb (a % size) 0) (eqb (b % size) 0)
-  where
-    number : Bool → Bool → Bool → Bool → Bool → Bool → Bool → ℕ
-    number x₁ x₂ x₃ x₄ x₅ x₆ x₇ = cond x₁ 2 (cond x₂ 3 (cond x₃ 4 (cond x₄ 4 (cond x₅ 4 (cond x₆ (cond x₇ 0 5) 5)))))
+-- a number that map refuses its arguments with: 2 to 5, or 11
+abbrev Argument : ℕ → Type 0
+Argument n = ((2 ≤ n) × (n ≤ 5)) ⊎ (n ≡ 11)
 
-    go : (x₁ x₂ x₃ x₄ x₅ x₆ x₇ : Bool) → (number x₁ x₂ x₃ x₄ x₅ x₆ x₇ ≡ 0) ⊎ ((2 ≤ number x₁ x₂ x₃ x₄ x₅ x₆ x₇) × (number x₁ x₂ x₃ x₄ x₅ x₆ x₇ ≤ 5))
-    go true x₂ x₃ x₄ x₅ x₆ x₇ = inr (omega arith, omega arith)
-    go false true x₃ x₄ x₅ x₆ x₇ = inr (omega arith, omega arith)
-    go false false true x₄ x₅ x₆ x₇ = inr (omega arith, omega arith)
-    go false false false true x₅ x₆ x₇ = inr (omega arith, omega arith)
-    go false false false false true x₆ x₇ = inr (omega arith, omega arith)
-    go false false false false false false x₇ = inr (omega arith, omega arith)
-    go false false false false false true false = inr (omega arith, omega arith)
-    go false false false false false true true = inl refl
+-- the tests of map's arguments answer 0, or such a number
+tests-range : (G : Granule) (levels : ℕ) (area : Area) (a b size k : ℕ)
+    → (mapTests G levels area a b size k ≡ 0) ⊎ Argument (mapTests G levels area a b size k)
+unfolding mapTests
+tests-range G levels area a b size k =
+    go (ltb (G .large) (heightOf G size)) (ltb 15 k) (leb (spaceOf G levels) a) (ltb (spaceOf G levels) (a + size)) (ltb physical (b + size))
+    (eqb (a % size) 0) (eqb (b % size) 0) (meetsArea G area b size)
+  where
+    number : Bool → Bool → Bool → Bool → Bool → Bool → Bool → Bool → ℕ
+    number x₁ x₂ x₃ x₄ x₅ x₆ x₇ x₈ = cond x₁ 2 (cond x₂ 3 (cond x₃ 4 (cond x₄ 4 (cond x₅ 4 (cond x₆ (cond x₇ (cond x₈ 11 0) 5) 5)))))
+
+    go : (x₁ x₂ x₃ x₄ x₅ x₆ x₇ x₈ : Bool) → (number x₁ x₂ x₃ x₄ x₅ x₆ x₇ x₈ ≡ 0) ⊎ Argument (number x₁ x₂ x₃ x₄ x₅ x₆ x₇ x₈)
+    go true x₂ x₃ x₄ x₅ x₆ x₇ x₈ = inr (inl (omega arith, omega arith))
+    go false true x₃ x₄ x₅ x₆ x₇ x₈ = inr (inl (omega arith, omega arith))
+    go false false true x₄ x₅ x₆ x₇ x₈ = inr (inl (omega arith, omega arith))
+    go false false false true x₅ x₆ x₇ x₈ = inr (inl (omega arith, omega arith))
+    go false false false false true x₆ x₇ x₈ = inr (inl (omega arith, omega arith))
+    go false false false false false false x₇ x₈ = inr (inl (omega arith, omega arith))
+    go false false false false false true false x₈ = inr (inl (omega arith, omega arith))
+    go false false false false false true true true = inr (inr refl)
+    go false false false false false true true false = inl refl
 
 module _ (G : Granule) (Z : Sane G) where
   -- a frame has a size
   pub some-size : {levels : ℕ} {m : Mapping} → Mappable G levels m → 0 < m .size
   some-size ok = let (h, _, e) = ok .valid .sized in omega (arith, size-pos G h)
 
-  -- `map_pre` is what the tests 2 to 5 of map's arguments say, with attributes 0 to 15 and a frame that ends at 2^48 or below
-  pub map-pre : {levels : ℕ} → G .fewest ≤ levels → levels ≤ G .most → (m : Mapping)
-      → (mapTests G levels (m .at) (m .frame) (m .size) (m .attributes) ≡ 0) ↔ Mappable G levels m
+  -- it ends in the space
+  pub ends-in : {levels : ℕ} → G .fewest ≤ levels → levels ≤ G .most → (m : Mapping) → Mappable G levels m → m .at + m .size ≤ spaceOf G levels
+  ends-in {levels} low high m ok =
+      let (h, l, e) = ok .valid .sized in
+      let whole : spaceOf G levels % m .size ≡ 0 =
+      ap (λ (x : ℕ). x % m .size) (space-some G low high) ∙ ap (λ (x : ℕ). sizeAt G levels % x) (sym e)
+      ∙ size-divides G {j = h} {h = levels} (omega (arith, Z .large-below)) in
+      multiple-gap (m .size) (ok .valid .aligned) whole (ok .valid .in-space)
+
+  -- such a mapping passes the tests 2 to 5 of map's arguments, and 11 is left
+  tests-left : (A : Ledger) → G .fewest ≤ A .levels → A .levels ≤ G .most → (m : Mapping) → Mappable G (A .levels) m
+      → mapTests G (A .levels) (A .area) (m .at) (m .frame) (m .size) (m .attributes) ≡ cond (meetsArea G (A .area) (m .frame) (m .size)) 11 0
   unfolding mapTests
-  map-pre {levels} low high m = (from, to)
+  tests-left A low high m ok =
+      let (h, l, e) = ok .valid .sized in
+      let height : heightOf G (m .size) ≡ h = ap (heightOf G) (sym e) ∙ size-height G Z l in
+      rw (
+        le-ltb (G .large) (heightOf G (m .size)) (omega arith),
+        le-ltb 15 (m .attributes) (omega (arith, ok .few)),
+        lt-leb (spaceOf G (A .levels)) (m .at) (ok .valid .in-space),
+        le-ltb (spaceOf G (A .levels)) (m .at + m .size) (ends-in low high m ok),
+        le-ltb physical (m .frame + m .size) (ok .fits),
+        eq-eqb (m .at % m .size) 0 (ok .valid .aligned),
+        eq-eqb (m .frame % m .size) 0 (ok .valid .frame-aligned),
+      )
+
+  -- `map_pre` is what the tests 2 to 5 and 11 of map's arguments say, with attributes 0 to 15 and a frame that ends at 2^48 or below
+  pub map-pre : (A : Ledger) → G .fewest ≤ A .levels → A .levels ≤ G .most → (m : Mapping)
+      → (mapTests G (A .levels) (A .area) (m .at) (m .frame) (m .size) (m .attributes) ≡ 0) ↔ MapPre G A m
+  map-pre A low high m = (from, to)
     where
-      from : mapTests G levels (m .at) (m .frame) (m .size) (m .attributes) ≡ 0 → Mappable G levels m
-      from e = let F = tests-fine G levels (m .at) (m .frame) (m .size) (m .attributes) e in record {
-        valid = record {
-          sized = (heightOf G (m .size), F .sized, height-size G (m .size) (F .sized));
-          in-space = F .start-in;
-          aligned = F .address-aligned;
-          frame-aligned = F .frame-aligned;
+      from : mapTests G (A .levels) (A .area) (m .at) (m .frame) (m .size) (m .attributes) ≡ 0 → MapPre G A m
+      from e = let F = tests-fine G (A .levels) (A .area) (m .at) (m .frame) (m .size) (m .attributes) e in record {
+        mappable = record {
+          valid = record {
+            sized = (heightOf G (m .size), F .sized, height-size G (m .size) (F .sized));
+            in-space = F .start-in;
+            aligned = F .address-aligned;
+            frame-aligned = F .frame-aligned;
+          };
+          few = F .some-attributes;
+          fits = F .in-physical;
         };
-        few = F .some-attributes;
-        fits = F .in-physical;
+        outside = F .outside;
       }
 
-      to : Mappable G levels m → mapTests G levels (m .at) (m .frame) (m .size) (m .attributes) ≡ 0
-      to ok =
-          let (h, l, e) = ok .valid .sized in
-          let height : heightOf G (m .size) ≡ h = ap (heightOf G) (sym e) ∙ size-height G Z l in
-          let whole : spaceOf G levels % m .size ≡ 0 =
-          ap (λ (x : ℕ). x % m .size) (space-some G low high) ∙ ap (λ (x : ℕ). sizeAt G levels % x) (sym e)
-          ∙ size-divides G {j = h} {h = levels} (omega (arith, Z .large-below)) in
-          rw (
-            le-ltb (G .large) (heightOf G (m .size)) (omega arith),
-            le-ltb 15 (m .attributes) (omega (arith, ok .few)),
-            lt-leb (spaceOf G levels) (m .at) (ok .valid .in-space),
-            le-ltb (spaceOf G levels) (m .at + m .size) (multiple-gap (m .size) (ok .valid .aligned) whole (ok .valid .in-space)),
-            le-ltb physical (m .frame + m .size) (ok .fits),
-            eq-eqb (m .at % m .size) 0 (ok .valid .aligned),
-            eq-eqb (m .frame % m .size) 0 (ok .valid .frame-aligned),
-          )
+      to : MapPre G A m → mapTests G (A .levels) (A .area) (m .at) (m .frame) (m .size) (m .attributes) ≡ 0
+      to pre = tests-left A low high m (pre .mappable) ∙ rw (apart-meets (pre .outside))
 
   -- `unmap_pre` is what the tests 4 and 5 of unmap's argument say
   pub unmap-pre : (A : Ledger) (a : ℕ) → (unmapTests G (A .levels) a ≡ 0) ↔ UnmapPre G A a
@@ -176,10 +196,10 @@ module _ (G : Granule) (Z : Sane G) where
       go (some m) e = at m e (eqb (m .at) a) refl
 
   -- the ledger's map, unmap and query are those of the state
-  pub ledger-maps : {A : Ledger} → G .fewest ≤ A .levels → A .levels ≤ G .most → (m : Mapping) → Mappable G (A .levels) m
+  pub ledger-maps : {A : Ledger} → G .fewest ≤ A .levels → A .levels ≤ G .most → (m : Mapping) → MapPre G A m
       → Maps G A (mapL G A (m .at) (m .frame) (m .size) (m .attributes) .after) m (mapL G A (m .at) (m .frame) (m .size) (m .attributes) .answer)
   unfolding mapL
-  ledger-maps {A} low high m ok = rw (map-pre low high m .1 ok) (go (anyOverlap (m .at) (m .size) (A .live)) refl (ltb (freeTables G A) need) refl)
+  ledger-maps {A} low high m ok = rw (map-pre A low high m .1 ok) (go (anyOverlap (m .at) (m .size) (A .live)) refl (ltb (freeTables G A) need) refl)
     where
       need : ℕ
       need = tablesLacking G (A .levels) (A .live) m
@@ -317,7 +337,7 @@ module _ (G : Granule) (Z : Sane G) where
 
   module _ {p : Pool} {A : Ledger} (H : Holds G p A) where
     -- map_refinement, and the ensures of the trait's map
-    pub map-refinement : (m : Mapping) → Mappable G (A .levels) m → {B : Ledger} → Holds G (mapW G p (m .at) (m .frame) (m .size) (m .attributes) .after) B
+    pub map-refinement : (m : Mapping) → MapPre G A m → {B : Ledger} → Holds G (mapW G p (m .at) (m .frame) (m .size) (m .attributes) .after) B
         → Maps G A B m (mapW G p (m .at) (m .frame) (m .size) (m .attributes) .answer)
     map-refinement m ok {B} H′ = record {
       constants = also-constants A C B (s .constants) (same-constants K H′);
@@ -365,23 +385,35 @@ module _ (G : Granule) (Z : Sane G) where
     query-refinement a l = let s = ledger-queries (invariants-implies-wf H) a l in let r = step-holds G Z H (queryC a) .0 in
         record { finds = λ m i h. r ∙ s .finds m i h; nothing = λ n. r ∙ s .nothing n }
 
-    -- what upstream requires is refused where it does not hold, and the pool stays: a map with 2, 3, 4 or 5
-    pub map-refuses : (m : Mapping) → (Mappable G (A .levels) m → ⊥)
-        → (n : ℕ) × (2 ≤ n) × (n ≤ 5) × (mapW G p (m .at) (m .frame) (m .size) (m .attributes) ≡ refuse n p)
+    -- what is required is refused where it does not hold, and the pool stays: a map with 2, 3, 4, 5 or 11
+    pub map-refuses : (m : Mapping) → (MapPre G A m → ⊥)
+        → (n : ℕ) × Argument n × (mapW G p (m .at) (m .frame) (m .size) (m .attributes) ≡ refuse n p)
     unfolding mapW
-    map-refuses m d = go (eqb no 0) refl (tests-range G (p .numbers .levels) (m .at) (m .frame) (m .size) (m .attributes))
+    map-refuses m d = go (eqb no 0) refl (tests-range G (p .numbers .levels) (areaOf (p .numbers)) (m .at) (m .frame) (m .size) (m .attributes))
       where
         no : ℕ
-        no = mapTests G (p .numbers .levels) (m .at) (m .frame) (m .size) (m .attributes)
+        no = mapTests G (p .numbers .levels) (areaOf (p .numbers)) (m .at) (m .frame) (m .size) (m .attributes)
+
+        own : Ledger
+        own = ledger (p .numbers .levels) (areaOf (p .numbers)) (A .live)
+
+        own-is : own ≡ A
+        own-is = let u = H .levels-are in let v = H .area-is in λ i. ledger (u i) (v i) (A .live)
 
         o : Done
         o = mapAt G p (m .at) (m .frame) (heightOf G (m .size)) (m .attributes) (walkTo G p (heightOf G (m .size)) (m .at)) (walkTo G p (heightOf G (m .size)) (m .at) .entry)
 
-        go : (y : Bool) → eqb no 0 ≡ y → (no ≡ 0) ⊎ ((2 ≤ no) × (no ≤ 5))
-            → (n : ℕ) × (2 ≤ n) × (n ≤ 5) × (cond (goodPool G p) (cond (eqb no 0) o (refuse no p)) (refuse 1 p) ≡ refuse n p)
-        go true q r = absurd (d (subst (λ (l : ℕ). Mappable G l m) (H .levels-are) (map-pre (H .good .numbers .enough) (H .good .numbers .not-more) m .0 (eqb-true no 0 q))))
+        go : (y : Bool) → eqb no 0 ≡ y → (no ≡ 0) ⊎ Argument no
+            → (n : ℕ) × Argument n × (cond (goodPool G p) (cond (eqb no 0) o (refuse no p)) (refuse 1 p) ≡ refuse n p)
+        go true q r = absurd (d (subst (λ (B : Ledger). MapPre G B m) own-is (map-pre own (H .good .numbers .enough) (H .good .numbers .not-more) m .0 (eqb-true no 0 q))))
         go false q (inl e) = absurd (eqb-false no 0 q e)
-        go false q (inr (a, b)) = (no, a, b, rw (setup-good (H .good), q))
+        go false q (inr a) = (no, a, rw (setup-good (H .good), q))
+
+    -- and with 11 where upstream's map would give a guest bytes of its own tables
+    pub map-in-pool : (m : Mapping) → Mappable G (A .levels) m → Shares G (A .area) (m .frame) (m .size)
+        → mapW G p (m .at) (m .frame) (m .size) (m .attributes) ≡ refuse 11 p
+    unfolding mapW
+    map-in-pool m ok s = rw (setup-good (H .good), H .levels-are, H .area-is, tests-left A (levels-low H) (levels-high H) m ok, shares-meets s)
 
     -- an unmap with 4 or 5
     pub unmap-refuses : (a : ℕ) → (UnmapPre G A a → ⊥) → ((unmapW G p a ≡ refuse 4 p) ⊎ (unmapW G p a ≡ refuse 5 p))

@@ -1,6 +1,6 @@
 -- tree.rs. The mappings in the words of any pool; and `PTTreeModel`, whose map, unmap and query are ours: when each succeeds, and what it does to the
 -- mappings of a pool p that holds a ledger A.
-use mathlib.Core.Path.{_≡_, refl, ap, sym, _∙_, subst}
+use mathlib.Core.Path.{_≡_, refl, ap, sym, _∙_, subst, subst₂}
 use mathlib.Core.Logic.{_≢_, _⊎_, inl, inr, _↔_}
 use mathlib.Core.Bool.{Bool, true, false, cond, false≢true}
 use mathlib.Core.Option.{Option, some, none}
@@ -13,22 +13,22 @@ use lib.ListN.{take}
 use borrow.Author.Tests.{ltb-true, ltb-false, eqb-true, eqb-false}
 use Rattle.path.specs.Geometry.{Granule, sizeAt, spaceOf, Sane}
 use Rattle.path.specs.Laws.{size-zero, space-some, good-setup}
+use Rattle.path.specs.Areas.{Area}
 use Rattle.path.specs.Paths.{indices, baseAt}
 use Rattle.path.specs.PrefixLaws.{prefix-same}
 use Rattle.path.specs.RegionLaws.{aligned-down, Placed, nested, lower, higher, nested-or-apart, region-base, aligned-base, base-le, base-end}
 use Rattle.model.specs.Answers.{Mapping, mapping, took, gave, found, refused, Pool, Done}
-use Rattle.model.specs.Calls.{goodPool, mapW, unmapTests, unmapW, queryW}
+use Rattle.model.specs.Calls.{goodPool, mapTests, mapW, unmapTests, unmapW, queryW}
 use Rattle.model.specs.Sound.{mappingsOf}
 use Rattle.model.specs.Unique.{found-same}
 use Rattle.model.specs.Ledger.{Ledger, anyOverlap, coverOf, tablesLacking, freeTables, mapL, unmapL, queryOf, queryL}
 use Rattle.demand.specs.Holds.{Holds}
-use Rattle.demand.specs.Maps.{tests-fine}
 use Rattle.demand.specs.Demand3.{mapC, unmapC, queryC}
 use Rattle.demand.specs.Theorem.{step-holds}
-use Rattle.upstream.specs.State.{Has, StartsAt, Overlap, Within, OverlapsVmem, FrameSize, Mappable, Wf, Maps, UnmapPre, Unmaps}
+use Rattle.upstream.specs.State.{Has, StartsAt, Overlap, Within, OverlapsVmem, FrameSize, Mappable, MapPre, Wf, Maps, UnmapPre, Unmaps}
 use Rattle.upstream.specs.Calls.{took-not, gave-not, took-passed, gave-passed}
 use Rattle.model.specs.LedgerLaws.{any-overlap, cover-some, cover-none}
-use Rattle.upstream.specs.Trait.{map-pre, unmap-pre, some-size, one-for, first-within, words-wf, invariants-implies-wf, levels-low, levels-high, map-refinement, unmap-refinement, query-refinement}
+use Rattle.upstream.specs.Trait.{map-pre, unmap-pre, ends-in, some-size, one-for, first-within, words-wf, invariants-implies-wf, levels-low, levels-high, map-refinement, unmap-refinement, query-refinement}
 
 -- `path_mappings`: a mapping that is found in the words
 abbrev pub InTree : Granule → Pool → Mapping → Type 0
@@ -118,11 +118,11 @@ module _ (G : Granule) (Z : Sane G) where
       map-preserves-wf = step-holds G Z H (mapC (m .at) (m .frame) (m .size) (m .attributes)) .1
 
       -- what succeeds was well-formed
-      pub map-ok-implies-map-pre : (t : ℕ) → mapped .answer ≡ took t → Mappable G (A .levels) m
-      map-ok-implies-map-pre t e = subst (λ (l : ℕ). Mappable G l m) (H .levels-are)
-          (map-pre G Z (H .good .numbers .enough) (H .good .numbers .not-more) m .0 (took-passed G p (m .at) (m .frame) (m .size) (m .attributes) t e .1))
+      pub map-ok-implies-map-pre : (t : ℕ) → mapped .answer ≡ took t → MapPre G A m
+      map-ok-implies-map-pre t e = map-pre G Z A (levels-low G Z H) (levels-high G Z H) m .0
+          (subst₂ (λ (l : ℕ) (r : Area). mapTests G l r (m .at) (m .frame) (m .size) (m .attributes) ≡ 0) (H .levels-are) (H .area-is) (took-passed G p (m .at) (m .frame) (m .size) (m .attributes) t e .1))
 
-      module _ (ok : Mappable G (A .levels) m) where
+      module _ (ok : MapPre G A m) where
         abbrev says : Maps G A next m (mapped .answer)
         says = map-refinement G Z H m ok map-preserves-wf
 
@@ -179,7 +179,7 @@ module _ (G : Granule) (Z : Sane G) where
         -- lemma_map_ok_implies_vbase_nonexist
         pub map-ok-implies-vbase-nonexist : StartsAt A (m .at) → ⊥
         map-ok-implies-vbase-nonexist (k, i, q) =
-            map-ok-implies-nonoverlap (k, i, (omega (arith, some-size G Z (map-ok-implies-map-pre t e)), omega (arith, some-size G Z (W .each k i))))
+            map-ok-implies-nonoverlap (k, i, (omega (arith, some-size G Z (map-ok-implies-map-pre t e .mappable)), omega (arith, some-size G Z (W .each k i))))
 
     -- ---- unmap
 
@@ -248,7 +248,7 @@ module _ (G : Granule) (Z : Sane G) where
     mapping-exist-implies-query-ok a k i (l, h) = query-refinement G Z H a (omega (arith, ends)) .finds k i (l, h)
       where
         ends : k .at + k .size ≤ spaceOf G (A .levels)
-        ends = tests-fine G (A .levels) (k .at) (k .frame) (k .size) (k .attributes) (map-pre G Z (levels-low G Z H) (levels-high G Z H) k .1 (W .each k i)) .in-space
+        ends = ends-in G Z (levels-low G Z H) (levels-high G Z H) k (W .each k i)
 
     -- lemma_query_ok_implies_mapping_exist
     pub query-ok-implies-mapping-exist : (a : ℕ) (k : Mapping) → queryW G p a ≡ found k → Has A k × Within a k

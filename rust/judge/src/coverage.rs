@@ -7,7 +7,7 @@ use crate::{Answer, Call, Damage, Memory, Step};
 
 /// The refusals that each call can give, in the order of [`Call::NAMES`].
 const POSSIBLE: [&[usize]; 7] =
-    [&[2, 3, 4, 5], &[2, 8], &[1], &[1, 2, 3, 4, 5, 6, 7, 8], &[1, 4, 5, 8, 9, 10], &[1, 4, 8, 9], &[1, 8]];
+    [&[2, 3, 4, 5], &[2, 8], &[1], &[1, 2, 3, 4, 5, 6, 7, 8, 11], &[1, 4, 5, 8, 9, 10], &[1, 4, 8, 9], &[1, 8]];
 
 /// The reasons for refusal 8 of map, unmap and query.
 const CAUSES: [&str; 10] = [

@@ -25,6 +25,8 @@ pub enum Damage {
     FrameLevel,
     /// An entry becomes nearly the word of a frame.
     FrameOff,
+    /// An entry becomes the word of a frame that shares a byte with the pool.
+    FrameInPool,
     /// An entry becomes zero.
     Clear,
     /// A free number is out of range.
@@ -42,7 +44,7 @@ pub enum Damage {
 }
 
 impl Damage {
-    pub const ALL: [Damage; 16] = [
+    pub const ALL: [Damage; 17] = [
         Damage::Flip,
         Damage::Garbage,
         Damage::TableOutside,
@@ -52,6 +54,7 @@ impl Damage {
         Damage::LinkFree,
         Damage::FrameLevel,
         Damage::FrameOff,
+        Damage::FrameInPool,
         Damage::Clear,
         Damage::FreeOutside,
         Damage::FreeTwice,
@@ -101,6 +104,11 @@ impl Damage {
                 let size = SIZES[left.min(3) as usize - 1];
                 to_word(entry, frame(random, size) ^ off)
             }
+            Damage::FrameInPool => {
+                let size = SIZES[left.min(3) as usize - 1];
+                let byte = setup.base + 4096 * random.below(setup.tables);
+                to_word(entry, plain::frame_word(byte & !(size - 1), size, random.below(16)))
+            }
             Damage::Clear => to_word(entry, 0),
             Damage::FreeOutside => {
                 let number = random.pick(&[0, setup.tables, setup.tables + 1, 1 << 31, u64::from(u32::MAX)]);
@@ -128,6 +136,20 @@ impl Damage {
 /// One of the three frame sizes.
 pub fn random_size(random: &Random) -> u64 {
     random.pick(&[SIZES[0], SIZES[0], SIZES[0], SIZES[1], SIZES[1], SIZES[2]])
+}
+
+/// A base of a frame at the borders of a pool, in it, or just beside it.
+pub fn base_near(random: &Random, setup: Setup, size: u64) -> u64 {
+    let end = setup.base.wrapping_add(setup.tables.wrapping_mul(4096));
+    let near = [
+        setup.base,
+        setup.base.wrapping_sub(size),
+        setup.base.wrapping_sub(4096),
+        end.wrapping_sub(4096),
+        end,
+        end.wrapping_add(4096),
+    ];
+    random.pick(&near) & !(size - 1)
 }
 
 /// The word of a random frame. Some bases are so round that they fit every region, up to 512 GiB.

@@ -10,7 +10,7 @@ use std::collections::VecDeque;
 
 use plain::{Setup, LIMIT, MAX_TABLES, SIZES};
 
-use crate::damage::{frame, random_size};
+use crate::damage::{base_near, frame, random_size};
 use crate::{Call, Damage, Random, Step, World};
 
 #[derive(Clone, Copy, PartialEq, Eq)]
@@ -168,7 +168,8 @@ impl Source {
                 let size = random_size(random);
                 let word = match random.below(10 + emptiness) {
                     0..=5 => setup.base + 4096 * random.below(setup.tables + 1) + 3,
-                    6..=8 => frame(random, size),
+                    6..=7 => frame(random, size),
+                    8 => plain::frame_word(base_near(random, setup, size), size, random.below(16)),
                     9 => frame(random, size) ^ 1 << random.below(64),
                     _ => 0,
                 };
@@ -212,7 +213,8 @@ impl Source {
             dice if dice < maps => {
                 let mut size = random_size(&self.random);
                 let mut address = self.address() & !(size - 1);
-                let mut frame = self.random.below(LIMIT) & !(size - 1);
+                let anywhere = self.random.below(LIMIT) & !(size - 1);
+                let mut frame = if self.random.percent(8) { base_near(&self.random, setup, size) } else { anywhere };
                 let mut attributes = self.random.below(16);
                 if self.random.percent(20) {
                     match self.random.below(6) {

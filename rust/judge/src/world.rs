@@ -75,7 +75,9 @@ impl World {
         }
         if answer.refusal == 0 {
             match *call {
-                Call::Format { levels, tables, .. } => (self.ledger, self.sound) = (Some(Ledger::new(levels, tables)), true),
+                Call::Format { levels, base, tables } => {
+                    (self.ledger, self.sound) = (Some(Ledger::new(levels, base, tables)), true)
+                }
                 Call::Map { .. } | Call::Unmap { .. } if !known => (self.ledger, self.sound) = (None, false),
                 Call::Audit { .. } if known => self.sound = true,
                 _ => {}

@@ -250,6 +250,82 @@ const FAULTS: &[(&str, Fault)] = &[
         }
         (_, answer) => answer,
     }),
+    ("11 before 5", |call, words, list| match (*call, right(call, words, list)) {
+        (Call::Map { setup, frame, .. }, mut answer) if answer.refusal == 5 => {
+            let inside = frame >= setup.base && frame < setup.base + 4096 * setup.tables;
+            answer.refusal = if inside { 11 } else { 5 };
+            answer
+        }
+        (_, answer) => answer,
+    }),
+    ("11 after the walk", |call, words, list| match (*call, right(call, words, list)) {
+        (Call::Map { setup, address, size, .. }, mut answer) if answer.refusal == 11 => {
+            let walk = plain::walk(setup, words, list, address, size).unwrap();
+            answer.refusal = if walk.end == End::Empty { 11 } else { 6 };
+            answer
+        }
+        (_, answer) => answer,
+    }),
+    ("a frame that starts where the pool ends refused", |call, words, list| match *call {
+        Call::Map { setup, frame, .. } if frame == setup.base.wrapping_add(setup.tables.wrapping_mul(4096)) => {
+            let answer = right(call, &mut words.to_vec(), list);
+            if answer.refusal == 0 {
+                Answer::new(11, &numbers(setup))
+            } else {
+                right(call, words, list)
+            }
+        }
+        _ => right(call, words, list),
+    }),
+    ("a frame that ends where the pool starts refused", |call, words, list| match *call {
+        Call::Map { setup, frame, size, .. } if frame.wrapping_add(size) == setup.base => {
+            let answer = right(call, &mut words.to_vec(), list);
+            if answer.refusal == 0 {
+                Answer::new(11, &numbers(setup))
+            } else {
+                right(call, words, list)
+            }
+        }
+        _ => right(call, words, list),
+    }),
+    ("only the frame's first byte tested against the pool", |call, words, list| match (*call, right(call, words, list)) {
+        (Call::Map { setup, address, frame, size, .. }, mut answer) if answer.refusal == 11 && frame < setup.base => {
+            let walk = plain::walk(setup, words, list, address, size).unwrap();
+            answer.refusal = if walk.end == End::Empty { 7 } else { 6 };
+            answer
+        }
+        (_, answer) => answer,
+    }),
+    ("an audit that takes frames in the pool", |call, words, list| match *call {
+        Call::Audit { setup } => {
+            let answer = right(call, words, list);
+            // the same words with the pool taken to stand elsewhere: links and frames keep their places
+            let away = Setup { base: setup.base ^ 1 << 40, ..setup };
+            let mut moved = words.to_vec();
+            for word in moved.iter_mut().filter(|w| **w % 4096 == 3) {
+                *word = word.wrapping_sub(setup.base).wrapping_add(away.base);
+            }
+            let elsewhere = right(&Call::Audit { setup: away }, &mut moved, list);
+            if answer.refusal == 8 {
+                elsewhere
+            } else {
+                answer
+            }
+        }
+        _ => right(call, words, list),
+    }),
+    ("a query that takes a frame in the pool for damage", |call, words, list| match (*call, right(call, words, list)) {
+        (Call::Query { setup, .. }, answer) if answer.refusal == 0 => {
+            let frame = answer.numbers[1];
+            let inside = frame < setup.base + 4096 * setup.tables && setup.base < frame + answer.numbers[2];
+            if inside {
+                Answer::new(8, &[])
+            } else {
+                answer
+            }
+        }
+        (_, answer) => answer,
+    }),
     ("7 before the walk", |call, words, list| match (*call, right(call, words, list)) {
         (Call::Map { setup, .. }, mut answer) if answer.refusal == 6 => {
             answer.refusal = if setup.free == 0 { 7 } else { 6 };

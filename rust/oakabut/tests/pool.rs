@@ -105,6 +105,17 @@ fn a_pool_goes_on_from_its_parts() {
 }
 
 #[test]
+fn a_guest_is_never_given_its_own_tables() {
+    let mut pool = Pool::owned(3, P, 4).unwrap();
+    for (frame, size) in [(P, PAGE), (P + 3 * PAGE, PAGE), (P, BLOCK_2M), (P, BLOCK_1G)] {
+        assert_eq!(pool.map(0, frame, size, READ), Err(Refusal::IN_POOL));
+    }
+    assert_eq!(pool.map(0, P + 4 * PAGE, PAGE, READ), Ok(2));
+    assert_eq!(pool.map(PAGE, P - PAGE, PAGE, READ), Ok(0));
+    assert_eq!(pool.audit(), Ok(Audit { tables: 3, mappings: 2 }));
+}
+
+#[test]
 fn the_hosts_two_calls() {
     for size in [PAGE, BLOCK_2M, BLOCK_1G] {
         for attributes in 0..16 {
@@ -125,5 +136,5 @@ fn the_hosts_two_calls() {
 fn refusals_say_their_number_and_why() {
     let refusal: Box<dyn std::error::Error> = Box::new(Pool::owned(5, P, 4).unwrap_err());
     assert_eq!(refusal.to_string(), "refusal 1, a setup number or a length breaks the rules");
-    assert_eq!(Refusal::NOT_THE_START.number(), 10);
+    assert_eq!((Refusal::NOT_THE_START.number(), Refusal::IN_POOL.number()), (10, 11));
 }

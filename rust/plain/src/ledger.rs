@@ -18,14 +18,15 @@ pub struct Mapping {
 #[derive(Clone, Debug)]
 pub struct Ledger {
     levels: u64,
+    base: u64,
     tables: u64,
     mappings: Vec<Mapping>,
 }
 
 impl Ledger {
     /// The ledger of a freshly formatted pool.
-    pub fn new(levels: u64, tables: u64) -> Ledger {
-        Ledger { levels, tables, mappings: Vec::new() }
+    pub fn new(levels: u64, base: u64, tables: u64) -> Ledger {
+        Ledger { levels, base, tables, mappings: Vec::new() }
     }
 
     pub fn mappings(&self) -> &[Mapping] {
@@ -51,6 +52,9 @@ impl Ledger {
         }
         if address % size != 0 || frame % size != 0 {
             return Err(Refusal::Alignment);
+        }
+        if frame.max(self.base) < (frame + size).min(self.base + 4096 * self.tables) {
+            return Err(Refusal::InPool);
         }
         if self.mappings.iter().any(|m| m.address < address + size && address < m.address + m.size) {
             return Err(Refusal::InUse);

@@ -51,6 +51,7 @@ pub enum Refusal {
     Damaged,
     Empty(Hole),
     NotTheStart,
+    InPool,
 }
 
 impl Refusal {
@@ -68,6 +69,7 @@ impl Refusal {
             Refusal::Damaged => 8,
             Refusal::Empty(_) => 9,
             Refusal::NotTheStart => 10,
+            Refusal::InPool => 11,
         }
     }
 
@@ -193,6 +195,7 @@ fn map_or_refuse(
     let space = space(setup.levels);
     refuse_if(address >= space || size > space - address || frame > LIMIT - size, Refusal::Range)?;
     refuse_if(!is_multiple(address, size) || !is_multiple(frame, size), Refusal::Alignment)?;
+    refuse_if(is_in_pool(setup, frame, size), Refusal::InPool)?;
 
     let target = level_of(size);
     let walk = descend(setup, words, address, target);
@@ -303,13 +306,14 @@ fn audit_table(setup: &Setup, words: &[u64], table: usize, left: u64, seen: &mut
     seen[table] = true;
     let entries = table_of(words, table);
     if left == 1 {
-        return audit_pages(entries);
+        return audit_pages(setup, entries);
     }
     refuse_if(table != 0 && are_zero(entries), Refusal::Damaged)?;
     let mut mappings = 0;
     for &word in entries {
         mappings += match read_entry(setup, word, left) {
             Entry::Empty => 0,
+            Entry::Frame(frame) if is_in_pool(setup, frame.base, region(left)) => return Err(Refusal::Damaged),
             Entry::Frame(_) => 1,
             Entry::Table(child) => audit_table(setup, words, child, left - 1, seen)?,
             Entry::Damaged => return Err(Refusal::Damaged),
@@ -318,12 +322,15 @@ fn audit_table(setup: &Setup, words: &[u64], table: usize, left: u64, seen: &mut
     Ok(mappings)
 }
 
-/// Audits a table of pages. The loop has no branch, so it is done on several words at once.
-fn audit_pages(entries: &[u64]) -> Result<u64, Refusal> {
+/// Audits a table of pages. The loop has no branch, so it is done on several words at once. A page and the tables stand at
+/// multiples of one size: one difference, which wraps for a page below them, tells whether it is one of them.
+fn audit_pages(setup: &Setup, entries: &[u64]) -> Result<u64, Refusal> {
     let (mut in_use, mut frames) = (0, 0);
+    let (base, pool) = (setup.base, PAGE * setup.tables);
     for &word in entries {
         in_use += u64::from(word != 0);
-        frames += u64::from(read_frame(word, PAGE).is_some());
+        let outside = u64::from((word & (LIMIT - PAGE)).wrapping_sub(base) >= pool);
+        frames += u64::from(read_frame(word, PAGE).is_some()) & outside;
     }
     refuse_if(in_use == 0 || frames != in_use, Refusal::Damaged)?;
     Ok(frames)
@@ -414,6 +421,12 @@ fn read_entry(setup: &Setup, word: u64, left: u64) -> Entry {
 #[inline]
 fn is_child(setup: &Setup, number: u64) -> bool {
     number.wrapping_sub(1) < setup.tables - 1
+}
+
+/// Whether a frame that ends at 2^48 or below shares a byte with the tables of a pool whose numbers are good; then refusal 11.
+#[inline(always)]
+fn is_in_pool(setup: &Setup, frame: u64, size: u64) -> bool {
+    frame < setup.base + PAGE * setup.tables && setup.base < frame + size
 }
 
 /// Whether the setup numbers and the lengths keep the rules; else refusal 1.

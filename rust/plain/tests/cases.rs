@@ -127,6 +127,23 @@ fn holes() {
 }
 
 #[test]
+fn never_the_pool() {
+    const GIB: u64 = 1 << 30;
+    let mut pool = Pool::new(3, 4);
+    for (frame, size) in [(P, 4096), (P + 3 * 4096, 4096), (P, MIB2), (P, GIB)] {
+        assert_eq!(pool.map(0, frame, size, 3), Err(11));
+    }
+    // half open, at both ends
+    for (address, frame, size) in [(0, P + 4 * 4096, 4096), (4096, P - 4096, 4096), (MIB2, P - MIB2, MIB2), (GIB, P - GIB, GIB)] {
+        pool.map(address, frame, size, 3).unwrap();
+    }
+    // after 5, before the walk
+    assert_eq!(pool.map(1, P, 4096, 3), Err(5));
+    assert_eq!(pool.map(0, P, 4096, 3), Err(11));
+    assert_eq!(pool.audit(), Ok(Counts { tables: 3, mappings: 4 }));
+}
+
+#[test]
 fn the_attribute_words() {
     let word = |attributes: u64| frame_word(0, 4096, attributes) - 3;
     for a in 0..16 {

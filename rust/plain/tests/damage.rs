@@ -124,6 +124,23 @@ fn the_first_finding_from_the_top() {
 }
 
 #[test]
+fn frames_in_the_pool() {
+    let page = |base| Pool::with(1024 + 9, frame_word(base, PAGE, 7));
+    let block = |base| Pool::with(512 + 9, frame_word(base, MIB2, 7));
+    let large = |base| Pool::with(9, frame_word(base, GIB, 7));
+    // the audit refuses them; query and unmap take them for frames, and without them the pool is good
+    for (pool, at, size) in
+        [(page(P), 9 * PAGE, PAGE), (page(P + 7 * PAGE), 9 * PAGE, PAGE), (block(P), 9 * MIB2, MIB2), (large(P), 9 * GIB, GIB)]
+    {
+        assert_eq!((pool.audit(), pool.query(at + size - 1), pool.map(at, size), pool.unmap(at)), (Err(8), Ok(at), Err(6), Ok(0)));
+    }
+    // half open
+    for pool in [page(P + 8 * PAGE), page(P - PAGE), block(P - MIB2), block(P + MIB2), large(P - GIB), large(P + GIB)] {
+        assert_eq!(pool.audit(), Ok((5, 5)));
+    }
+}
+
+#[test]
 fn the_same_table_twice() {
     // table 1 names itself: the walk to a page comes to it again, a 2 MiB map finds a table at its target
     let pool = Pool::with(512 + 2, table(1));

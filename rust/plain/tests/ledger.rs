@@ -22,6 +22,7 @@ fn histories(setup: Setup, words: &[u64], list: &[u32], ledger: &Ledger, more: u
     }
     for (address, size) in CALLS {
         let (mut words, mut ledger) = (words.to_vec(), ledger.clone());
+        // a page at 5 pages lies in pools of more than five tables
         let (next, answer) = map(setup, &mut words, list, address, 5 * size, size, 6);
         assert_eq!(answer, ledger.map(address, 5 * size, size, 6));
         if answer.is_ok() {
@@ -44,7 +45,7 @@ fn every_short_history() {
         for tables in 1..=7 {
             let (mut words, mut list) = (vec![0; 512 * tables as usize], vec![0; tables as usize]);
             let (setup, _) = format(levels, 0, tables, &mut words, &mut list);
-            histories(setup, &words, &list, &Ledger::new(levels, tables), 5);
+            histories(setup, &words, &list, &Ledger::new(levels, 0, tables), 5);
         }
     }
 }

@@ -8,7 +8,7 @@ use borrow.Author.Tests.{not-true, not-false}
 use borrow.Fn.Kinds.{In}
 use Rattle.path.specs.Areas.{areaAt}
 use borrow.Fn.PlainCycle.{Measures, is, falls, and}
-use Rattle.audit.proofs.Tables.{Loop, loop-skip, loop-bad, loop-few, loop-more, loop-end, table-stale, table-fresh, table-starts, table-entry, entry-empty, entry-frame, entry-damaged, entry-child, entry-fit}
+use Rattle.audit.proofs.Tables.{Loop, loop-skip, loop-bad, loop-few, loop-more, loop-end, table-stale, table-fresh, table-starts, table-entry, entry-empty, entry-frame, entry-inside, entry-damaged, entry-child, met-by-size, entry-fit}
 use Rattle.audit.proofs.entry_check.Reads as entry-check
 use Rattle.audit.proofs.entry_check.Kinds as entry-check-kinds
 use Rattle.audit.proofs.+entry_check+table_check.Lts-entry_check as entry-check-lts
@@ -19,6 +19,8 @@ use Rattle.audit.proofs.is_fresh.Reads as is-fresh-reads
 use Rattle.audit.proofs.pages_check.Reads as pages-check-reads
 use Rattle.audit.proofs.skip_empty.Reads as skip-empty-reads
 use Rattle.entry.proofs.read_word.Reads as read-word-reads
+use Rattle.path.proofs.meets_area.Reads as meets-area-reads
+use Rattle.path.proofs.size_at.Reads as size-at-reads
 use Rattle.pool.proofs.word.Reads as word-reads
 use Rattle.audit.proofs.+entry_check+table_check.{statement}
 use Rattle.audit.proofs.+entry_check+table_check.Tie.{close}
@@ -49,6 +51,10 @@ entry-claims t = (
   word-reads.Learnt,
   read-word-reads.Asked,
   read-word-reads.Learnt,
+  size-at-reads.Asked,
+  size-at-reads.Learnt,
+  meets-area-reads.Asked,
+  meets-area-reads.Learnt,
   table-check-below t,
   table-check.Post,
 )
@@ -83,45 +89,58 @@ entry-check-read-word-requires t c κs = search needs
 entry-check-enum-told : (t : ℕ) → entry-check-lts.Need-enum-told (entry-claims t) (entry-check-at t) entry-check.Post
 entry-check-enum-told t c = c .match .keys1
 
-entry-check-enum-told-2 : (t : ℕ) → entry-check-lts.Need-enum-told-2 (entry-claims t) (entry-check-at t) entry-check.Post
-entry-check-enum-told-2 t c = c .match .keys2
-
 entry-check-enum-known-e : (t : ℕ) → entry-check-lts.Need-enum-known-e (entry-claims t) (entry-check-at t) entry-check.Post
-entry-check-enum-known-e t c = c .match .keys3
+entry-check-enum-known-e t c = c .match .keys2
 
-entry-check-sub-table-check : (t : ℕ) → entry-check-lts.Need-sub-table-check (entry-claims t) (entry-check-at t) entry-check.Post
-entry-check-sub-table-check t c = omega (arith, entry-fit (c .before .before .before .before .before .before .before .before .pre .1 .0) _ _ _ (sym (c .before .before .before .before .read-word .ensures) ∙ c .before .before .e .given .1) .0)
+entry-check-size-at-requires : (t : ℕ) → entry-check-lts.Need-size-at-requires (entry-claims t) (entry-check-at t) entry-check.Post
+entry-check-size-at-requires t c κs = search needs
 
-entry-check-table-check-requires : (t : ℕ) → entry-check-lts.Need-table-check-requires (entry-claims t) (entry-check-at t) entry-check.Post
-entry-check-table-check-requires t c κs =
-    let fit = entry-fit (c .before .before .before .before .before .before .before .before .pre .1 .0) _ _ _ (sym (c .before .before .before .before .read-word .ensures) ∙ c .before .before .e .given .1) in
-    (omega (arith, fit .0, c .before .before .before .before .before .before .before .before .pre .0, c .before .before .before .before .before .before .before .before .pre .1 .0 .some-left), (fit .1, c .before .before .before .before .before .before .before .before .pre .1 .1))
-
-entry-check-enum-told-3 : (t : ℕ) → entry-check-lts.Need-enum-told-3 (entry-claims t) (entry-check-at t) entry-check.Post
-entry-check-enum-told-3 t c = c .match .keys4
+entry-check-meets-area-requires : (t : ℕ) → entry-check-lts.Need-meets-area-requires (entry-claims t) (entry-check-at t) entry-check.Post
+entry-check-meets-area-requires t c κs = search needs
 
 entry-check-returns : (t : ℕ) → entry-check-lts.Need-returns (entry-claims t) (entry-check-at t) entry-check.Post
 entry-check-returns t c =
-    let a = c .before .before .before .before .before .before .args in
-    entry-empty (a .words .now) (a .marks .now) _ _ (a .t) (512 - a .left) _ (c .before .before .before .word .ensures) _ (a .marks .now) (sym (c .before .before .read-word .ensures) ∙ c .enum-told .given .1) refl refl
+    let a = c .before .before .before .before .before .before .before .before .before .before .args in
+    entry-inside (a .words .now) (a .marks .now) _ _ (a .t) (512 - a .left) _ (c .before .before .before .before .before .before .before .word .ensures) _ (a .marks .now) _ _ (sym (c .before .before .before .before .before .before .read-word .ensures) ∙ c .before .before .before .before .e .given .1)
+    (met-by-size _ _ (c .before .before .before .before .before .before .before .before .before .before .pre .1 .0 .low) (c .before .before .size-at .ensures) (c .before .meets-area .ensures) (c .if1 .taken)) refl
+
+entry-check-enum-known-e-2 : (t : ℕ) → entry-check-lts.Need-enum-known-e-2 (entry-claims t) (entry-check-at t) entry-check.Post
+entry-check-enum-known-e-2 t c = c .match .keys3
+
+entry-check-sub-table-check : (t : ℕ) → entry-check-lts.Need-sub-table-check (entry-claims t) (entry-check-at t) entry-check.Post
+entry-check-sub-table-check t c = omega (arith, entry-fit (c .before .before .before .before .before .before .before .before .pre .1 .0) _ _ _ (sym (c .before .before .before .before .read-word .ensures) ∙ c .before .before .e2 .given .1) .0)
+
+entry-check-table-check-requires : (t : ℕ) → entry-check-lts.Need-table-check-requires (entry-claims t) (entry-check-at t) entry-check.Post
+entry-check-table-check-requires t c κs =
+    let fit = entry-fit (c .before .before .before .before .before .before .before .before .pre .1 .0) _ _ _ (sym (c .before .before .before .before .read-word .ensures) ∙ c .before .before .e2 .given .1) in
+    (omega (arith, fit .0, c .before .before .before .before .before .before .before .before .pre .0, c .before .before .before .before .before .before .before .before .pre .1 .0 .some-left), (fit .1, c .before .before .before .before .before .before .before .before .pre .1 .1))
+
+entry-check-enum-told-2 : (t : ℕ) → entry-check-lts.Need-enum-told-2 (entry-claims t) (entry-check-at t) entry-check.Post
+entry-check-enum-told-2 t c = c .match .keys4
 
 entry-check-returns-2 : (t : ℕ) → entry-check-lts.Need-returns-2 (entry-claims t) (entry-check-at t) entry-check.Post
 entry-check-returns-2 t c =
     let a = c .before .before .before .before .before .before .args in
-    entry-frame (a .words .now) (a .marks .now) _ _ (a .t) (512 - a .left) _ (c .before .before .before .word .ensures) _ (a .marks .now) _ _ (sym (c .before .before .read-word .ensures) ∙ c .enum-told2 .given .1) refl refl
+    entry-empty (a .words .now) (a .marks .now) _ _ (a .t) (512 - a .left) _ (c .before .before .before .word .ensures) _ (a .marks .now) (sym (c .before .before .read-word .ensures) ∙ c .enum-told .given .1) refl refl
+
+entry-check-returns-3 : (t : ℕ) → entry-check-lts.Need-returns-3 (entry-claims t) (entry-check-at t) entry-check.Post
+entry-check-returns-3 t c =
+    let a = c .before .before .before .before .before .before .before .before .before .before .args in
+    entry-frame (a .words .now) (a .marks .now) _ _ (a .t) (512 - a .left) _ (c .before .before .before .before .before .before .before .word .ensures) _ (a .marks .now) _ _ (sym (c .before .before .before .before .before .before .read-word .ensures) ∙ c .before .before .before .before .e .given .1)
+    (met-by-size _ _ (c .before .before .before .before .before .before .before .before .before .before .pre .1 .0 .low) (c .before .before .size-at .ensures) (c .before .meets-area .ensures) (c .if1 .left)) refl refl
 
 entry-check-same-length : (t : ℕ) → entry-check-lts.Need-same-length (entry-claims t) (entry-check-at t) entry-check.Post
 entry-check-same-length t c = c .before .before .table-check .kept .1 .0
 
-entry-check-returns-3 : (t : ℕ) → entry-check-lts.Need-returns-3 (entry-claims t) (entry-check-at t) entry-check.Post
-entry-check-returns-3 t c =
-    entry-child _ _ _ _ _ _ _ (c .before .before .before .before .before .before .before .before .word .ensures) _ _ _ (sym (c .before .before .before .before .before .before .before .read-word .ensures) ∙ c .before .before .before .before .before .e .given .1)
-    (c .before .before .table-check .ensures)
-
 entry-check-returns-4 : (t : ℕ) → entry-check-lts.Need-returns-4 (entry-claims t) (entry-check-at t) entry-check.Post
 entry-check-returns-4 t c =
+    entry-child _ _ _ _ _ _ _ (c .before .before .before .before .before .before .before .before .word .ensures) _ _ _ (sym (c .before .before .before .before .before .before .before .read-word .ensures) ∙ c .before .before .before .before .before .e2 .given .1)
+    (c .before .before .table-check .ensures)
+
+entry-check-returns-5 : (t : ℕ) → entry-check-lts.Need-returns-5 (entry-claims t) (entry-check-at t) entry-check.Post
+entry-check-returns-5 t c =
     let a = c .before .before .before .before .before .before .args in
-    entry-damaged (a .words .now) (a .marks .now) _ _ (a .t) (512 - a .left) _ (c .before .before .before .word .ensures) _ (a .marks .now) (sym (c .before .before .read-word .ensures) ∙ c .enum-told3 .given .1) refl
+    entry-damaged (a .words .now) (a .marks .now) _ _ (a .t) (512 - a .left) _ (c .before .before .before .word .ensures) _ (a .marks .now) (sym (c .before .before .read-word .ensures) ∙ c .enum-told2 .given .1) refl
 
 abbrev table-check-Inv-loop : table-check-lts.InvT-loop
 table-check-Inv-loop words marks₀ base n t height tables₀ mappings₀ left₀ marks tables mappings left =
@@ -144,14 +163,15 @@ table-check-slice-write-marks : (t : ℕ) → table-check-lts.Need-slice-write-m
 table-check-slice-write-marks t c = search needs
 
 table-check-pages-check-requires : (t : ℕ) → table-check-lts.Need-pages-check-requires (table-claims t) (table-check-at t) table-check.Post table-check-Inv-loop table-check-μ-loop
-table-check-pages-check-requires t c κs = omega (arith, c .before .before .before .before .before .before .pre .1 .1, c .before .before .before .before .before .before .pre .1 .0 .inside)
+table-check-pages-check-requires t c κs =
+    (omega (arith, c .before .before .before .before .before .before .pre .1 .1, c .before .before .before .before .before .before .pre .1 .0 .inside), c .before .before .before .before .before .before .pre .1 .0 .placed)
 
 table-check-same-length-2 : (t : ℕ) → table-check-lts.Need-same-length-2 (table-claims t) (table-check-at t) table-check.Post table-check-Inv-loop table-check-μ-loop
 table-check-same-length-2 t c = simp length-set
 
 table-check-returns-2 : (t : ℕ) → table-check-lts.Need-returns-2 (table-claims t) (table-check-at t) table-check.Post table-check-Inv-loop table-check-μ-loop
 table-check-returns-2 t c =
-    rw (c .before .if2 .taken) (c .pages-check .ensures _ _ (sym (c .before .before .before .is-fresh .ensures) ∙ not-false _ (c .before .before .if1 .left)))
+    rw (c .before .if2 .taken) (c .pages-check .ensures _ (sym (c .before .before .before .is-fresh .ensures) ∙ not-false _ (c .before .before .if1 .left)))
 
 table-check-skip-empty-requires : (t : ℕ) → table-check-lts.Need-skip-empty-requires (table-claims t) (table-check-at t) table-check.Post table-check-Inv-loop table-check-μ-loop
 table-check-skip-empty-requires t c κs = (omega arith, omega (arith, c .before .before .before .before .before .before .pre .1 .1, c .before .before .before .before .before .before .pre .1 .0 .inside))
@@ -219,16 +239,19 @@ pub +entry-check+table-check-spec : {M : Type 1} → statement M
     (entry-check-word-requires t)
     (entry-check-read-word-requires t)
     (entry-check-enum-told t)
-    (entry-check-enum-told-2 t)
     (entry-check-enum-known-e t)
+    (entry-check-size-at-requires t)
+    (entry-check-meets-area-requires t)
+    (entry-check-returns t)
+    (entry-check-enum-known-e-2 t)
     (entry-check-sub-table-check t)
     (entry-check-table-check-requires t)
-    (entry-check-enum-told-3 t)
-    (entry-check-returns t)
+    (entry-check-enum-told-2 t)
     (entry-check-returns-2 t)
-    (entry-check-same-length t)
     (entry-check-returns-3 t)
-    (entry-check-returns-4 t))
+    (entry-check-same-length t)
+    (entry-check-returns-4 t)
+    (entry-check-returns-5 t))
     (λ t. table-check-lts.spec (table-claims t) (table-check-at t) table-check.Post table-check-Inv-loop table-check-μ-loop
     (table-check-is-fresh-requires t)
     (table-check-same-length t)

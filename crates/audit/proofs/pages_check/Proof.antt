@@ -1,25 +1,21 @@
--- `pages_check` meets its contract, whatever the marks are and wherever the tables stand.
+-- `pages_check` meets its contract, whatever the marks are.
 use Prim.Native.Nat.{ℕ}
 use mathlib.Core.Path.{refl, ap}
 use mathlib.Core.List.{List, []}
 use native.Mathlib.Omega.{arith}
 use borrow.Author.Needs.{needs}
 use lib.ListN.{getD, set}
-use Rattle.path.specs.Areas.{Area, areaAt}
+use Rattle.path.specs.Areas.{areaAt}
 use Rattle.audit.proofs.Tables.{table-fresh}
 use Rattle.audit.proofs.Pages.{Pages, pages-start, pages-more, pages-good, pages-bad}
 use Rattle.audit.proofs.pages_check.Statement.{statement}
 use Rattle.audit.proofs.pages_check.Tie as tie
 
 abbrev Inv-loop : tie.InvT-loop
-Inv-loop words t end empty₀ pages₀ left₀ empty pages left = (area : Area) (M : List ℕ) → Pages words area t M empty pages left
+Inv-loop words base n t end empty₀ pages₀ left₀ empty pages left = (M : List ℕ) → Pages words (areaAt base n) t M empty pages left
 
 abbrev μ-loop : tie.MeasureT-loop
-μ-loop words t end empty₀ pages₀ left₀ empty pages left = left
-
--- the counts are the same for all of them
-abbrev area₀ : Area
-area₀ = areaAt 0 0
+μ-loop words base n t end empty₀ pages₀ left₀ empty pages left = left
 
 mul-end : tie.Need-mul-end Inv-loop μ-loop
 mul-end c = search needs
@@ -28,10 +24,10 @@ add-end : tie.Need-add-end Inv-loop μ-loop
 add-end c = search needs
 
 loop-holds : tie.Need-loop-holds Inv-loop μ-loop
-loop-holds c = λ area M. pages-start _ area _ M
+loop-holds c = λ M. pages-start _ _ _ M
 
 sub-w : tie.Need-sub-w Inv-loop μ-loop
-sub-w c = omega (arith, c .before .loop .inv area₀ [])
+sub-w c = omega (arith, c .before .loop .inv [])
 
 mul-w : tie.Need-mul-w Inv-loop μ-loop
 mul-w c = search needs
@@ -39,27 +35,27 @@ mul-w c = search needs
 shared-slice-read-w : tie.Need-shared-slice-read-w Inv-loop μ-loop
 shared-slice-read-w c = search needs
 
-is-frame-requires : tie.Need-is-frame-requires Inv-loop μ-loop
-is-frame-requires c κs = search needs
+is-page-requires : tie.Need-is-page-requires Inv-loop μ-loop
+is-page-requires c κs = c .before .before .before .before .pre .1
 
 loop-again : tie.Need-loop-again Inv-loop μ-loop
 loop-again c =
     let a = c .before .before .before .before .before .args in
     let l = c .before .before .before .loop in
-    λ area M. pages-more (l .inv area M) (c .before .before .loop-test .taken) _
-    (ap (λ (i : ℕ). getD (a .words .now) i 0) (omega (arith, l .inv area M))) _ (c .is-frame .ensures)
+    λ M. pages-more (l .inv M) (c .before .before .loop-test .taken) _
+    (ap (λ (i : ℕ). getD (a .words .now) i 0) (omega (arith, l .inv M))) _ (c .is-page .ensures)
 
 cast-empty : tie.Need-cast-empty Inv-loop μ-loop
 cast-empty c = search needs
 
 add-empty : tie.Need-add-empty Inv-loop μ-loop
-add-empty c = record { fits = omega (arith, loop-again c area₀ []) }
+add-empty c = record { fits = omega (arith, loop-again c []) }
 
 cast-pages : tie.Need-cast-pages Inv-loop μ-loop
 cast-pages c = search needs
 
 add-pages : tie.Need-add-pages Inv-loop μ-loop
-add-pages c = record { fits = omega (arith, loop-again c area₀ []) }
+add-pages c = record { fits = omega (arith, loop-again c []) }
 
 sub-left : tie.Need-sub-left Inv-loop μ-loop
 sub-left c = search needs
@@ -68,17 +64,17 @@ loop-less : tie.Need-loop-less Inv-loop μ-loop
 loop-less c = search needs
 
 add-if1 : tie.Need-add-if1 Inv-loop μ-loop
-add-if1 c = record { fits = omega (arith, c .before .loop .inv area₀ []) }
+add-if1 c = record { fits = omega (arith, c .before .loop .inv []) }
 
 returns : tie.Need-returns Inv-loop μ-loop
 returns c =
     let a = c .before .before .before .before .args in
-    λ area M e. table-fresh (a .words .now) area 0 (a .t) M e _ _ (pages-bad (c .before .before .loop .inv area (set M (a .t) 1)) (c .before .loop-test .left) (c .if1 .taken))
+    λ M e. table-fresh (a .words .now) (areaAt (a .base) (a .n)) 0 (a .t) M e _ _ (pages-bad (c .before .before .loop .inv (set M (a .t) 1)) (c .before .loop-test .left) (c .if1 .taken))
 
 returns-2 : tie.Need-returns-2 Inv-loop μ-loop
 returns-2 c =
     let a = c .before .before .before .before .args in
-    λ area M e. table-fresh (a .words .now) area 0 (a .t) M e _ _ (pages-good (c .before .before .loop .inv area (set M (a .t) 1)) (c .before .loop-test .left) (c .if1 .left))
+    λ M e. table-fresh (a .words .now) (areaAt (a .base) (a .n)) 0 (a .t) M e _ _ (pages-good (c .before .before .loop .inv (set M (a .t) 1)) (c .before .loop-test .left) (c .if1 .left))
 
 pub pages-check-spec : {M : Type 1} → statement M
 pages-check-spec =
@@ -92,7 +88,7 @@ pages-check-spec =
     sub-w
     mul-w
     shared-slice-read-w
-    is-frame-requires
+    is-page-requires
     cast-empty
     add-empty
     cast-pages

@@ -3,6 +3,7 @@ use mathlib.Core.Path.{sym, _∙_}
 use native.Mathlib.Omega.{arith}
 use borrow.Author.Needs.{needs}
 use Rattle.path.specs.Geometry.{four}
+use Rattle.path.specs.Areas.{areaOf}
 use Rattle.model.specs.Answers.{pool}
 use Rattle.model.specs.Refusing.{refusing, passed}
 use Rattle.maps.proofs.Tests.{passed-size, passed-frame}
@@ -42,7 +43,7 @@ word-of-requires c κs = search needs
 map-walk-requires : tie.Need-map-walk-requires
 map-walk-requires c κs =
     let a = c .before .before .before .before .before .before .before .before .before .args in
-    ((passed (c .before .before .before .before .before .before .good-setup .ensures) (c .before .before .before .before .before .if1 .left)), omega (arith, c .before .before .before .before .height-of .ensures, passed-size four (a .s .levels) (a .address) (a .frame) (a .size) (a .attributes) (sym (c .before .before .before .map-tests .ensures) ∙ c .before .before .if2 .left)))
+    ((passed (c .before .before .before .before .before .before .good-setup .ensures) (c .before .before .before .before .before .if1 .left)), omega (arith, c .before .before .before .before .height-of .ensures, passed-size four (a .s .levels) (areaOf (a .s)) (a .address) (a .frame) (a .size) (a .attributes) (sym (c .before .before .before .map-tests .ensures) ∙ c .before .before .if2 .left)))
 
 same-length : tie.Need-same-length
 same-length c = search needs
@@ -52,7 +53,7 @@ returns-3 c =
     let a = c .before .before .before .before .before .before .before .before .before .before .before .before .args in
     let t = (sym (c .before .before .before .before .before .before .map-tests .ensures) ∙ c .before .before .before .before .before .if2 .left) in
     c .before .before .map-walk .ensures (a .frame) (a .attributes)
-    (word-is (a .frame) _ (a .attributes) (omega (arith, passed-frame four (a .s .levels) (a .address) (a .frame) (a .size) (a .attributes) t)) (c .before .before .before .before .word-of .ensures))
+    (word-is (a .frame) _ (a .attributes) (omega (arith, passed-frame four (a .s .levels) (areaOf (a .s)) (a .address) (a .frame) (a .size) (a .attributes) t)) (c .before .before .before .before .word-of .ensures))
     ∙ map-from four (pool (a .s) (a .words .now) (a .list .now)) (a .address) (a .frame) (a .size) (a .attributes) (c .before .before .before .before .before .before .before .before .before .good-setup .ensures) (passed (c .before .before .before .before .before .before .before .before .before .good-setup .ensures) (c .before .before .before .before .before .before .before .before .if1 .left)) t (c .before .before .before .before .before .before .before .height-of .ensures)
 
 pub map-spec : {M : Type 1} → statement M

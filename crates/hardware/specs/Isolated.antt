@@ -1,0 +1,169 @@
+-- The promise of Isolation is kept: what a walk comes to, in the middle of a call too, is a byte of a frame of the ledger before the call or after it.
+use mathlib.Core.Path.{_≡_, refl, ap, sym, _∙_, subst}
+use mathlib.Core.Logic.{_⊎_, inl, inr, ⊎-elim}
+use mathlib.Core.Bool.{Bool, true, false, cond, and-eq-true-iff}
+use mathlib.Core.List.{List, [], _∷_, List·Memᴰ, List·Memᴰ·head as here, List·Memᴰ·tail as there, List·Memᴰ·not-nil}
+use mathlib.Core.Option.{Option, some, none, Option·map}
+use Prim.Native.Nat.{ℕ, zero, suc, _+_, _-_, _*_, _≤_, _<_}
+use native.Mathlib.Omega.{arith}
+use lib.Dec.{ltb, leb, eqb}
+use lib.ListN.{take, replicate}
+use borrow.Author.Tests.{leb-true, ltb-true}
+use Rattle.path.specs.Geometry.{Granule, Sane, four, entries}
+use Rattle.path.specs.Areas.{Area, areaOf, total, InArea}
+use Rattle.path.specs.Laws.{four-sane}
+use Rattle.path.specs.Numbers.{goodNumbers}
+use Rattle.model.specs.Answers.{Mapping, mapping, formatted, took, gave, refused, Pool}
+use Rattle.model.specs.Writes.{Write, performAll}
+use Rattle.model.specs.Calls.{mapTests, unmapTests}
+use Rattle.model.specs.Sound.{OffTables}
+use Rattle.model.specs.Ledger.{Ledger, ledger, withLive, anyOverlap, holdsAddress, coverOf, dropAt, tablesLacking, freeTables, Entered, entered, formatL, mapL, unmapOf, unmapL}
+use Rattle.demand.specs.Holds.{Holds}
+use Rattle.demand.specs.Sims.{holds-sim, sim-holds}
+use Rattle.demand.specs.Theorem.{after-sim, step-holds}
+use Rattle.demand.specs.Demand3.{Call, formatC, mapC, unmapC, askC, stepL, poolAfter, ledgerAfter}
+use Rattle.hardware.specs.Machine.{Translation, saysOf, told, stage2, Stands, writesOf, wordsAfter, visible, Machine}
+use Rattle.hardware.specs.Theorem.{promise}
+use Rattle.hardware.specs.Isolation.{Reaches, During, OffOwn, Sealed, Held, InFrame, KeptApart, OffOther, Apart, Isolation}
+
+-- ---- what a ledger says is a byte of a frame
+
+-- a mapping of a list, whose frame has the byte
+abbrev Has : List Mapping → ℕ → Type 0
+Has L x = (m : Mapping) × List·Memᴰ m L × InFrame m x
+
+told-frame : (L : List Mapping) (a : ℕ) (t : Translation) → told L a ≡ some t → Has L (t .address)
+unfolding coverOf
+told-frame [] a t e = absurd (let z : _≡_ {A = ℕ} 0 1 = cc in omega arith)
+told-frame (m ∷ L) a t e = go (holdsAddress a m) refl e (told-frame L a t)
+  where
+    address : some (saysOf a m) ≡ some t → t .address ≡ m .frame + (a - m .at)
+    address q = let z : saysOf a m ≡ t = cc in sym (ap (λ (u : Translation). u .address) z)
+
+    go : (y : Bool) → holdsAddress a m ≡ y → Option·map (saysOf a) (cond y (some m) (coverOf a L)) ≡ some t
+        → (told L a ≡ some t → Has L (t .address)) → Has (m ∷ L) (t .address)
+    go true h q ih =
+        let (u, v) = and-eq-true-iff (leb (m .at) a) (ltb a (m .at + m .size)) .0 h in
+        let l = leb-true (m .at) a u in
+        let r = ltb-true a (m .at + m .size) v in
+        (m, here refl, (omega (arith, address q), omega (arith, address q)))
+    go false h q ih = let (k, i, f) = ih q in (k, there i, f)
+
+-- the first j writes are a part of them
+first-visible : (j : ℕ) (ws : List Write) → visible (replicate j true) ws ≡ take j ws
+first-visible zero ws = refl
+first-visible (suc j) [] = refl
+first-visible (suc j) (w ∷ ws) = ap (λ (l : List Write). w ∷ l) (first-visible j ws)
+
+-- ---- the ledger after a call has the same area, but for format's
+
+same-area : (r : Area) (b : Bool) (x y : Entered) → x .after .area ≡ r → y .after .area ≡ r → cond b x y .after .area ≡ r
+same-area r true x y p q = p
+same-area r false x y p q = q
+
+module _ (G : Granule) (A : Ledger) where
+  map-area : (a b size k : ℕ) → mapL G A a b size k .after .area ≡ A .area
+  unfolding mapL
+  map-area a b size k =
+      let need = tablesLacking G (A .levels) (A .live) (mapping a b size k) in
+      let no = mapTests G (A .levels) (A .area) a b size k in
+      let taken = entered (took need) (withLive A (mapping a b size k ∷ A .live)) in
+      let rest = cond (ltb (freeTables G A) need) (entered (refused 7) A) taken in
+      same-area (A .area) (eqb no 0) (cond (anyOverlap a size (A .live)) (entered (refused 6) A) rest) (entered (refused no) A)
+      (same-area (A .area) (anyOverlap a size (A .live)) (entered (refused 6) A) rest refl
+      (same-area (A .area) (ltb (freeTables G A) need) (entered (refused 7) A) taken refl refl))
+      refl
+
+  unmap-area : (a : ℕ) → unmapL G A a .after .area ≡ A .area
+  unfolding unmapL unmapOf
+  unmap-area a =
+      let no = unmapTests G (A .levels) a in
+      same-area (A .area) (eqb no 0) (unmapOf G A a (coverOf a (A .live))) (entered (refused no) A) (on (coverOf a (A .live))) refl
+    where
+      on : (m : Option Mapping) → unmapOf G A a m .after .area ≡ A .area
+      on none = refl
+      on (some m) =
+          let B = withLive A (dropAt a (A .live)) in
+          same-area (A .area) (eqb (m .at) a) (entered (gave (m .frame) (m .size) (m .attributes) (freeTables G B - freeTables G A)) B) (entered (refused 10) A) refl refl
+
+module _ (G : Granule) (Z : Sane G) {p : Pool} {A : Ledger} (H : Holds G p A) where
+  -- no frame of the ledger shares a byte with the tables
+  off-tables : (m : Mapping) → List·Memᴰ m (A .live) → OffTables G (A .area) m
+  off-tables m i = subst (λ (r : Area). OffTables G r m) (H .area-is) (H .sound .outside m (H .live m i))
+
+-- nor of the one after a call
+module _ (G : Granule) (Z : Sane G) {p : Pool} {A : Ledger} (H : Holds G p A) where
+  next-off : (c : Call) → stepL G A c .after .area ≡ A .area → (m : Mapping) → List·Memᴰ m (stepL G A c .after .live) → OffTables G (A .area) m
+  next-off c e m i = subst (λ (r : Area). OffTables G r m) e (off-tables G Z (step-holds G Z H c .1) m i)
+
+  after-off : (c : Call) (m : Mapping) → List·Memᴰ m (stepL G A c .after .live) → OffTables G (A .area) m
+  unfolding formatL
+  after-off (formatC levels area) m i = go (goodNumbers G levels area (entries G * total (A .area)) (total (A .area))) i
+    where
+      go : (y : Bool) → List·Memᴰ m (cond y (entered formatted (ledger levels area [])) (entered (refused 1) A) .after .live) → OffTables G (A .area) m
+      go true i = absurd (List·Memᴰ·not-nil i)
+      go false i = off-tables G Z H m i
+  after-off (mapC a b size k) m i = next-off (mapC a b size k) (map-area G A a b size k) m i
+  after-off (unmapC a) m i = next-off (unmapC a) (unmap-area G A a) m i
+  after-off (askC q) m i = off-tables G Z H m i
+
+  held-off : (c : Call) (m : Mapping) → Held G A c m → OffTables G (A .area) m
+  held-off c m = ⊎-elim (off-tables G Z H m) (after-off c m)
+
+  -- ---- what the guest reaches in the middle of a call
+
+  module _ (c : Call) {mem : ℕ → ℕ → ℕ} (D : During G p c mem) where
+    reached : (x : ℕ) → Reaches G (p .numbers) mem x → (m : Mapping) × Held G A c m × InFrame m x
+    reached x R = subst (λ (y : ℕ). (m : Mapping) × Held G A c m × InFrame m y) (R .to)
+        (⊎-elim
+        (λ e. let (m, i, f) = told-frame (A .live) (R .address) (R .translation) (sym e ∙ R .translates) in (m, inl i, f))
+        (λ e. let (m, i, f) = told-frame (stepL G A c .after .live) (R .address) (R .translation) (sym e ∙ R .translates) in (m, inr i, f))
+        (promise G Z p A H [] c .overtaken (D .seen) mem (D .shows) (R .address)))
+
+    off-own : OffOwn G p mem
+    off-own x R i =
+        let (m, h, f) = reached x R in
+        held-off c m h (record { byte = x; starts = f .0; ends = f .1; inside = subst (λ (r : Area). InArea G r x) (H .area-is) i })
+
+  seals : (c : Call) → Sealed G p c
+  unfolding performAll
+  seals c = record {
+    rest = λ mem S. off-own c (record { seen = λ _. []; shows = λ _. S });
+    each-write = λ j mem S. off-own c (record {
+      seen = λ _. replicate j true;
+      shows = λ _. subst (λ (ws : List Write). Stands G (areaOf (p .numbers)) (wordsAfter G p ws) mem) (sym (first-visible j (writesOf G p c))) S;
+    });
+    during = λ mem D. off-own c D;
+  }
+
+-- ---- two guests
+
+-- what one reaches is none of the other's
+module _ (G : Granule) (Z : Sane G) {p q : Pool} {A B : Ledger} (H : Holds G p A) (K : Holds G q B) (c d : Call) where
+  off-other : ((m : Mapping) → Held G A c m → OffTables G (B .area) m)
+      → ((m k : Mapping) → Held G A c m → Held G B d k → (x : ℕ) → InFrame m x → ¬ InFrame k x)
+      → (mem : ℕ → ℕ → ℕ) → During G p c mem → OffOther G p q B d mem
+  off-other tables frames mem D = record {
+    tables = λ x R i.
+        let (m, h, f) = reached G Z H c D x R in
+        tables m h (record { byte = x; starts = f .0; ends = f .1; inside = subst (λ (r : Area). InArea G r x) (K .area-is) i });
+    frames = λ x R k i. let (m, h, f) = reached G Z H c D x R in frames m k h i x f;
+  }
+
+-- ---- the promise
+
+pub isolation : (G : Granule) → Sane G → Isolation G
+isolation G Z = record {
+  own-tables = λ p A H cs c. seals G Z (after cs H) c;
+  two-guests = λ p q A B H K cs ds c d apart. record {
+    first = off-other G Z (after cs H) (after ds K) c d (apart .first-tables) (apart .frames);
+    second = off-other G Z (after ds K) (after cs H) d c (apart .second-tables) (λ m k i j x f g. apart .frames k m j i x g f);
+  };
+}
+  where
+    after : (cs : List Call) {p : Pool} {A : Ledger} → Holds G p A → Holds G (poolAfter G p cs) (ledgerAfter G A cs)
+    after cs H = sim-holds G Z (after-sim G Z cs (holds-sim G Z H))
+
+-- with 4 KiB pages, three and four levels
+pub isolation-four : Isolation four
+isolation-four = isolation four four-sane
