@@ -10,8 +10,9 @@ use Rattle.path.specs.Laws.{level-some}
 use Rattle.path.specs.declared.Setup.{Setup}
 use Rattle.model.specs.Answers.{Answer, hole, pool, done}
 
-pub refusing : {x y : Answer} {t s : Setup} (ws list : List ℕ) → (x ≡ y) × (t ≡ s) → done x (pool t ws list) ≡ done y (pool s ws list)
-refusing ws list e = λ i. done (e .0 i) (pool (e .1 i) ws list)
+pub refusing : {x y : Answer} {t s : Setup} (ws : List ℕ) (cut : ℕ) (list : List ℕ) → (x ≡ y) × (t ≡ s)
+    → done x (pool t ws cut list) ≡ done y (pool s ws cut list)
+refusing ws cut list e = λ i. done (e .0 i) (pool (e .1 i) ws cut list)
 
 pub passed : {r b : Bool} → r ≡ b → not r ≡ false → b ≡ true
 passed e n = sym e ∙ not-false _ n
