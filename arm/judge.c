@@ -1,7 +1,7 @@
 /* The machine as judge: does the processor's own walker read the tables as oak_query does?
  *
- * Runs at EL2 on the board (arm/judge). The pool stands at its own physical address and is the machine's stage 2. Seeded histories of
- * calls change it. After each call, and at the end of a history for every live mapping, the machine is asked by AT S12E1R and
+ * Runs at EL2 on the board (arm/judge). The pool stands at its own physical address, in one region or in two, and is the machine's
+ * stage 2. Seeded histories of calls change it; in some a second region is added. After each call, and at the end of a history for every live mapping, the machine is asked by AT S12E1R and
  * AT S12E1W what it makes of an address: inside mappings and outside, at their edges, past the space. Its answer, PAR_EL1, has to be
  * what oak_query says: the frame, memory type and shareability, or a fault of the right kind and level; where nothing is mapped, the
  * level at which the machine's walk stopped is that of the hole. oak_query has to say what a plain list of the accepted maps says, and
@@ -14,12 +14,13 @@
 #include "board.h"
 #include "oakabut.h"
 
-enum { HISTORIES = 64, CALLS = 96, MOST_TABLES = 512 };
+enum { HISTORIES = 64, CALLS = 96, MOST_TABLES = 512, MOST_SECOND = 8 };
 
 static uint64_t pool[512 * MOST_TABLES] __attribute__((aligned(4096)));
+static uint64_t spare[512 * MOST_SECOND] __attribute__((aligned(4096))); /* the second region, where there is one */
 static uint32_t list[MOST_TABLES];
 static oak_setup setup;
-#define LENT pool, 512 * setup.tables, list, setup.tables
+#define LENT pool, 512 * setup.tables, spare, 512 * setup.second_tables, list, setup.tables + setup.second_tables
 
 static uint64_t passed, failed, differences;
 static const uint64_t sizes[3] = {OAK_4_KIB, OAK_2_MIB, OAK_1_GIB};
@@ -171,19 +172,44 @@ static void unmap_something(void) {
     ask_around(address, refusal == 0 ? answer.size : OAK_4_KIB);
 }
 
+static uint64_t tables_there(void) { return setup.tables + setup.second_tables; }
+
+/* A second region, after which every answer of the machine has to be as before. A mapping whose frame lies in it is its only refusal. */
+static uint64_t added, not_added;
+
+static bool add_something(uint64_t tables) {
+    oak_setup answer;
+    bool inside = false;
+    for (uint64_t i = 0; i < lives; i++)
+        inside |= live[i].frame < (uint64_t)spare + 4096 * tables && (uint64_t)spare < live[i].frame + live[i].size;
+    uint64_t refusal = oak_add(&setup, pool, 512 * setup.tables, spare, 512 * tables, list, setup.tables + tables, (uint64_t)spare, tables, &answer);
+    setup = answer;
+    if (refusal == 0) added++;
+    else not_added++;
+    stage2_changed();
+    for (uint64_t i = 0; i < lives; i++) ask_around(live[i].base, live[i].size);
+    return refusal == (inside ? OAK_REFUSED_POOL : 0);
+}
+
 static void history(uint64_t number) {
     static const uint64_t counts[] = {1, 2, 3, 4, 6, 9, 16, 512};
     uint64_t levels = 3 + number % 2, tables = counts[number / 2 % 8], before = differences, unsound = 0;
+    /* a third of the pools has two regions from the start, and a third gets the second one half way */
+    uint64_t more = tables + MOST_SECOND > MOST_TABLES ? 0 : 1 + number % MOST_SECOND, at_once = number % 3 == 0 ? more : 0;
     state = 1000003 * number;
     lives = 0;
     memset(pool, 0xFF, sizeof pool);
-    if (oak_format(levels, (uint64_t)pool, tables, pool, 512 * tables, list, tables, &setup) != 0) unsound++;
+    memset(spare, 0xFF, sizeof spare);
+    if (oak_format(levels, (uint64_t)pool, tables, at_once == 0 ? 0 : (uint64_t)spare, at_once, pool, 512 * tables, spare, 512 * at_once, list,
+                   tables + at_once, &setup) != 0)
+        unsound++;
     stage2_on(levels, (uint64_t)pool);
     for (uint64_t call = 0; call < CALLS; call++) {
         oak_audited counted;
+        if (call == CALLS / 2 && number % 3 == 1 && more != 0 && !add_something(more)) unsound++;
         if (below(3) == 0) unmap_something();
         else map_something();
-        if (oak_audit(&setup, LENT, &counted) != 0 || counted.mappings != lives || counted.tables + setup.free != tables) unsound++;
+        if (oak_audit(&setup, LENT, &counted) != 0 || counted.mappings != lives || counted.tables + setup.free != tables_there()) unsound++;
         for (int i = 0; i < 4; i++) {
             uint64_t page = some_address(OAK_4_KIB);
             ask(page + below(OAK_4_KIB));
@@ -206,10 +232,11 @@ static void all_asked(void) {
     const uint64_t *hit = &hits[0][0][0][0];
     for (size_t i = 0; i < sizeof hits / sizeof *hit; i++)
         if (hit[i] < least) least = hit[i];
-    say("%u histories of %u calls, up to %u mappings, %u tables\n", (uint64_t)HISTORIES, (uint64_t)CALLS, maps, (uint64_t)MOST_TABLES);
+    say("%u histories of %u calls, up to %u mappings, %u tables; a second region added %u times, %u times refused\n", (uint64_t)HISTORIES,
+        (uint64_t)CALLS, maps, (uint64_t)MOST_TABLES, added, not_added);
     say("AT: %u translated, %u not permitted, %u not mapped, %u past the space; each size and attribute at least %u times; %u differences\n",
         asked[TRANSLATED], asked[FORBIDDEN], asked[NOTHING], asked[PAST], least, differences);
-    test(least > 0);
+    test(least > 0 && added > 0);
 }
 
 /* ---- a guest that loads, stores and fetches */
@@ -270,11 +297,12 @@ static void accesses(uint64_t size, uint64_t attributes) {
 
 static void all_accesses(uint64_t levels) {
     oak_mapped mapped;
-    access_wrong += oak_format(levels, (uint64_t)pool, 8, pool, 512 * 8, list, 8, &setup) != 0;
+    access_wrong += oak_format(levels, (uint64_t)pool, 2, (uint64_t)spare, 6, pool, 512 * 2, spare, 512 * 6, list, 8, &setup) != 0;
     access_wrong += oak_map(&setup, LENT, 0, (uint64_t)load_stub, OAK_4_KIB, OAK_READ | OAK_EXECUTE, &mapped) != 0;
     setup = mapped.setup;
     /* a guest is never given its own tables */
     access_wrong += oak_map(&setup, LENT, OAK_4_KIB, (uint64_t)pool, OAK_4_KIB, OAK_READ, &mapped) != OAK_REFUSED_POOL;
+    access_wrong += oak_map(&setup, LENT, OAK_4_KIB, (uint64_t)spare, OAK_4_KIB, OAK_READ, &mapped) != OAK_REFUSED_POOL;
     stage2_on(levels, (uint64_t)pool);
     WRITE_REGISTER(vbar_el1, NO_VECTORS);
     for (uint64_t i = 0; i < 3; i++)

@@ -3,7 +3,8 @@
  * arm/same builds this file twice, for x86-64 and for Arm, each time with the library of that machine, runs both and compares what
  * they write. All calls come from one fixed generator. A history formats a pool and then makes calls of every kind on it, most of them
  * sensible, some past a limit, some with a setup or a length that breaks the rules; every other history also damages the pool now
- * and then. Each answer goes into a hash, refusals and records alike, and after each call all words and places of the list do too.
+ * and then. Some pools have two regions of tables from the start, and to the others one may be added. Each answer goes into a hash,
+ * refusals and records alike, and after each call all words of both runs and places of the list do too.
  *
  * A line begins with the number of its history: every 64th call with its answer, and at the end the hashes. The last line counts
  * how often each function gave each answer; the program fails where one that can be given never was. */
@@ -14,11 +15,11 @@
 
 #include "oakabut.h"
 
-enum { HISTORIES = 96, CALLS = 256, SHOW = 64, MOST_TABLES = 512, USUAL_TABLES = 64, MAPPED = 16 };
+enum { HISTORIES = 96, CALLS = 256, SHOW = 64, MOST_TABLES = 512, USUAL_TABLES = 64, MOST_SECOND = 16, MAPPED = 16 };
 #define LIMIT (UINT64_C(1) << 48)
 
-static uint64_t words[512 * MOST_TABLES];
-static uint32_t list[MOST_TABLES];
+static uint64_t words[512 * MOST_TABLES], second[512 * MOST_SECOND];
+static uint32_t list[MOST_TABLES + MOST_SECOND];
 static oak_setup setup;
 
 /* ---- numbers from a fixed generator; no expression draws two, since C leaves their order open */
@@ -68,7 +69,8 @@ static uint64_t some_frame(uint64_t size) {
     if (once_in(32)) return anything();
     if (once_in(16)) return LIMIT - size;
     if (once_in(12) && size != 0) {
-        uint64_t near = setup.base + 4096 * below(setup.tables + 1) - (once_in(3) ? size : 0);
+        uint64_t first = setup.base + 4096 * below(setup.tables + 1), more = setup.second_base + 4096 * below(setup.second_tables + 1);
+        uint64_t near = (setup.second_tables != 0 && once_in(2) ? more : first) - (once_in(3) ? size : 0);
         return near - near % size;
     }
     return size != 0 && size < LIMIT ? below(LIMIT / size) * size : below(LIMIT);
@@ -78,23 +80,24 @@ static uint64_t some_frame(uint64_t size) {
 
 static unsigned history, call;
 static uint64_t hash;
-static unsigned long given[7][13]; /* how often a function gave a refusal; 0 counts what is none, 12 what should not be */
+static unsigned long given[8][13]; /* how often a function gave a refusal; 0 counts what is none, 12 what should not be */
 
 static void add(uint64_t number) {
     hash = (hash ^ number) * UINT64_C(0x9FB21C651E98DF25);
     hash ^= hash >> 29;
 }
 
-static void add_memory(uint64_t tables) {
+static void add_memory(uint64_t tables, uint64_t second_tables) {
     for (size_t i = 0; i < 512 * tables; i++) add(words[i]);
-    for (size_t i = 0; i < tables; i++) add(list[i]);
+    for (size_t i = 0; i < 512 * second_tables; i++) add(second[i]);
+    for (size_t i = 0; i < tables + second_tables; i++) add(list[i]);
 }
 
 /* takes an answer of count numbers into the hash, and writes it now and then */
 static void answered(unsigned function, const char *name, uint64_t refusal, const void *answer, size_t count) {
-    uint64_t numbers[10];
+    uint64_t numbers[12];
     memcpy(numbers, answer, 8 * count);
-    given[function][refusal < 12 ? refusal : function > 4 ? 0 : 12]++;
+    given[function][refusal < 12 ? refusal : function > 5 ? 0 : 12]++;
     add(refusal);
     for (size_t i = 0; i < count; i++) add(numbers[i]);
     if (call % SHOW != 0) return;
@@ -107,23 +110,41 @@ static void answered(unsigned function, const char *name, uint64_t refusal, cons
 
 struct lent {
     oak_setup setup;
-    size_t words, list;
+    size_t words, second, list;
 };
+#define LENT(l) words, l.words, second, l.second, list, l.list
 
 /* the setup and the lengths of the pool; now and then one of them is wrong */
 static struct lent lent(void) {
-    struct lent l = {setup, 512 * setup.tables, setup.tables};
+    struct lent l = {setup, 512 * setup.tables, 512 * setup.second_tables, setup.tables + setup.second_tables};
     if (!once_in(20)) return l;
-    switch (below(7)) {
+    switch (below(10)) {
+    case 7: l.setup.second_base = once_in(2) ? anything() : l.setup.base + 4096 * below(3); break;
+    case 8: l.setup.second_tables = once_in(2) ? anything() : below(MOST_SECOND); break;
+    case 9: l.second = once_in(2) ? l.second + 1 : 512; break;
     case 0: l.setup.levels = below(7); break;
     case 1: l.setup.base = once_in(2) ? l.setup.base + 1 : anything(); break;
     case 2: l.setup.base = LIMIT - 4096 * l.setup.tables + 4096 * below(2); break;
     case 3: l.setup.tables = once_in(2) ? anything() : once_in(2) ? MOST_TABLES + below(2) : below(USUAL_TABLES + 2); break;
-    case 4: l.setup.free = once_in(2) ? anything() : l.setup.tables; break;
+    case 4: l.setup.free = once_in(2) ? anything() : l.setup.tables + l.setup.second_tables; break;
     case 5: l.words += once_in(2) ? 1 : 512; break;
     default: l.list -= 1; break;
     }
     return l;
+}
+
+/* a base for a second region of so many tables: touching the first, at a limit, overlapping it, or anywhere */
+static uint64_t some_second_base(uint64_t tables) {
+    uint64_t anywhere = below(LIMIT / 8192) * 4096;
+    switch (below(8)) {
+    case 0: return setup.base + 4096 * setup.tables;
+    case 1: return setup.base - 4096 * tables;
+    case 2: return LIMIT - 4096 * tables;
+    case 3: return setup.base + 4096 * (setup.tables - 1);
+    case 4: return setup.base - 4096 * tables + 4096;
+    case 5: return once_in(2) ? anywhere + 1 : anything();
+    default: return anywhere;
+    }
 }
 
 static void call_format(void) {
@@ -131,9 +152,14 @@ static void call_format(void) {
     memset(&answer, 0x5A, sizeof answer);
     uint64_t levels = once_in(8) ? below(7) : setup.levels, base = once_in(8) ? anything() : setup.base;
     uint64_t tables = once_in(8) ? below(USUAL_TABLES + 3) : setup.tables, room = once_in(8) ? below(USUAL_TABLES + 1) : tables;
+    uint64_t more = once_in(4) ? below(MOST_SECOND + 2) : setup.second_tables, second_room = once_in(8) ? below(MOST_SECOND + 1) : more;
+    uint64_t second_base = more != setup.second_tables ? some_second_base(more) : setup.second_base;
+    if (more == 0 && !once_in(8)) second_base = 0;
     if (room > MOST_TABLES) room = MOST_TABLES;
-    uint64_t refusal = oak_format(levels, base, tables, words, 512 * room, list, room, &answer);
-    answered(0, "format", refusal, &answer, 4);
+    if (second_room > MOST_SECOND) second_room = MOST_SECOND;
+    struct lent l = {setup, 512 * room, 512 * second_room, room + second_room};
+    uint64_t refusal = oak_format(levels, base, tables, second_base, more, LENT(l), &answer);
+    answered(0, "format", refusal, &answer, 6);
     if (refusal == 0) setup = answer;
 }
 
@@ -145,8 +171,8 @@ static void call_map(void) {
     uint64_t size = some_size();
     memset(&answer, 0x5A, sizeof answer);
     uint64_t address = some_address(size), frame = some_frame(size), attributes = some_attributes();
-    uint64_t refusal = oak_map(&l.setup, words, l.words, list, l.list, address, frame, size, attributes, &answer);
-    answered(1, "map", refusal, &answer, 5);
+    uint64_t refusal = oak_map(&l.setup, LENT(l), address, frame, size, attributes, &answer);
+    answered(1, "map", refusal, &answer, 7);
     if (refusal == 0) setup = answer.setup, mapped[below(MAPPED)] = address;
 }
 
@@ -155,8 +181,8 @@ static void call_unmap(void) {
     struct lent l = lent();
     memset(&answer, 0x5A, sizeof answer);
     uint64_t address = once_in(2) ? mapped[below(MAPPED)] : some_address(OAK_4_KIB);
-    uint64_t refusal = oak_unmap(&l.setup, words, l.words, list, l.list, address, &answer);
-    answered(2, "unmap", refusal, &answer, 10);
+    uint64_t refusal = oak_unmap(&l.setup, LENT(l), address, &answer);
+    answered(2, "unmap", refusal, &answer, 12);
     if (refusal == 0) setup = answer.setup;
 }
 
@@ -165,7 +191,7 @@ static void call_query(void) {
     struct lent l = lent();
     memset(&answer, 0x5A, sizeof answer);
     uint64_t address = once_in(2) ? mapped[below(MAPPED)] + below(4096) : some_address(0);
-    uint64_t refusal = oak_query(&l.setup, words, l.words, list, l.list, address, &answer);
+    uint64_t refusal = oak_query(&l.setup, LENT(l), address, &answer);
     answered(3, "query", refusal, &answer, 6);
 }
 
@@ -173,32 +199,56 @@ static void call_audit(void) {
     oak_audited answer;
     struct lent l = lent();
     memset(&answer, 0x5A, sizeof answer);
-    uint64_t refusal = oak_audit(&l.setup, words, l.words, list, l.list, &answer);
+    uint64_t refusal = oak_audit(&l.setup, LENT(l), &answer);
     answered(4, "audit", refusal, &answer, 2);
+}
+
+/* a second region, sometimes at a frame that is mapped */
+static void call_add(void) {
+    oak_setup answer;
+    struct lent l = lent();
+    uint64_t tables = once_in(8) ? below(MOST_SECOND + 2) : 1 + below(4), base = some_second_base(tables);
+    if (once_in(2)) {
+        oak_found found;
+        uint64_t address = mapped[below(MAPPED)];
+        if (oak_query(&setup, words, 512 * setup.tables, second, 512 * setup.second_tables, list, setup.tables + setup.second_tables, address,
+                      &found) == 0)
+            base = found.frame + (once_in(2) ? found.size : 0) - 4096 * below(3);
+    }
+    if (l.second == 512 * l.setup.second_tables && tables <= MOST_SECOND) l.second = 512 * tables, l.list = l.setup.tables + tables;
+    if (l.list > MOST_TABLES + MOST_SECOND) l.list = MOST_TABLES;
+    memset(&answer, 0x5A, sizeof answer);
+    uint64_t refusal = oak_add(&l.setup, LENT(l), base, tables, &answer);
+    answered(5, "add", refusal, &answer, 6);
+    if (refusal == 0) setup = answer;
 }
 
 static void call_words(void) {
     uint64_t size = some_size(), frame = some_frame(size), attributes = some_attributes();
     uint64_t word = oak_frame_word(frame, size, attributes);
-    answered(5, "frame_word", word, &word, 1);
+    answered(6, "frame_word", word, &word, 1);
     if (once_in(3)) word ^= UINT64_C(1) << below(64);
     if (once_in(3)) size = some_size();
     uint64_t meaning = oak_word_meaning(word, size);
-    answered(6, "word_meaning", meaning, &meaning, 1);
+    answered(7, "word_meaning", meaning, &meaning, 1);
 }
 
 /* one change that no call makes: of a word, mostly one in use, or of the list; the setup's free count may lag behind too */
 static void damage(void) {
-    uint64_t size = some_size(), frame = some_frame(size), place = below(setup.tables);
+    uint64_t size = some_size(), frame = some_frame(size), all = setup.tables + setup.second_tables, place = below(all);
     uint64_t *word = &words[below(512 * setup.tables)];
-    for (size_t i = 0; i < 512 && *word == 0; i++) word = &words[512 * below(setup.tables) + below(3)];
-    switch (below(6)) {
+    for (size_t i = 0; i < 512 && *word == 0; i++) {
+        uint64_t table = below(all), entry = below(3);
+        word = table < setup.tables ? &words[512 * table + entry] : &second[512 * (table - setup.tables) + entry];
+    }
+    switch (below(7)) {
     case 0: *word ^= UINT64_C(1) << below(64); break;
     case 1: *word = random64(); break;
     case 2: *word = setup.base + 4096 * below(setup.tables + 1) + 3; break;
+    case 6: *word = setup.second_base + 4096 * below(setup.second_tables + 1) + 3; break;
     case 3: *word = oak_frame_word(frame, size, below(16)); break;
-    case 4: list[place] = (uint32_t)below(setup.tables + 2); break;
-    default: setup.free = below(setup.tables); break;
+    case 4: list[place] = (uint32_t)below(all + 2); break;
+    default: setup.free = below(all); break;
     }
 }
 
@@ -207,12 +257,18 @@ static void one_history(void) {
     hash = history, state = UINT64_C(1000003) * history;
     uint64_t tables = history % 16 == 15 ? MOST_TABLES : counts[history / 2 % 8];
     uint64_t bases[] = {UINT64_C(0x40000000), 0, LIMIT - 4096 * tables, below(LIMIT / 8192) * 4096};
-    setup = (oak_setup){history % 4 < 2 ? 3 : 4, bases[below(4)], tables, 0};
+    setup = (oak_setup){history % 4 < 2 ? 3 : 4, bases[below(4)], tables, 0, 0, 0};
+    /* every third pool has two regions from the start: the second touches the first, or stands far from it */
+    uint64_t more = history % 3 == 0 && tables + MOST_SECOND <= MOST_TABLES ? 1 + below(MOST_SECOND) : 0, above = setup.base + 4096 * tables;
+    uint64_t second_base = more == 0 ? 0 : above + 4096 * more > LIMIT ? setup.base - 4096 * more : above + (once_in(2) ? 0 : 4096 * below(5));
+    if (second_base + 4096 * more > LIMIT) second_base = setup.base - 4096 * more;
     memset(words, 0xA5, sizeof words);
+    memset(second, 0xA5, sizeof second);
     memset(list, 0xA5, sizeof list);
     memset(mapped, 0, sizeof mapped);
-    uint64_t refusal = oak_format(setup.levels, setup.base, tables, words, 512 * tables, list, tables, &setup);
-    answered(0, "format", refusal, &setup, 4);
+    uint64_t refusal = oak_format(setup.levels, setup.base, tables, second_base, more, words, 512 * tables, second, 512 * more, list,
+                                  tables + more, &setup);
+    answered(0, "format", refusal, &setup, 6);
     for (call = 1; call <= CALLS; call++) {
         uint64_t kind = below(64);
         if (history % 2 == 1 && once_in(16)) damage();
@@ -220,29 +276,30 @@ static void one_history(void) {
         else if (kind < 30) call_map();
         else if (kind < 44) call_unmap();
         else if (kind < 56) call_query();
-        else if (kind < 61) call_audit();
+        else if (kind < 60) call_audit();
+        else if (kind < 62) call_add();
         else call_words();
-        add_memory(setup.tables);
+        add_memory(setup.tables, setup.second_tables);
     }
     uint64_t answers = hash;
     hash = 0;
-    add_memory(MOST_TABLES);
-    printf("%u levels %" PRIu64 " tables %" PRIu64 " calls %d: answers and memory %016" PRIx64 ", memory at the end %016" PRIx64 "\n", history,
-           setup.levels, setup.tables, CALLS, answers, hash);
+    add_memory(MOST_TABLES, MOST_SECOND);
+    printf("%u levels %" PRIu64 " tables %" PRIu64 " and %" PRIu64 " calls %d: answers and memory %016" PRIx64 ", memory at the end %016" PRIx64 "\n", history,
+           setup.levels, setup.tables, setup.second_tables, CALLS, answers, hash);
 }
 
 /* the refusals that a function can give, as bits; bit 0 is an answer */
 static const struct {
     const char *name;
     unsigned can;
-} functions[7] = {{"format", 0x003}, {"map", 0x9FF},        {"unmap", 0x733},       {"query", 0x313},
-                  {"audit", 0x103},  {"frame_word", 0x03D}, {"word_meaning", 0x105}};
+} functions[8] = {{"format", 0x003}, {"map", 0x9FF}, {"unmap", 0x733},      {"query", 0x313},
+                  {"audit", 0x103},  {"add", 0x903}, {"frame_word", 0x03D}, {"word_meaning", 0x105}};
 
 int main(void) {
     bool all = true;
     for (history = 0; history < HISTORIES; history++) one_history();
     printf("answers:");
-    for (unsigned f = 0; f < 7; f++) {
+    for (unsigned f = 0; f < 8; f++) {
         printf("%s %s", f == 0 ? "" : ";", functions[f].name);
         for (unsigned r = 0; r < 13; r++) {
             if (given[f][r] != 0) printf(" %u:%lu", r, given[f][r]);

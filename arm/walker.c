@@ -19,7 +19,7 @@ static uint64_t pool[512 * 4] __attribute__((aligned(4096)));
 static uint32_t list[4];
 static oak_setup setup;
 static uint64_t wrong; /* calls that were refused */
-#define LENT pool, 512 * setup.tables, list, setup.tables
+#define LENT pool, 512 * setup.tables, OAK_NO_WORDS, 0, list, setup.tables
 
 static const uint64_t three[] = {0, 0xFFF, 0x1ABC, 0x2000, 0x3008, 0x200000, 0x201234, 0x3FFFFF, 0x400000, 0x7FFFFFF000, 0x8000000000};
 static const uint64_t four[] = {0, 0x40000000, 0x7FFFFFFF, 0x80000000, 0xFFFFFFFFF123, 0x1000000000000};
@@ -66,7 +66,7 @@ static void lines(const char *title, const uint64_t *addresses, size_t count) {
 #define FOUR four, sizeof four / sizeof *four
 
 static void format(uint64_t levels, uint64_t tables) {
-    wrong += oak_format(levels, (uint64_t)pool, tables, pool, 512 * tables, list, tables, &setup) != 0;
+    wrong += oak_format(levels, (uint64_t)pool, tables, 0, 0, pool, 512 * tables, OAK_NO_WORDS, 0, list, tables, &setup) != 0;
     stage2_on(levels, (uint64_t)pool);
 }
 

@@ -4,17 +4,20 @@
  * between calls, and read and write what their pointers name and no other memory. The archive needs one thing from its host: memset,
  * as the C library has it. C, C++ and freestanding code may include this.
  *
- * A pool is n tables of 512 words. Table t starts at word 512 * t and stands at the address base + 4096 * t; table 0 is the root.
- * The free list has n places, of which the first `free` are the numbers of free tables. The host gives both runs with every call,
- * and the setup that the last oak_format, oak_map or oak_unmap handed back.
+ * A pool is tables of 512 words, in one region of memory or in two. With n tables in the first region, table t below n starts at word
+ * 512 * t of the run `words` and stands at the address base + 4096 * t; table t from n on starts at word 512 * (t - n) of the run
+ * `second` and stands at second_base + 4096 * (t - n). Table 0 is the root. The free list has a place for each table of both regions,
+ * and its first `free` places are the numbers of free tables. The host gives both runs of words and the list with every call, and the
+ * setup that the last oak_format, oak_map, oak_unmap or oak_add handed back. Without a second region the second run is OAK_NO_WORDS, 0.
  *
- * Pointers. Each must be valid and aligned, also where a length is 0; a null pointer never is. The answer, the setup and the two lent
- * runs must not overlap: oak_map(&m.setup, ..., &m) is wrong, a copy of the setup is right. Nobody else may write to them during a
- * call. Lengths count elements, not bytes.
+ * Pointers. Each must be valid and aligned, also where a length is 0; a null pointer never is. The answer, the setup, the two runs of
+ * words and the list must not overlap: oak_map(&m.setup, ..., &m) is wrong, a copy of the setup is right. Nobody else may write to
+ * them during a call. Lengths count elements, not bytes.
  *
  * The machine. Tables are little-endian (SCTLR_EL2.EE 0). Stage 2 is set up with HCR_EL2.FWB 0, VTCR_EL2.HA and HD 0, TG0 4 KiB, and T0SZ 25 with
  * SL0 1 for three levels or T0SZ 16 with SL0 2 for four; without stage 2 permission indirection. A walker may read the pool while oak_map or
- * oak_unmap runs, and sees the mappings from before the call or from after it. It may not while oak_format runs, which fills the pool by memset. */
+ * oak_unmap runs, and sees the mappings from before the call or from after it; of what oak_add writes it sees nothing. It may not read the pool
+ * while oak_format runs, which fills it by memset. */
 #ifndef OAKABUT_H
 #define OAKABUT_H
 
@@ -48,7 +51,7 @@ extern "C" {
 #define OAK_REFUSED_DAMAGED UINT64_C(8)    /* the pool is damaged, or the word is no frame's at the size */
 #define OAK_REFUSED_EMPTY UINT64_C(9)      /* nothing is mapped there */
 #define OAK_REFUSED_INSIDE UINT64_C(10)    /* the mapping there starts at another address */
-#define OAK_REFUSED_POOL UINT64_C(11)      /* the frame shares a byte with the pool's tables */
+#define OAK_REFUSED_POOL UINT64_C(11)      /* the frame, or one that is mapped, shares a byte with the pool's tables */
 
 /* ---- the entry words, in plain numbers: no memory is read or written
  *
@@ -77,8 +80,11 @@ uint64_t oak_word_meaning(uint64_t word, uint64_t size);
 /* ---- the calls on a pool
  *
  * Each returns 0 or the number of a refusal, and always writes the whole answer. Where it refuses, the answer is zeros, but for the
- * setup that oak_map and oak_unmap hand back as it was, and for the hole that goes with OAK_REFUSED_EMPTY; and the words and the list
- * stay as they were.
+ * setup that oak_map, oak_unmap and oak_add hand back as it was, and for the hole that goes with OAK_REFUSED_EMPTY; and the words and
+ * the list stay as they were.
+ *
+ * OAK_REFUSED_SETUP is given where a setup number breaks its rule, words_len is not 512 * tables, second_len is not
+ * 512 * second_tables, or list_len is not tables + second_tables.
  *
  * The hole is the largest aligned region around the address that is empty: that of the empty entry where the walk ended. Its size is
  * 4 KiB, 2 MiB or 1 GiB, and with four levels also 512 GiB; its base is a multiple of its size. No mapping touches it. In a pool that
@@ -87,11 +93,16 @@ uint64_t oak_word_meaning(uint64_t word, uint64_t size);
  * The space is 2^39 for three levels and 2^48 for four. Sums do not wrap. */
 
 typedef struct {
-    uint64_t levels; /* 3 or 4 */
-    uint64_t base;   /* the address of table 0: a multiple of 4096, base + 4096 * tables at most 2^48 */
-    uint64_t tables; /* 1 to 512 */
-    uint64_t free;   /* how many tables are free: at most tables - 1 */
+    uint64_t levels;        /* 3 or 4 */
+    uint64_t base;          /* the address of table 0: a multiple of 4096, base + 4096 * tables at most 2^48 */
+    uint64_t tables;        /* at least 1, and with second_tables at most 512 */
+    uint64_t free;          /* how many tables are free: at most tables + second_tables - 1 */
+    uint64_t second_base;   /* where the second region starts, by the rules of base; the regions do not overlap, and may touch */
+    uint64_t second_tables; /* how many tables it has; where there is none both numbers are 0 */
 } oak_setup;
+
+/* What a caller without a second region hands in for its words, with length 0: a pointer that is aligned and not null. */
+#define OAK_NO_WORDS ((uint64_t *)8)
 
 typedef struct {
     oak_setup setup;
@@ -122,62 +133,78 @@ typedef struct {
     uint64_t mappings; /* the frames reached */
 } oak_audited;
 
-/* Empties the pool: all words become 0, place i of the list tables - 1 - i, and every table but the root is free.
+/* Empties the pool: all words of both runs become 0, place i of the list tables + second_tables - 1 - i, and every table but the root
+ * is free.
  *
- * Answers the setup, or four zeros and:
- *   OAK_REFUSED_SETUP  levels, base or tables breaks its rule, words_len is not 512 * tables, or list_len is not tables */
-uint64_t oak_format(uint64_t levels, uint64_t base, uint64_t tables, uint64_t *words, size_t words_len, uint32_t *list, size_t list_len,
-                    oak_setup *answer);
+ * Answers the setup, or zeros and:
+ *   OAK_REFUSED_SETUP  a number or a length breaks its rule */
+uint64_t oak_format(uint64_t levels, uint64_t base, uint64_t tables, uint64_t second_base, uint64_t second_tables, uint64_t *words,
+                    size_t words_len, uint64_t *second, size_t second_len, uint32_t *list, size_t list_len, oak_setup *answer);
+
+/* Gives a pool of one region a second one. list is the longer one, of tables + second_tables places, of which the first `free` count.
+ * The new tables go on it after those, highest number first; later places stay. The second run becomes zeros. No mapping changes.
+ *
+ * Answers the new setup, or the setup as it was handed in and the first of these that applies:
+ *   OAK_REFUSED_SETUP    the setup has a second region already, second_tables is 0, the setup's free is above its tables - 1, or a
+ *                        number or a length breaks its rule with the new region
+ *   OAK_REFUSED_DAMAGED  a table that is reached from the root has a damaged word, or is reached twice; a word that names a table of
+ *                        the new region is damaged. Neither the free list nor a reached table that is empty is looked at, nor whether a
+ *                        frame lies in the first region
+ *   OAK_REFUSED_POOL     the frame of a mapping shares a byte with the new region */
+uint64_t oak_add(const oak_setup *s, const uint64_t *words, size_t words_len, uint64_t *second, size_t second_len, uint32_t *list,
+                 size_t list_len, uint64_t second_base, uint64_t second_tables, oak_setup *answer);
 
 /* Maps a frame at an address. Missing tables are taken from the end of the free list, top first, and filled with zeros.
  *
  * Answers the new setup and the tables taken, or the first of these that applies:
- *   OAK_REFUSED_SETUP       a setup number breaks its rule, words_len is not 512 * tables, or list_len is not tables
+ *   OAK_REFUSED_SETUP       a setup number or a length breaks its rule
  *   OAK_REFUSED_SIZE        size is none of OAK_4_KIB, OAK_2_MIB and OAK_1_GIB
  *   OAK_REFUSED_ATTRIBUTES  attributes is above 15
  *   OAK_REFUSED_END         address + size is above the space, or frame + size above 2^48
  *   OAK_REFUSED_BASE        address or frame is not a multiple of size
- *   OAK_REFUSED_POOL        the frame shares a byte with the tables, base to base + 4096 * tables of the setup; a frame that ends at
- *                           the one or starts at the other is fine
+ *   OAK_REFUSED_POOL        the frame shares a byte with the tables of either region, base to base + 4096 * tables or second_base to
+ *                           second_base + 4096 * second_tables; a frame that ends where a region starts, or starts where it ends, is
+ *                           fine
  *   OAK_REFUSED_MAPPED or OAK_REFUSED_DAMAGED, whichever the walk from the root finds first: it meets a frame, or the entry it comes
  *                           to is a table or a frame; it meets a damaged word, or comes to the same table twice
  *   OAK_REFUSED_TABLES      the mapping needs more tables than are free
- *   OAK_REFUSED_DAMAGED     a table to be taken is not 1 to tables - 1, is taken twice, or stands on the path */
-uint64_t oak_map(const oak_setup *s, uint64_t *words, size_t words_len, const uint32_t *list, size_t list_len, uint64_t address,
-                 uint64_t frame, uint64_t size, uint64_t attributes, oak_mapped *answer);
+ *   OAK_REFUSED_DAMAGED     a table to be taken is not 1 to tables + second_tables - 1, is taken twice, or stands on the path */
+uint64_t oak_map(const oak_setup *s, uint64_t *words, size_t words_len, uint64_t *second, size_t second_len, const uint32_t *list,
+                 size_t list_len, uint64_t address, uint64_t frame, uint64_t size, uint64_t attributes, oak_mapped *answer);
 
 /* Removes the mapping that starts at an address. Tables that this leaves empty, from the deepest up and never the root, go back to the
  * end of the free list.
  *
  * Answers the new setup, the frame removed and the tables given back, or the first of these that applies:
- *   OAK_REFUSED_SETUP    a setup number breaks its rule, words_len is not 512 * tables, or list_len is not tables
+ *   OAK_REFUSED_SETUP    a setup number or a length breaks its rule
  *   OAK_REFUSED_END      address is not below the space
  *   OAK_REFUSED_BASE     address is not a multiple of 4096
  *   OAK_REFUSED_DAMAGED  the walk from the root meets a damaged word, or comes to the same table twice
  *   OAK_REFUSED_EMPTY    the walk ends at an empty entry; the answer has the hole
  *   OAK_REFUSED_INSIDE   the walk ends at a frame whose mapping does not start at address
- *   OAK_REFUSED_DAMAGED  giving back would make more than tables - 1 free */
-uint64_t oak_unmap(const oak_setup *s, uint64_t *words, size_t words_len, uint32_t *list, size_t list_len, uint64_t address,
-                   oak_unmapped *answer);
+ *   OAK_REFUSED_DAMAGED  giving back would make more than tables + second_tables - 1 free */
+uint64_t oak_unmap(const oak_setup *s, uint64_t *words, size_t words_len, uint64_t *second, size_t second_len, uint32_t *list,
+                   size_t list_len, uint64_t address, oak_unmapped *answer);
 
 /* The mapping that holds an address.
  *
  * Answers it, or the first of these that applies:
- *   OAK_REFUSED_SETUP    a setup number breaks its rule, words_len is not 512 * tables, or list_len is not tables
+ *   OAK_REFUSED_SETUP    a setup number or a length breaks its rule
  *   OAK_REFUSED_END      address is not below the space
  *   OAK_REFUSED_DAMAGED  the walk from the root meets a damaged word, or comes to the same table twice
  *   OAK_REFUSED_EMPTY    the walk ends at an empty entry; the answer has the hole */
-uint64_t oak_query(const oak_setup *s, const uint64_t *words, size_t words_len, const uint32_t *list, size_t list_len, uint64_t address,
-                   oak_found *answer);
+uint64_t oak_query(const oak_setup *s, const uint64_t *words, size_t words_len, const uint64_t *second, size_t second_len,
+                   const uint32_t *list, size_t list_len, uint64_t address, oak_found *answer);
 
-/* Whether the pool keeps every rule: no damaged word, no frame that shares a byte with the tables, no table reached twice, none empty
- * but the root, the free numbers distinct, 1 to tables - 1 and not reached, the free tables all zero, and every table free or reached.
+/* Whether the pool keeps every rule: no damaged word, no frame that shares a byte with the tables of either region, no table reached
+ * twice, none empty but the root, the free numbers distinct, 1 to tables + second_tables - 1 and not reached, the free tables all zero,
+ * and every table free or reached.
  *
  * Answers the counts, or the first of these that applies:
- *   OAK_REFUSED_SETUP    a setup number breaks its rule, words_len is not 512 * tables, or list_len is not tables
+ *   OAK_REFUSED_SETUP    a setup number or a length breaks its rule
  *   OAK_REFUSED_DAMAGED  a rule is broken */
-uint64_t oak_audit(const oak_setup *s, const uint64_t *words, size_t words_len, const uint32_t *list, size_t list_len,
-                   oak_audited *answer);
+uint64_t oak_audit(const oak_setup *s, const uint64_t *words, size_t words_len, const uint64_t *second, size_t second_len,
+                   const uint32_t *list, size_t list_len, oak_audited *answer);
 
 /* The library has each answer as a run of 64-bit numbers without a gap, and lengths of 64 bits. */
 #ifdef __cplusplus
@@ -187,22 +214,24 @@ uint64_t oak_audit(const oak_setup *s, const uint64_t *words, size_t words_len, 
 #endif
 OAK_HOLDS(sizeof(size_t) == 8);
 OAK_HOLDS(sizeof(void *) == 8);
-OAK_HOLDS(sizeof(oak_setup) == 32);
+OAK_HOLDS(sizeof(oak_setup) == 48);
 OAK_HOLDS(offsetof(oak_setup, levels) == 0);
 OAK_HOLDS(offsetof(oak_setup, base) == 8);
 OAK_HOLDS(offsetof(oak_setup, tables) == 16);
 OAK_HOLDS(offsetof(oak_setup, free) == 24);
-OAK_HOLDS(sizeof(oak_mapped) == 40);
+OAK_HOLDS(offsetof(oak_setup, second_base) == 32);
+OAK_HOLDS(offsetof(oak_setup, second_tables) == 40);
+OAK_HOLDS(sizeof(oak_mapped) == 56);
 OAK_HOLDS(offsetof(oak_mapped, setup) == 0);
-OAK_HOLDS(offsetof(oak_mapped, taken) == 32);
-OAK_HOLDS(sizeof(oak_unmapped) == 80);
+OAK_HOLDS(offsetof(oak_mapped, taken) == 48);
+OAK_HOLDS(sizeof(oak_unmapped) == 96);
 OAK_HOLDS(offsetof(oak_unmapped, setup) == 0);
-OAK_HOLDS(offsetof(oak_unmapped, frame) == 32);
-OAK_HOLDS(offsetof(oak_unmapped, size) == 40);
-OAK_HOLDS(offsetof(oak_unmapped, attributes) == 48);
-OAK_HOLDS(offsetof(oak_unmapped, given) == 56);
-OAK_HOLDS(offsetof(oak_unmapped, hole_base) == 64);
-OAK_HOLDS(offsetof(oak_unmapped, hole_size) == 72);
+OAK_HOLDS(offsetof(oak_unmapped, frame) == 48);
+OAK_HOLDS(offsetof(oak_unmapped, size) == 56);
+OAK_HOLDS(offsetof(oak_unmapped, attributes) == 64);
+OAK_HOLDS(offsetof(oak_unmapped, given) == 72);
+OAK_HOLDS(offsetof(oak_unmapped, hole_base) == 80);
+OAK_HOLDS(offsetof(oak_unmapped, hole_size) == 88);
 OAK_HOLDS(sizeof(oak_found) == 48);
 OAK_HOLDS(offsetof(oak_found, base) == 0);
 OAK_HOLDS(offsetof(oak_found, frame) == 8);

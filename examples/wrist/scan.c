@@ -4,6 +4,7 @@
 #define LABEL ((volatile uint64_t *)0x2000)     /* its own page, which the sync guest may read too */
 #define STORE ((volatile uint64_t *)0x200000)   /* its own as well, mapped when it is first used */
 #define PICTURE ((volatile uint64_t *)0x400000)  /* 2 MiB, mapped all at once when a word of it is first used */
+#define ARCHIVE ((volatile uint64_t *)0x600000) /* mapped when it is first used */
 #define NOT_OURS ((volatile uint64_t *)0x10000000)
 
 ENTRY void scan_guest(void) {
@@ -15,6 +16,8 @@ ENTRY void scan_guest(void) {
     PICTURE[0] = 1;
     PICTURE[0x20000] = 2;
     tell("the picture has", PICTURE[0x3FFFF] + PICTURE[0] + PICTURE[0x20000]);
+    *ARCHIVE = *STORE; /* traps, and waits until a table is free */
+    tell("the archive has", *ARCHIVE);
     ((void (*)(void))LABEL)(); /* what was scanned is never executed: the jump traps, and comes back */
     tell("still here after a jump into the label", *LABEL);
     *NOT_OURS = 1; /* traps, and is passed over */

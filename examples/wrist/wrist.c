@@ -8,9 +8,11 @@
  *           0x00002000  its data     rw-                      0x40002000  its data         rw-
  *           0x00200000  its store    rw-, on demand           0x40003000  the scan's data  r--
  *           0x00400000  its picture  rw-, on demand           0x40200000  its buffer       rw-, on demand
+ *           0x00600000  its archive  rw-, on demand
  *
- * Each guest needs a table for its GiB and one for its first 2 MiB, and one more for the page that comes on demand. With the root that
- * makes seven, and the pool has six: whoever comes last has to wait until the other gives its page up.
+ * Each guest needs a table for its GiB and one for its first 2 MiB, and one more for each page that comes on demand. With the root that
+ * makes eight, and the pool has six. Memory for one more was found after boot: when a map gets 7 for the first time, it is added to the
+ * pool while the guests run, and the same map is made again. Whoever comes last has to wait until the other gives its page up.
  *
  * The picture has 2 MiB. What is mapped on demand is the largest frame that fits both the hole that oak_query tells and what the guest
  * may have, so the picture comes by one fault and one map, and that needs no table. */
@@ -20,13 +22,15 @@
 
 /* ---- the pool: lent memory, and the setup that every call takes and hands back */
 
-enum { LEVELS = 3, TABLES = 6 };
+enum { LEVELS = 3, TABLES = 6, MORE = 1 };
 #define POOL UINT64_C(0x44000000)
+#define SPARE UINT64_C(0x44800000)
 
 static uint64_t *const words = (uint64_t *)POOL; /* our MMU is off, so this is also the address at which the machine reads them */
-static uint32_t list[TABLES];
+static uint64_t *const spare = (uint64_t *)SPARE;
+static uint32_t list[TABLES + MORE];
 static oak_setup setup;
-#define LENT words, 512 * TABLES, list, TABLES
+#define LENT words, 512 * TABLES, spare, 512 * setup.second_tables, list, TABLES + setup.second_tables
 
 static const char *letters(uint64_t attributes) {
     static const char *const all[] = {"---", "r--", "-w-", "rw-", "--x", "r-x", "-wx", "rwx"};
@@ -44,18 +48,19 @@ static void after_call(void) {
 
 /* Maps a frame, and answers the refusal. */
 static uint64_t map(uint64_t address, uint64_t frame, uint64_t size, uint64_t attributes) {
-    static uint64_t words_before[512 * TABLES];
-    static uint32_t list_before[TABLES];
+    static uint64_t words_before[512 * TABLES], spare_before[512 * MORE];
+    static uint32_t list_before[TABLES + MORE];
     oak_mapped answer;
     memcpy(words_before, words, sizeof words_before);
+    memcpy(spare_before, spare, sizeof spare_before);
     memcpy(list_before, list, sizeof list_before);
     uint64_t refusal = oak_map(&setup, LENT, address, frame, size, attributes, &answer);
     say("   map %x to %x, size %x, %s: ", address, frame, size, letters(attributes));
     if (refusal == 0) {
         say("takes %u\n", answer.taken);
     } else {
-        int as_before = memcmp(words_before, words, sizeof words_before) == 0 && memcmp(list_before, list, sizeof list_before) == 0 &&
-                        memcmp(&answer.setup, &setup, sizeof setup) == 0;
+        int as_before = memcmp(words_before, words, sizeof words_before) == 0 && memcmp(spare_before, spare, sizeof spare_before) == 0 &&
+                        memcmp(list_before, list, sizeof list_before) == 0 && memcmp(&answer.setup, &setup, sizeof setup) == 0;
         say("refused with %u, %s\n", refusal, as_before ? "and every word, list place and setup number is as before" : "BUT SOMETHING CHANGED");
     }
     setup = answer.setup;
@@ -74,6 +79,18 @@ static uint64_t unmap(uint64_t address) {
     return answer.given;
 }
 
+/* Gives the pool a second region, where it has none yet. Answers whether there are more tables now. */
+static int add(void) {
+    oak_setup answer;
+    if (setup.second_tables != 0) return 0;
+    uint64_t refusal = oak_add(&setup, words, 512 * TABLES, spare, 512 * MORE, list, TABLES + MORE, SPARE, MORE, &answer);
+    if (refusal == 0) say("   add %u table at %x: free %u\n", answer.second_tables, answer.second_base, answer.free);
+    else say("   add: refused with %u\n", refusal);
+    setup = answer;
+    after_call();
+    return refusal == 0;
+}
+
 /* ---- the guests */
 
 struct area {
@@ -83,11 +100,11 @@ struct guest {
     const char *name;
     enum { READY, SHORT_OF_A_TABLE, DONE } state;
     uint64_t first, last;     /* its part of the space */
-    struct area on_demand[2]; /* what it gets when it first uses it, and from where */
+    struct area on_demand[3]; /* what it gets when it first uses it, and from where */
     struct registers registers;
 };
 static struct guest scan = {"scan", READY, 0, 0x3FFFFFFF,
-    {{0x00200000, OAK_4_KIB, 0x45002000}, {0x00400000, OAK_2_MIB, 0x45200000}}, {.pc = 0x1000, .sp = 0x3000, .pstate = AT_EL1}};
+    {{0x00200000, OAK_4_KIB, 0x45002000}, {0x00400000, OAK_2_MIB, 0x45200000}, {0x00600000, OAK_4_KIB, 0x45003000}}, {.pc = 0x1000, .sp = 0x3000, .pstate = AT_EL1}};
 static struct guest sync = {"sync", READY, 0x40000000, 0x7FFFFFFF,
     {{0x40200000, OAK_4_KIB, 0x46002000}}, {.pc = 0x40001000, .sp = 0x40003000, .pstate = AT_EL1}};
 
@@ -128,7 +145,7 @@ static int called(struct guest *guest) {
 
 /* The area of a guest's that an address is in, or none. */
 static const struct area *area_of(const struct guest *guest, uint64_t address) {
-    for (int i = 0; i < 2; i++)
+    for (int i = 0; i < 3; i++)
         if (address - guest->on_demand[i].first < guest->on_demand[i].size) return &guest->on_demand[i];
     return 0;
 }
@@ -156,7 +173,9 @@ static int trapped(struct guest *guest, struct trap trap) {
     const struct area *area = area_of(guest, trap.address);
     if (refusal == OAK_REFUSED_EMPTY && area) {
         say("query says %u, a hole of %x at %x, and it may have %x\n", refusal, found.hole_size, found.hole_base, area->size);
-        if (fill(area, trap.address, found.hole_size) == 0) return 1; /* it makes the access again */
+        uint64_t refused = fill(area, trap.address, found.hole_size);
+        if (refused == OAK_REFUSED_TABLES && add()) refused = fill(area, trap.address, found.hole_size);
+        if (refused == 0) return 1; /* it makes the access again */
         guest->state = SHORT_OF_A_TABLE;
         return 0;
     }
@@ -178,7 +197,8 @@ static int goes_on(struct guest *guest) {
 }
 
 int main(void) {
-    uint64_t refusal = oak_format(LEVELS, POOL, TABLES, LENT, &setup);
+    memset(spare, 0xFF, 512 * MORE * sizeof *spare); /* what is found after boot may hold anything */
+    uint64_t refusal = oak_format(LEVELS, POOL, TABLES, 0, 0, LENT, &setup);
     say("format: answers %u, %u levels, %u tables at %x\n", refusal, setup.levels, setup.tables, setup.base);
     after_call();
     map(0x00001000, 0x45000000, OAK_4_KIB, OAK_READ | OAK_EXECUTE); /* guests.ld has the two programs loaded into these frames */

@@ -1,8 +1,8 @@
 /* The calls on a pool, by numbers written down here.
  *
- * The two lent runs, the setup and the answer stand in one block with guard words between them. Before a call the test says what the
+ * The three lent runs, the setup and the answer stand in one block with guard words between them. Before a call the test says what the
  * whole block has to be after it; after the call every part of the block is compared, so a word too many anywhere is a failure.
- * A call counts as five tests: its number, the words, the list, the setup and the answer.
+ * A call counts as six tests: its number, the words of both runs, the list, the setup and the answer.
  * The header is also C++ and freestanding C: g++ -xc++ -fsyntax-only and gcc -ffreestanding -fsyntax-only take it.
  * The last line is 'N passed, M failed'. */
 #include <inttypes.h>
@@ -19,18 +19,20 @@
 #define SPACE_3 (UINT64_C(1) << 39)
 #define MOST UINT64_MAX
 #define POOL UINT64_C(0x40000000)
+#define MORE UINT64_C(0x50000000) /* where a second region stands */
 #define FRAME UINT64_C(0x80000000)
 
 typedef struct {
     uint64_t words[GUARD + 512 * MOST_TABLES + GUARD];
-    uint64_t setup[GUARD + 4 + GUARD];
-    uint64_t answer[GUARD + 10 + GUARD];
+    uint64_t second[GUARD + 512 * MOST_TABLES + GUARD];
+    uint64_t setup[GUARD + 6 + GUARD];
+    uint64_t answer[GUARD + 12 + GUARD];
     uint32_t list[GUARD + MOST_TABLES + GUARD];
 } block;
 
-static block is, want;             /* what there is, and what has to be */
-static oak_setup setup;            /* the setup of the next call */
-static size_t words_len, list_len; /* and the lengths */
+static block is, want;                         /* what there is, and what has to be */
+static oak_setup setup;                        /* the setup of the next call */
+static size_t words_len, second_len, list_len; /* and the lengths */
 static unsigned long passed, failed;
 
 /* ---- what has to be */
@@ -44,18 +46,23 @@ static void test(const char *call, const char *part, bool good) {
     printf("%s: %s wrong\n", call, part);
 }
 
-/* the call is to write this word or this place */
+/* the call is to write this word, or this one of the second run, or this place */
 static void writes(size_t i, uint64_t value) { want.words[GUARD + i] = value; }
+static void writes_second(size_t i, uint64_t value) { want.second[GUARD + i] = value; }
 static void writes_place(size_t i, uint32_t value) { want.list[GUARD + i] = value; }
 
-/* somebody else has written this word or this place */
+/* somebody else has written this word, or this one of the second run, or this place */
 static void damage(size_t i, uint64_t value) { is.words[GUARD + i] = want.words[GUARD + i] = value; }
+static void damage_second(size_t i, uint64_t value) { is.second[GUARD + i] = want.second[GUARD + i] = value; }
 static void damage_place(size_t i, uint32_t value) { is.list[GUARD + i] = want.list[GUARD + i] = value; }
 
-static void lengths_of(uint64_t tables) {
+static void lengths_of_two(uint64_t tables, uint64_t second_tables) {
     words_len = 512 * tables;
-    list_len = tables;
+    second_len = 512 * second_tables;
+    list_len = tables + second_tables;
 }
+
+static void lengths_of(uint64_t tables) { lengths_of_two(tables, 0); }
 
 /* the setup and the answer before a call, and the answer after it */
 static void before(const void *answer, size_t bytes) {
@@ -71,6 +78,7 @@ static void after(const char *call, uint64_t got, uint64_t number) {
     snprintf(what, sizeof what, "%s, got %" PRIu64 ", want %" PRIu64, call, got, number);
     test(what, "the number is", got == number);
     test(what, "the words are", memcmp(is.words, want.words, sizeof is.words) == 0);
+    test(what, "the second run is", memcmp(is.second, want.second, sizeof is.second) == 0);
     test(what, "the list is", memcmp(is.list, want.list, sizeof is.list) == 0);
     test(what, "the setup is", memcmp(is.setup, want.setup, sizeof is.setup) == 0);
     test(what, "the answer is", memcmp(is.answer, want.answer, sizeof is.answer) == 0);
@@ -78,24 +86,49 @@ static void after(const char *call, uint64_t got, uint64_t number) {
 }
 
 static uint64_t *words(void) { return is.words + GUARD; }
+static uint64_t *second(void) { return second_len == 0 ? OAK_NO_WORDS : is.second + GUARD; }
 static uint32_t *list(void) { return is.list + GUARD; }
 static const oak_setup *given(void) { return (const oak_setup *)(const void *)(is.setup + GUARD); }
 static void *answer(void) { return is.answer + GUARD; }
 
 /* ---- the calls; number 0 says that the call does what the other arguments say */
 
-static void format_is(uint64_t levels, uint64_t base, uint64_t tables, uint64_t number) {
-    char what[120];
-    oak_setup a = {0, 0, 0, 0};
+static void format_two(uint64_t levels, uint64_t base, uint64_t tables, uint64_t second_base, uint64_t second_tables, uint64_t number) {
+    char what[160];
+    oak_setup a = {0, 0, 0, 0, 0, 0};
     if (number == 0) {
-        a = (oak_setup){levels, base, tables, tables - 1};
+        uint64_t all = tables + second_tables;
+        a = (oak_setup){levels, base, tables, all - 1, second_base, second_tables};
         for (size_t i = 0; i < 512 * tables; i++) writes(i, 0);
-        for (size_t i = 0; i < tables; i++) writes_place(i, (uint32_t)(tables - 1 - i));
+        for (size_t i = 0; i < 512 * second_tables; i++) writes_second(i, 0);
+        for (size_t i = 0; i < all; i++) writes_place(i, (uint32_t)(all - 1 - i));
     }
     before(&a, sizeof a);
-    snprintf(what, sizeof what, "format %" PRIu64 " %#" PRIx64 " %" PRIu64, levels, base, tables);
-    after(what, oak_format(levels, base, tables, words(), words_len, list(), list_len, answer()), number);
+    snprintf(what, sizeof what, "format %" PRIu64 " %#" PRIx64 " %" PRIu64 " %#" PRIx64 " %" PRIu64, levels, base, tables, second_base,
+             second_tables);
+    after(what,
+          oak_format(levels, base, tables, second_base, second_tables, words(), words_len, second(), second_len, list(), list_len, answer()),
+          number);
     if (number == 0) setup = a;
+}
+
+static void format_is(uint64_t levels, uint64_t base, uint64_t tables, uint64_t number) { format_two(levels, base, tables, 0, 0, number); }
+
+/* an add of so many tables at an address; 0 says that it is made */
+static void add_is(uint64_t base, uint64_t tables, uint64_t number) {
+    char what[120];
+    oak_setup a = setup;
+    if (number == 0) {
+        a.second_base = base;
+        a.second_tables = tables;
+        a.free += tables;
+        for (size_t i = 0; i < 512 * tables; i++) writes_second(i, 0);
+        for (size_t i = 0; i < tables; i++) writes_place(setup.free + i, (uint32_t)(setup.tables + tables - 1 - i));
+    }
+    before(&a, sizeof a);
+    snprintf(what, sizeof what, "add %#" PRIx64 " %" PRIu64, base, tables);
+    after(what, oak_add(given(), words(), words_len, second(), second_len, list(), list_len, base, tables, answer()), number);
+    setup = a;
 }
 
 static void map_is(uint64_t address, uint64_t frame, uint64_t size, uint64_t attributes, uint64_t number, uint64_t taken) {
@@ -104,7 +137,7 @@ static void map_is(uint64_t address, uint64_t frame, uint64_t size, uint64_t att
     a.setup.free -= taken;
     before(&a, sizeof a);
     snprintf(what, sizeof what, "map %#" PRIx64 " %#" PRIx64 " %#" PRIx64 " %" PRIu64, address, frame, size, attributes);
-    after(what, oak_map(given(), words(), words_len, list(), list_len, address, frame, size, attributes, answer()), number);
+    after(what, oak_map(given(), words(), words_len, second(), second_len, list(), list_len, address, frame, size, attributes, answer()), number);
     setup = a.setup;
 }
 
@@ -114,7 +147,7 @@ static void unmap_is(uint64_t address, uint64_t frame, uint64_t size, uint64_t a
     a.setup.free += gives;
     before(&a, sizeof a);
     snprintf(what, sizeof what, "unmap %#" PRIx64, address);
-    after(what, oak_unmap(given(), words(), words_len, list(), list_len, address, answer()), 0);
+    after(what, oak_unmap(given(), words(), words_len, second(), second_len, list(), list_len, address, answer()), 0);
     setup = a.setup;
 }
 
@@ -123,13 +156,13 @@ static void query_is(uint64_t address, uint64_t base, uint64_t frame, uint64_t s
     oak_found a = {base, frame, size, attributes, 0, 0};
     before(&a, sizeof a);
     snprintf(what, sizeof what, "query %#" PRIx64, address);
-    after(what, oak_query(given(), words(), words_len, list(), list_len, address, answer()), 0);
+    after(what, oak_query(given(), words(), words_len, second(), second_len, list(), list_len, address, answer()), 0);
 }
 
 static void audit_is(uint64_t tables, uint64_t mappings, uint64_t number) {
     oak_audited a = {tables, mappings};
     before(&a, sizeof a);
-    after("audit", oak_audit(given(), words(), words_len, list(), list_len, answer()), number);
+    after("audit", oak_audit(given(), words(), words_len, second(), second_len, list(), list_len, answer()), number);
 }
 
 static void map_refused(uint64_t address, uint64_t frame, uint64_t size, uint64_t attributes, uint64_t number) {
@@ -141,7 +174,7 @@ static void unmap_carries(uint64_t address, uint64_t number, uint64_t hole_base,
     oak_unmapped a = {setup, 0, 0, 0, 0, hole_base, hole_size};
     before(&a, sizeof a);
     snprintf(what, sizeof what, "unmap %#" PRIx64, address);
-    after(what, oak_unmap(given(), words(), words_len, list(), list_len, address, answer()), number);
+    after(what, oak_unmap(given(), words(), words_len, second(), second_len, list(), list_len, address, answer()), number);
 }
 
 static void query_carries(uint64_t address, uint64_t number, uint64_t hole_base, uint64_t hole_size) {
@@ -149,7 +182,7 @@ static void query_carries(uint64_t address, uint64_t number, uint64_t hole_base,
     oak_found a = {0, 0, 0, 0, hole_base, hole_size};
     before(&a, sizeof a);
     snprintf(what, sizeof what, "query %#" PRIx64, address);
-    after(what, oak_query(given(), words(), words_len, list(), list_len, address, answer()), number);
+    after(what, oak_query(given(), words(), words_len, second(), second_len, list(), list_len, address, answer()), number);
 }
 
 /* only 9 carries a hole */
@@ -292,27 +325,40 @@ static void layout(void) {
     oak_unmapped u;
     oak_found f;
     oak_audited a;
-    test("format", "the number is", oak_format(3, POOL, 7, w, 512 * 7, l, 7, &s) == 0);
-    test("format", "the answer is", s.levels == 3 && s.base == POOL && s.tables == 7 && s.free == 6);
-    test("map", "the number is", oak_map(&s, w, 512 * 7, l, 7, 0x400000, 0x80200000, OAK_2_MIB, 5, &m) == 0);
+    test("format", "the number is", oak_format(3, POOL, 7, 0, 0, w, 512 * 7, OAK_NO_WORDS, 0, l, 7, &s) == 0);
+    test("format", "the answer is", s.levels == 3 && s.base == POOL && s.tables == 7 && s.free == 6 && s.second_base + s.second_tables == 0);
+    test("map", "the number is", oak_map(&s, w, 512 * 7, OAK_NO_WORDS, 0, l, 7, 0x400000, 0x80200000, OAK_2_MIB, 5, &m) == 0);
     test("map", "the answer is",
          m.setup.levels == 3 && m.setup.base == POOL && m.setup.tables == 7 && m.setup.free == 5 && m.taken == 1);
-    test("query", "the number is", oak_query(&m.setup, w, 512 * 7, l, 7, 0x412345, &f) == 0);
+    test("query", "the number is", oak_query(&m.setup, w, 512 * 7, OAK_NO_WORDS, 0, l, 7, 0x412345, &f) == 0);
     test("query", "the answer is", f.base == 0x400000 && f.frame == 0x80200000 && f.size == OAK_2_MIB && f.attributes == 5);
     test("query", "no hole is", f.hole_base + f.hole_size == 0);
-    test("query", "the refusal is", oak_query(&m.setup, w, 512 * 7, l, 7, 0x612345, &f) == 9);
+    test("query", "the refusal is", oak_query(&m.setup, w, 512 * 7, OAK_NO_WORDS, 0, l, 7, 0x612345, &f) == 9);
     test("query", "the hole is", f.hole_base == 0x600000 && f.hole_size == OAK_2_MIB && f.base + f.frame + f.size + f.attributes == 0);
-    test("unmap", "the refusal is", oak_unmap(&m.setup, w, 512 * 7, l, 7, 0x612000, &u) == 9);
+    test("unmap", "the refusal is", oak_unmap(&m.setup, w, 512 * 7, OAK_NO_WORDS, 0, l, 7, 0x612000, &u) == 9);
     test("unmap", "the hole is", u.hole_base == 0x600000 && u.hole_size == OAK_2_MIB && u.frame + u.size + u.attributes + u.given == 0);
-    test("audit", "the number is", oak_audit(&m.setup, w, 512 * 7, l, 7, &a) == 0);
+    test("audit", "the number is", oak_audit(&m.setup, w, 512 * 7, OAK_NO_WORDS, 0, l, 7, &a) == 0);
     test("audit", "the answer is", a.tables == 2 && a.mappings == 1);
-    test("unmap", "the number is", oak_unmap(&m.setup, w, 512 * 7, l, 7, 0x400000, &u) == 0);
+    test("unmap", "the number is", oak_unmap(&m.setup, w, 512 * 7, OAK_NO_WORDS, 0, l, 7, 0x400000, &u) == 0);
     test("unmap", "the setup is", u.setup.levels == 3 && u.setup.base == POOL && u.setup.tables == 7 && u.setup.free == 6);
     test("unmap", "the answer is", u.frame == 0x80200000 && u.size == OAK_2_MIB && u.attributes == 5 && u.given == 1 && u.hole_base + u.hole_size == 0);
-    s = (oak_setup){101, 102, 103, 104};
-    test("map", "the refusal is", oak_map(&s, w, 512 * 7, l, 7, 1, 2, 3, 4, &m) == 1);
+    static uint64_t v[512 * 2];
+    static uint32_t longer[9];
+    memcpy(longer, l, sizeof l);
+    test("add", "the number is", oak_add(&u.setup, w, 512 * 7, v, 512 * 2, longer, 9, MORE, 2, &s) == 0);
+    test("add", "the answer is",
+         s.levels == 3 && s.base == POOL && s.tables == 7 && s.free == 8 && s.second_base == MORE && s.second_tables == 2);
+    test("map", "the number is", oak_map(&s, w, 512 * 7, v, 512 * 2, longer, 9, 0x400000, 0x80200000, OAK_2_MIB, 5, &m) == 0);
+    test("map", "the setup is", m.setup.second_base == MORE && m.setup.second_tables == 2 && m.setup.free == 7 && m.taken == 1);
+    test("unmap", "the number is", oak_unmap(&m.setup, w, 512 * 7, v, 512 * 2, longer, 9, 0x400000, &u) == 0);
+    test("unmap", "the setup is", u.setup.second_base == MORE && u.setup.second_tables == 2 && u.setup.free == 8 && u.given == 1);
+    s = (oak_setup){101, 102, 103, 104, 105, 106};
+    oak_setup back = {0, 0, 0, 0, 0, 0};
+    test("add", "the refusal is", oak_add(&s, w, 512 * 7, v, 512 * 2, longer, 9, MORE, 2, &back) == 1);
+    test("add", "the setup handed back is", memcmp(&back, &s, sizeof s) == 0);
+    test("map", "the refusal is", oak_map(&s, w, 512 * 7, OAK_NO_WORDS, 0, l, 7, 1, 2, 3, 4, &m) == 1);
     test("map", "the setup handed back is", memcmp(&m.setup, &s, sizeof s) == 0 && m.taken == 0);
-    test("unmap", "the refusal is", oak_unmap(&s, w, 512 * 7, l, 7, 1, &u) == 1);
+    test("unmap", "the refusal is", oak_unmap(&s, w, 512 * 7, OAK_NO_WORDS, 0, l, 7, 1, &u) == 1);
     test("unmap", "the setup handed back is", memcmp(&u.setup, &s, sizeof s) == 0 && u.frame + u.size + u.attributes + u.given == 0);
 }
 
@@ -330,18 +376,23 @@ static void all_refuse_1(void) {
 
 static void bad_setups(void) {
     static const oak_setup bad[] = {
-        {0, POOL, 4, 1}, {2, POOL, 4, 1}, {5, POOL, 4, 1}, {MOST, POOL, 4, 1}, {3 + (UINT64_C(1) << 32), POOL, 4, 1},
-        {3, POOL + 1, 4, 1}, {3, POOL + 2048, 4, 1}, {3, LIMIT - 4 * 4096 + 4096, 4, 1}, {3, LIMIT, 4, 1}, {3, 0 - UINT64_C(4096), 4, 1},
-        {3, MOST, 4, 1}, {3, POOL, 0, 1}, {3, POOL, 0, 0}, {3, POOL, 3, 1}, {3, POOL, 5, 1}, {3, POOL, 513, 1}, {3, POOL, 1 + (UINT64_C(1) << 32), 1}, {3, POOL, MOST, 1},
-        {3, POOL, 4, 4}, {3, POOL, 4, 5}, {3, POOL, 4, MOST}, {3, POOL, 4, 1 + (UINT64_C(1) << 32)}, {0, 0, 0, 0}, {4, POOL, 4, 4},
+        {0, POOL, 4, 1, 0, 0}, {2, POOL, 4, 1, 0, 0}, {5, POOL, 4, 1, 0, 0}, {MOST, POOL, 4, 1, 0, 0}, {3 + (UINT64_C(1) << 32), POOL, 4, 1, 0, 0},
+        {3, POOL + 1, 4, 1, 0, 0}, {3, POOL + 2048, 4, 1, 0, 0}, {3, LIMIT - 4 * 4096 + 4096, 4, 1, 0, 0}, {3, LIMIT, 4, 1, 0, 0},
+        {3, 0 - UINT64_C(4096), 4, 1, 0, 0}, {3, MOST, 4, 1, 0, 0}, {3, POOL, 0, 1, 0, 0}, {3, POOL, 0, 0, 0, 0}, {3, POOL, 3, 1, 0, 0},
+        {3, POOL, 5, 1, 0, 0}, {3, POOL, 513, 1, 0, 0}, {3, POOL, 1 + (UINT64_C(1) << 32), 1, 0, 0}, {3, POOL, MOST, 1, 0, 0},
+        {3, POOL, 4, 4, 0, 0}, {3, POOL, 4, 5, 0, 0}, {3, POOL, 4, MOST, 0, 0}, {3, POOL, 4, 1 + (UINT64_C(1) << 32), 0, 0}, {0, 0, 0, 0, 0, 0},
+        {4, POOL, 4, 4, 0, 0},
+        /* a second base without tables, tables without memory */
+        {3, POOL, 4, 1, MORE, 0}, {3, POOL, 4, 1, 1, 0}, {3, POOL, 4, 1, MORE, 1}, {3, POOL, 4, 1, 0, 1}, {3, POOL, 3, 1, MORE, 1},
+        {3, POOL, 4, 1, MORE, MOST}, {3, POOL, 4, 1, MORE, MOST - 3},
     };
     three_mappings();
     for (size_t i = 0; i < COUNT(bad); i++) {
         setup = bad[i];
         all_refuse_1();
-        if (bad[i].free < 4) format_is(bad[i].levels, bad[i].base, bad[i].tables, 1);
+        if (bad[i].free < 4) format_two(bad[i].levels, bad[i].base, bad[i].tables, bad[i].second_base, bad[i].second_tables, 1);
     }
-    setup = (oak_setup){3, POOL, 513, 1};
+    setup = (oak_setup){3, POOL, 513, 1, 0, 0};
     lengths_of(513);
     all_refuse_1();
     format_is(3, POOL, 513, 1);
@@ -360,10 +411,253 @@ static void bad_lengths(void) {
         format_is(3, POOL, 4, 1);
         format_is(4, POOL, 4, 1);
     }
+    lengths_of(4);
+    second_len = 512; /* a second run without a second region */
+    all_refuse_1();
+    format_is(3, POOL, 4, 1);
     lengths_of(0);
     format_is(3, POOL, 0, 1);
-    setup = (oak_setup){3, POOL, 0, 0};
+    setup = (oak_setup){3, POOL, 0, 0, 0, 0};
     all_refuse_1();
+}
+
+/* ---- two regions */
+
+static void fresh_two(uint64_t levels, uint64_t base, uint64_t tables, uint64_t second_base, uint64_t second_tables) {
+    memset(&is, 0xA5, sizeof is);
+    want = is;
+    lengths_of_two(tables, second_tables);
+    format_two(levels, base, tables, second_base, second_tables, 0);
+}
+
+/* two tables at POOL, three at MORE; the page at 0 takes table 1 of the first region and table 2, the first of the second */
+static void one_of_each(void) {
+    fresh_two(3, POOL, 2, MORE, 3);
+    writes(0, 0x40001003);
+    writes(512, 0x50000003);
+    writes_second(0, UINT64_C(0x00400000800007FF));
+    map_is(0, FRAME, 4096, 3, 0, 2);
+}
+
+static void two_regions(void) {
+    one_of_each();
+    writes(1, 0x50001003);
+    writes_second(512, 0x50002003);
+    writes_second(1024, UINT64_C(0x00400000800007FF));
+    map_is(0x40000000, FRAME, 4096, 3, 0, 2);
+    audit_is(5, 2, 0);
+    map_refused(0x80000000, FRAME, 4096, 3, 7);
+    query_is(0xFFF, 0, FRAME, 4096, 3);
+    query_is(0x40000ABC, 0x40000000, FRAME, 4096, 3);
+    query_hole(0x1000, 0x1000, 4096);
+    /* they come back, and are taken again the other way round */
+    writes(0, 0);
+    writes(512, 0);
+    writes_second(0, 0);
+    writes_place(0, 2);
+    writes_place(1, 1);
+    unmap_is(0, FRAME, 4096, 3, 2);
+    writes(1, 0);
+    writes_second(512, 0);
+    writes_second(1024, 0);
+    writes_place(2, 4);
+    writes_place(3, 3);
+    unmap_is(0x40000000, FRAME, 4096, 3, 2);
+    audit_is(1, 0, 0);
+    writes(511, 0x50001003);
+    writes_second(512 + 511, 0x50002003);
+    writes_second(1024 + 511, UINT64_C(0x00400000800007FF));
+    map_is(SPACE_3 - 4096, FRAME, 4096, 3, 0, 2);
+    audit_is(3, 1, 0);
+    map_refused(0, MORE, 4096, 3, 11);
+    map_refused(0, MORE + 0x2000, 4096, 3, 11);
+    map_refused(0, POOL, OAK_1_GIB, 3, 11);
+    writes(0, 0x40001003);
+    writes(512, UINT64_C(0x004000004FE007FD));
+    map_is(0, MORE - OAK_2_MIB, OAK_2_MIB, 3, 0, 1);
+    damage_second(1024, UINT64_C(0x00400000500017FF));
+    audit_refused(8);
+}
+
+/* words that name the other region's end, and what is past either */
+static void ends_of_regions(void) {
+    static const uint64_t ends[] = {0x40002003, 0x3FFFF003, 0x40000003, 0x50003003, 0x4FFFF003};
+    for (size_t i = 0; i < COUNT(ends); i++) {
+        one_of_each();
+        damage(513, ends[i]);
+        query_refused(0x200000, 8);
+        map_refused(0x200000, FRAME, 4096, 3, 8);
+        unmap_refused(0x200000, 8);
+        audit_refused(8);
+    }
+    one_of_each();
+    damage(513, 0x50002003); /* the last table, which is free */
+    query_hole(0x200000, 0x200000, 4096);
+    audit_refused(8);
+}
+
+/* regions that touch either way round, and that overlap either way round */
+static void places_of_regions(void) {
+    static const uint64_t fine[] = {POOL + 0x2000, POOL - 0x3000, 0, LIMIT - 0x3000};
+    static const uint64_t wrong[] = {POOL + 0x1000, POOL - 0x2000, POOL, POOL - 0x1000, LIMIT - 0x2000, LIMIT, MORE + 1, 0 - UINT64_C(4096), MOST};
+    for (size_t i = 0; i < COUNT(fine); i++) fresh_two(3, POOL, 2, fine[i], 3);
+    one_of_each();
+    for (size_t i = 0; i < COUNT(wrong); i++) {
+        format_two(3, POOL, 2, wrong[i], 3, 1);
+        setup = (oak_setup){3, POOL, 2, 2, wrong[i], 3};
+        all_refuse_1();
+    }
+    setup = (oak_setup){3, POOL, 2, 2, MORE, 3};
+    for (second_len = 1535; second_len <= 1537; second_len += 2) {
+        all_refuse_1();
+        format_two(3, POOL, 2, MORE, 3, 1);
+    }
+    lengths_of_two(2, 3);
+    for (list_len = 2; list_len <= 6; list_len += list_len == 4 ? 2 : 1) {
+        all_refuse_1();
+        format_two(3, POOL, 2, MORE, 3, 1);
+    }
+    lengths_of_two(3, 2);
+    all_refuse_1();
+    lengths_of_two(2, 3);
+    audit_is(3, 1, 0);
+    setup.free = 5;
+    all_refuse_1();
+    fresh_two(4, POOL, 1, MORE, 511);
+    audit_is(1, 0, 0);
+    fresh_two(4, POOL, 511, MORE, 1);
+    lengths_of_two(512, 1);
+    format_two(4, POOL, 512, MORE, 1, 1);
+    lengths_of_two(1, 512);
+    format_two(4, POOL, 1, MORE, 512, 1);
+}
+
+/* ---- a region that is added */
+
+/* the pool of case 4 with memory for two tables more */
+static void one_short(void) {
+    three_mappings();
+    lengths_of_two(4, 2);
+}
+
+static void add_cases(void) {
+    three_mappings();
+    map_refused(0x40000000, FRAME, 4096, 3, 7);
+    lengths_of_two(4, 2);
+    add_is(MORE, 2, 0);
+    test("add", "the free count is", setup.free == 3 && list()[0] == 3 && list()[1] == 5 && list()[2] == 4 && list()[3] == 0);
+    audit_is(3, 3, 0);
+    writes(1, 0x50000003);
+    writes_second(0, 0x50001003);
+    writes_second(512, UINT64_C(0x00400000800007FF));
+    map_is(0x40000000, FRAME, 4096, 3, 0, 2);
+    audit_is(5, 4, 0);
+    query_is(0x40000123, 0x40000000, FRAME, 4096, 3);
+    add_is(MORE + OAK_1_GIB, 2, 1);
+    writes(1, 0);
+    writes_second(0, 0);
+    writes_second(512, 0);
+    writes_place(1, 5);
+    writes_place(2, 4);
+    unmap_is(0x40000000, FRAME, 4096, 3, 2);
+    audit_is(3, 3, 0);
+    /* touching, at both sides, at 0 and at 2^48 */
+    one_short();
+    add_is(POOL + 0x4000, 2, 0);
+    one_short();
+    add_is(POOL - 0x2000, 2, 0);
+    one_short();
+    add_is(0, 2, 0);
+    one_short();
+    add_is(LIMIT - 0x2000, 2, 0);
+    audit_is(3, 3, 0);
+    fresh(3, POOL, 4);
+    lengths_of_two(4, 508);
+    add_is(MORE, 508, 0);
+    audit_is(1, 0, 0);
+    fresh(3, POOL, 4);
+    lengths_of_two(4, 509);
+    add_is(MORE, 509, 1);
+}
+
+static void add_refuses_1(void) {
+    static const uint64_t numbers[][2] = {
+        {MORE, 0}, {0, 0}, {POOL, 2}, {POOL + 0x3000, 2}, {POOL - 0x1000, 2}, {MORE + 1, 2}, {MORE + 2048, 2}, {LIMIT - 0x1000, 2},
+        {LIMIT, 2}, {0 - UINT64_C(4096), 2}, {MOST, 2}, {MORE, 1}, {MORE, 3}, {MORE, 509}, {MORE, MOST}, {MORE, MOST - 3},
+    };
+    static const size_t lengths[][3] = {
+        {2048, 1023, 6}, {2048, 1025, 6}, {2048, 0, 6}, {2048, 1024, 5}, {2048, 1024, 7}, {2048, 1024, 4}, {2047, 1024, 6}, {2049, 1024, 6},
+        {0, 0, 0}, {1024, 2048, 6},
+    };
+    static const oak_setup bad[] = {
+        {2, POOL, 4, 1, 0, 0}, {3, POOL + 1, 4, 1, 0, 0}, {3, MORE, 4, 1, 0, 0}, {3, MORE + 0x1000, 4, 1, 0, 0}, {3, POOL, 3, 1, 0, 0},
+        {3, POOL, 4, 4, 0, 0}, {3, POOL, 4, 5, 0, 0}, {3, POOL, 4, MOST, 0, 0}, {3, POOL, 4, 1, MORE, 0}, {3, POOL, 4, 1, MORE, 2},
+        {3, POOL, 4, 1, MORE + OAK_1_GIB, 2}, {0, 0, 0, 0, 0, 0},
+    };
+    one_short();
+    for (size_t i = 0; i < COUNT(numbers); i++) add_is(numbers[i][0], numbers[i][1], 1);
+    for (size_t i = 0; i < COUNT(lengths); i++) {
+        words_len = lengths[i][0], second_len = lengths[i][1], list_len = lengths[i][2];
+        add_is(MORE, 2, 1);
+    }
+    lengths_of_two(4, 2);
+    for (size_t i = 0; i < COUNT(bad); i++) {
+        setup = bad[i];
+        add_is(MORE, 2, 1);
+    }
+    fresh_two(3, POOL, 4, MORE, 2);
+    add_is(MORE + OAK_1_GIB, 2, 1);
+}
+
+static void add_refuses_8(size_t word, uint64_t value) {
+    one_short();
+    damage(word, value);
+    add_is(MORE, 2, 8);
+}
+
+static void add_takes(size_t word, uint64_t value) {
+    one_short();
+    damage(word, value);
+    add_is(MORE, 2, 0);
+}
+
+static void add_damaged(void) {
+    add_refuses_8(1026, 5);
+    add_refuses_8(2047 - 1024, 5);
+    add_refuses_8(511, MOST);
+    add_refuses_8(514, 0x50000003); /* a table of the region to come */
+    add_refuses_8(514, 0x40004003);
+    add_refuses_8(1, 0x40001003);   /* table 1 for two regions */
+    add_refuses_8(514, 0x40001003); /* which names itself */
+    add_takes(514, 0x40003003);     /* an empty table */
+    add_takes(1536, 5);             /* a free table that is not zero */
+    add_takes(1026, UINT64_C(0x00400000400007FF)); /* a frame in the first region */
+    audit_refused(8);
+    one_short();
+    setup.free = 3;
+    damage_place(0, UINT32_MAX); /* a free list of nonsense */
+    damage_place(2, 0);
+    add_is(MORE, 2, 0);
+    add_refuses_8(1027, 5);
+    damage(1028, UINT64_C(0x00400000500007FF)); /* 8 before 11 */
+    add_is(MORE, 2, 8);
+    damage(1027, 0);
+    add_is(MORE + 1, 2, 1); /* 1 before 11 */
+    add_is(MORE, 2, 11);
+    add_is(MORE - 0x1000, 2, 11);
+    add_is(MORE - 0x2000, 2, 0);
+    one_short();
+    damage(514, UINT64_C(0x00400000500007FD)); /* 2 MiB at MORE */
+    add_is(MORE + 0x1FF000, 2, 11);
+    add_is(MORE + 0x7000, 2, 11);
+    add_is(MORE + 0x200000, 2, 0);
+    one_short();
+    damage(7, UINT64_C(0x00400000C00007FD)); /* 1 GiB at 0xC0000000 */
+    add_is(0xC0000000 - 0x1000, 2, 11);
+    add_is(0xFFFFE000, 2, 11);
+    add_is(0x80200000, 2, 11); /* the frame of case 4 */
+    add_is(UINT64_C(0x100000000), 2, 0);
+    audit_is(3, 4, 0);
 }
 
 /* ---- the refusals of map, and which of two is given */
@@ -588,6 +882,12 @@ int main(void) {
     layout();
     bad_setups();
     bad_lengths();
+    two_regions();
+    ends_of_regions();
+    places_of_regions();
+    add_cases();
+    add_refuses_1();
+    add_damaged();
     map_refusals();
     map_damaged();
     damaged_words();

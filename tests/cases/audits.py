@@ -20,7 +20,7 @@ def says(name, levels, free, entries, places=FREE):
     """A line: what the audit answers of a pool of four tables with these words, and this free list."""
     words = [0] * 2048
     for i, w in entries.items(): words[i] = w
-    a = audit_(Setup(levels, BASE, 4, free), words, places)
+    a = audit_(Setup(levels, BASE, 4, free), Lent(words, [], places))
     print(f'{name}: ' + (f'refused {a[1]}' if a[0] == 'refused' else f'sound, tables {a[1]}, mappings {a[2]}'))
 
 

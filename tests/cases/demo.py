@@ -2,7 +2,7 @@
 import sys
 from paper import *
 out = []
-W, L = [0] * 2048, [0] * 4
+M = Lent([0] * 2048, [], [0] * 4)
 NAMES = {4096: 'a page of 4 KiB', 2 ** 21: 'a frame of 2 MiB', 2 ** 30: 'a frame of 1 GiB'}
 WHY = {7: ': too few tables are free', 10: ': no mapping starts there', 11: ': the frame shares a byte with the pool'}
 rights = lambda a: ', rights ' + ''.join(n if a & b else '-' for b, n in ((1, 'r'), (2, 'w'), (4, 'x')))
@@ -12,7 +12,7 @@ def say(t): out.append(t)
 
 
 def audit(s):
-    a = audit_(s, W, L)
+    a = audit_(s, M)
     assert a[0] == 'sound'
     say(f'  The audit finds the pool sound: tables in use {a[1]}, free {s.free}, mappings {a[2]}.')
 
@@ -20,14 +20,14 @@ def audit(s):
 def refused(k, same):
     say(f'  Refused with {k}{WHY[k]}.')
     assert same
-    say('  All 2048 words, 4 places of the free list and 4 setup numbers are as before.')
+    say('  All 2048 words, 4 places of the free list and 6 setup numbers are as before.')
 
 
 def mp(s, at, f, z, a):
     say(f'Map {NAMES[z]} at {at:#x} to memory {f:#x}{rights(a)}.')
-    old, ol = list(W), list(L)
-    r, b = map_(s, W, L, at, f, z, a)
-    if r[0] == 'refused': refused(r[1], old == W and ol == L and b is s)
+    old = M.copy()
+    r, b = map_(s, M, at, f, z, a)
+    if r[0] == 'refused': refused(r[1], old.key() == M.key() and b is s)
     else: say(f'  Done: tables taken {r[1]}.')
     audit(b)
     return b
@@ -35,9 +35,9 @@ def mp(s, at, f, z, a):
 
 def un(s, at):
     say(f'Unmap at {at:#x}.')
-    old, ol = list(W), list(L)
-    r, b = unmap_(s, W, L, at)
-    if r[0] == 'refused': refused(r[1], old == W and ol == L and b is s)
+    old = M.copy()
+    r, b = unmap_(s, M, at)
+    if r[0] == 'refused': refused(r[1], old.key() == M.key() and b is s)
     else: say(f"  Done: {NAMES[r[2]]} of memory {r[1]:#x} is the host's again; tables given back {r[4]}.")
     audit(b)
     return b
@@ -45,7 +45,7 @@ def un(s, at):
 
 def qu(s, at):
     say(f'Query {at:#x}.')
-    r = query_(s, W, L, at)
+    r = query_(s, M, at)
     if r[0] == 'refused':
         assert r[1] == 9
         say(f'  Refused with 9: nothing is mapped there, and {NAMES[r[3]]} at {r[2]:#x} would fit.')
@@ -55,7 +55,7 @@ def qu(s, at):
 
 
 say('Format a pool of 4 tables at 0x40000000, for addresses below 0x8000000000.')
-a, s = format_(3, 0x40000000, 4, W, L)
+a, s = format_(3, 0x40000000, 4, 0, 0, M)
 assert a == ('done',)
 audit(s)
 say('\nThe scan guest gets its program and a buffer for pictures.')

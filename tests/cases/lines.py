@@ -4,7 +4,7 @@ from paper import *
 BASE, FRAME, PAGE, MIB2, GIB = 0x40000000, 0x80000000, 4096, 2 ** 21, 2 ** 30
 TOP = 2 ** 64 - 4096
 given, wanted = [], []
-W, L, cur = [], [], Setup(0, 0, 0, 0)
+M, cur = Lent([], [], []), Setup(0, 0, 0, 0)
 
 
 def line(head, answer=''):
@@ -12,17 +12,18 @@ def line(head, answer=''):
     wanted.append(head + answer)
 
 
-def nums(s): return f'levels {s.levels}, base {s.base:#x}, tables {s.tables}, free {s.free}'
+def second(s): return f', second base {s.base2:#x}, second tables {s.tables2}' if (s.base2, s.tables2) != (0, 0) else ''
+def nums(s): return f'levels {s.levels}, base {s.base:#x}, tables {s.tables}, free {s.free}' + second(s)
 def fr(f, z, a): return f'frame {f:#x}, size {z:#x}, attributes {a}'
 
 
 def refused(k, *hole): return f'refused {k}' + (', hole {:#x}, size {:#x}'.format(*hole) if hole else '')
 
 
-def said(head, a, done, ow, op):
-    """What a call answers, the setup after it, and what is not as it was."""
-    words = [f'; word {i}={w:#x}' for i, (w, o) in enumerate(zip(W, ow)) if w != o]
-    places = [f'; place {i}={t}' for i, (t, o) in enumerate(zip(L, op)) if t != o]
+def said(head, a, done, old):
+    """What a call answers, the setup after it, and what is not as it was. The words of the second run are counted after those of the first."""
+    words = [f'; word {i}={w:#x}' for i, (w, o) in enumerate(zip(M.first + M.second, old.first + old.second)) if w != o]
+    places = [f'; place {i}={t}' for i, (t, o) in enumerate(zip(M.list, old.list)) if t != o]
     answer = refused(*a[1:]) if a[0] == 'refused' else done(*a[1:])
     line(head, f' -> {answer}; {nums(cur)}' + (''.join(words + places) or '; kept'))
 
@@ -33,59 +34,78 @@ def heading(t):
     line(t)
 
 
-def lend(name, nw, w, np, p):
-    global W, L
-    W, L = [w] * nw, [p] * np
-    line(f'{name}: lend {nw} words of {w:#x}, {np} places of {p:#x}')
+def lend(name, nw, w, np, p, n2=0, w2=0):
+    global M
+    M = Lent([w] * nw, [w2] * n2, [p] * np)
+    line(f'{name}: lend {nw} words of {w:#x}, {np} places of {p:#x}' + (f', {n2} more words of {w2:#x}' if n2 else ''))
+
+
+def have(name, n2, w2, np, p):
+    """Another second run, and a list that is longer or shorter. What there was of the list stays."""
+    M.second[:] = [w2] * n2
+    M.list[:] = (M.list + [p] * np)[:np]
+    line(f'{name}: have {n2} more words of {w2:#x}, {np} places of {p:#x}')
 
 
 def word(name, i, v):
-    W[i] = v
+    if i < len(M.first): M.first[i] = v
+    else: M.second[i - len(M.first)] = v
     line(f'{name}: word {i} becomes {v:#x}')
 
 
 def place(name, i, t):
-    L[i] = t
+    M.list[i] = t
     line(f'{name}: place {i} becomes {t:#x}')
 
 
-def setup(name, levels, base, tables, free):
+def setup(name, *numbers):
     global cur
-    cur = Setup(levels, base, tables, free)
+    cur = Setup(*numbers)
     line(f'{name}: setup {nums(cur)}')
 
 
-def fmt(name, levels, base, n):
+def fmt(name, levels, base, n, base2=0, n2=0):
     global cur
-    ow, op = list(W), list(L)
-    a, cur = format_(levels, base, n, W, L)
-    if a[0] == 'refused': assert (ow, op) == (W, L)
-    else: ow = [0] * len(W)
-    said(f'{name}: format levels {levels}, base {base:#x}, tables {n}', a, lambda: 'done, all words 0', ow, op)
+    old = M.copy()
+    a, cur = format_(levels, base, n, base2, n2, M)
+    if a[0] == 'refused': assert old.key() == M.key()
+    else: old.first, old.second = [0] * len(M.first), [0] * len(M.second)
+    head = f'{name}: format levels {levels}, base {base:#x}, tables {n}' + second(Setup(levels, base, n, 0, base2, n2))
+    said(head, a, lambda: 'done, all words 0', old)
 
 
 def mp(name, va, f, z, at):
     global cur
-    s, ow, op = cur, list(W), list(L)
-    a, cur = map_(s, W, L, va, f, z, at)
-    if a[0] == 'refused': assert (ow, op) == (W, L) and cur is s
-    said(f'{name}: map {va:#x} to {fr(f, z, at)}', a, lambda n: f'takes {n}', ow, op)
+    s, old = cur, M.copy()
+    a, cur = map_(s, M, va, f, z, at)
+    if a[0] == 'refused': assert old.key() == M.key() and cur is s
+    said(f'{name}: map {va:#x} to {fr(f, z, at)}', a, lambda n: f'takes {n}', old)
 
 
 def un(name, va):
     global cur
-    s, ow, op = cur, list(W), list(L)
-    a, cur = unmap_(s, W, L, va)
-    if a[0] == 'refused': assert (ow, op) == (W, L) and cur is s
-    said(f'{name}: unmap {va:#x}', a, lambda f, z, at, n: f'gives {n}, {fr(f, z, at)}', ow, op)
+    s, old = cur, M.copy()
+    a, cur = unmap_(s, M, va)
+    if a[0] == 'refused': assert old.key() == M.key() and cur is s
+    said(f'{name}: unmap {va:#x}', a, lambda f, z, at, n: f'gives {n}, {fr(f, z, at)}', old)
 
 
 def qu(name, va):
-    said(f'{name}: query {va:#x}', query_(cur, W, L, va), lambda b, f, z, at: f'base {b:#x}, {fr(f, z, at)}', W, L)
+    said(f'{name}: query {va:#x}', query_(cur, M, va), lambda b, f, z, at: f'base {b:#x}, {fr(f, z, at)}', M)
 
 
 def au(name):
-    said(f'{name}: audit', audit_(cur, W, L), lambda t, m: f'tables {t}, mappings {m}', W, L)
+    said(f'{name}: audit', audit_(cur, M), lambda t, m: f'tables {t}, mappings {m}', M)
+
+
+def ad(name, base2, n2):
+    """The adding call. It is `grow` here, since the first letter of a line's call says which it is."""
+    global cur
+    s, old = cur, M.copy()
+    a, cur = add_(s, M, base2, n2)
+    if a[0] == 'refused': assert old.key() == M.key() and cur is s
+    else: old.second = [0] * len(M.second)
+    said(f'{name}: grow base {base2:#x}, tables {n2}', a, lambda: 'done, all more words 0', old)
 
 
 heading('The eleven cases of document 01.')
@@ -440,7 +460,7 @@ device = lambda size: FRAME + (3 if size == PAGE else 1) + ATTRS[11]
 for name, size, i, va in [('a page', PAGE, 1026, 0x2000), ('2 MiB', MIB2, 514, 0x400000), ('1 GiB', GIB, 1, 0x40000000)]:
     ready()
     mp(name, va, FRAME, size, 11)
-    assert W[i] == device(size)
+    assert M.first[i] == device(size)
     au(name)
     word('the old word of ' + name, i, device(size) + OLD)
     four('the old word of ' + name, va)
@@ -603,6 +623,319 @@ word('the page past the pool', 1026, page(BASE + 4 * PAGE))
 au('the page past the pool')
 word('2 MiB that end where the pool starts', 514, large(BASE - MIB2))
 au('2 MiB that end where the pool starts')
+
+# ---- two regions
+MORE = 0x50000000
+LINK2 = lambda t: MORE + 4096 * t + 3
+
+
+def two_regions(levels=3):
+    """Two tables at BASE, three at MORE."""
+    lend('two and three tables', 1024, 7, 5, 9, 1536, 7)
+    fmt('two and three tables', levels, BASE, 2, MORE, 3)
+
+
+heading('Tables in two regions. A map takes tables of both, an unmap gives them back, and they are taken again.')
+two_regions()
+au('two and three tables')
+mp('one of each region', 0, FRAME, PAGE, 3)
+mp('both of the second', 0x40000000, FRAME, PAGE, 5)
+mp('7', 0x80000000, FRAME, PAGE, 3)
+au('all tables in use')
+qu('in the second region', 0xABC)
+qu('in the second region', 0x40000FFF)
+qu('a hole of its table', 0x1000)
+un('one of each region', 0)
+au('one of each region')
+mp('the same two, the other way round', 0x7FC0000000, 0x80200000, PAGE, 7)
+un('both of the second', 0x40000000)
+mp('2 MiB', 0x200000, 0x80200000, MIB2, 3)
+mp('a page beside', 0, FRAME, PAGE, 3)
+au('tables used again')
+un('a page beside', 0)
+un('2 MiB', 0x200000)
+un('the last', 0x7FC0000000)
+au('all given back')
+two_regions(4)
+mp('four levels', 0, FRAME, PAGE, 3)
+mp('four levels', 2 ** 39, FRAME, GIB, 3)
+mp('7', 2 ** 40, FRAME, GIB, 3)
+au('four levels')
+un('four levels', 0)
+mp('four levels', 2 ** 48 - 4096, FRAME, PAGE, 3)
+au('four levels')
+
+heading('Regions that touch, either way round, and regions that overlap.')
+fmt('the second starts where the first ends', 3, BASE, 2, BASE + 2 * PAGE, 3)
+mp('tables side by side', 0, FRAME, PAGE, 3)
+mp('the page past both', 0x1000, BASE + 5 * PAGE, PAGE, 3)
+mp('11, at the border', 0x2000, BASE + 2 * PAGE, PAGE, 3)
+au('the second starts where the first ends')
+fmt('the second ends where the first starts', 3, BASE, 2, BASE - 3 * PAGE, 3)
+mp('tables side by side', 0, FRAME, PAGE, 3)
+mp('the page before both', 0x1000, BASE - 4 * PAGE, PAGE, 3)
+mp('11, at the border', 0x2000, BASE - PAGE, PAGE, 3)
+au('the second ends where the first starts')
+fmt('the second at 0', 3, BASE, 2, 0, 3)
+mp('11 at 0', 0, 0, PAGE, 3)
+mp('the page past it', 0, 3 * PAGE, PAGE, 3)
+fmt('the second up to 2^48', 4, BASE, 2, 2 ** 48 - 3 * PAGE, 3)
+mp('the second up to 2^48', 0, FRAME, PAGE, 3)
+au('the second up to 2^48')
+fmt('the last table shared', 3, BASE, 2, BASE + PAGE, 3)
+fmt('the first table shared', 3, BASE, 2, BASE - 2 * PAGE, 3)
+fmt('one base', 3, BASE, 2, BASE, 3)
+fmt('around the first', 3, BASE + PAGE, 2, BASE, 3)
+fmt('second base within a page', 3, BASE, 2, MORE + 2048, 3)
+fmt('second base too high', 3, BASE, 2, 2 ** 48 - 2 * PAGE, 3)
+fmt('second base at the top of 64 bits', 3, BASE, 2, TOP, 3)
+fmt('second base without tables', 3, BASE, 2, MORE, 0)
+fmt('tables without a base', 3, 0, 2, 0, 3)
+fmt('no table in the first', 3, BASE, 0, MORE, 5)
+fmt('four of the second', 3, BASE, 2, MORE, 4)
+fmt('511 of the second', 3, BASE, 2, MORE, 511)
+fmt('2^64 - 2 of the second', 3, BASE, 2, MORE, 2 ** 64 - 2)
+fmt('one and four', 3, BASE, 1, MORE, 4)
+fmt('one region', 3, BASE, 5)
+
+heading('Every other call refuses the second region\'s numbers and lengths, by 1.')
+two_regions()
+mp('pool', 0, FRAME, PAGE, 3)
+all_refuse('second base without tables', 3, BASE, 2, 2, MORE, 0)
+all_refuse('no second region', 3, BASE, 2, 1)
+all_refuse('the regions overlap', 3, BASE, 2, 2, BASE + PAGE, 3)
+all_refuse('the regions overlap, the other way round', 3, BASE, 2, 2, BASE - 2 * PAGE, 3)
+all_refuse('second base within a page', 3, BASE, 2, 2, MORE + 1, 3)
+all_refuse('second base too high', 3, BASE, 2, 2, 2 ** 48 - 2 * PAGE, 3)
+all_refuse('two of the second', 3, BASE, 2, 2, MORE, 2)
+all_refuse('2^64 - 2 of the second', 3, BASE, 2, 2, MORE, 2 ** 64 - 2)
+all_refuse('all tables free', 3, BASE, 2, 5, MORE, 3)
+lend('too few more words', 1024, 0, 5, 3, 1535, 0)
+all_refuse('too few more words', 3, BASE, 2, 4, MORE, 3)
+lend('too many more words', 1024, 0, 5, 3, 1537, 0)
+all_refuse('too many more words')
+lend('a table in the wrong run', 1536, 0, 5, 3, 1024, 0)
+all_refuse('a table in the wrong run')
+lend('places of the first alone', 1024, 0, 2, 3, 1536, 0)
+all_refuse('places of the first alone')
+lend('more words without a second region', 1024, 0, 2, 1, 512, 0)
+all_refuse('more words without a second region', 3, BASE, 2, 1)
+fmt('more words without a second region', 3, BASE, 2)
+
+heading('Refusal 8, by words that name the other region\'s end, and by free numbers.')
+for name, w in [('past the first', BASE + 2 * PAGE + 3), ('past the second', LINK2(3)), ('before the second', LINK2(-1)),
+                ('the root', BASE + 3), ('before the first', BASE - PAGE + 3)]:
+    two_regions()
+    mp('pool', 0, FRAME, PAGE, 3)
+    word(name, 513, w)
+    four(name, 0x200000)
+    word(name, 1025, w)
+    qu(name + ', at the last level', 0x1000)
+two_regions()
+mp('pool', 0, FRAME, PAGE, 3)
+word('a table of the second for two regions', 513, LINK2(0))
+qu('a table of the second for two regions', 0x200000)
+au('a table of the second for two regions')
+word('a table of the second that names itself', 1024, LINK2(0))
+word('a table of the second that names itself', 512, LINK2(0))
+setup('a table of the second that names itself', 4, BASE, 2, 2, MORE, 3)
+four('a table of the second that names itself', 0)
+fmt('side by side', 3, BASE, 2, BASE + 2 * PAGE, 3)
+mp('side by side', 0, FRAME, PAGE, 3)
+word('past the first is the second', 513, BASE + 4 * PAGE + 3)
+mp('past the first is the second', 0x201000, FRAME, PAGE, 3)
+au('which is free as well')
+two_regions()
+place('the greatest number', 3, 4)
+mp('the greatest number', 0, FRAME, MIB2, 3)
+place('past it', 2, 5)
+mp('past it', 0x40000000, FRAME, MIB2, 3)
+two_regions()
+mp('room for two', 0, FRAME, PAGE, 3)
+setup('room for one of two', 3, BASE, 2, 3, MORE, 3)
+un('room for one of two', 0)
+setup('room for two', 3, BASE, 2, 2, MORE, 3)
+un('room for two', 0)
+word('a free table of the second that is not zero', 2559, 1)
+au('a free table of the second that is not zero')
+
+heading('Refusal 11 covers both regions, in map and in the audit.')
+two_regions()
+mp('the page of table 2', 0, MORE, PAGE, 3)
+mp('the page of table 4', 0, MORE + 2 * PAGE, PAGE, 3)
+mp('2 MiB around the second', 0, MORE, MIB2, 3)
+mp('1 GiB around both', 0, BASE, GIB, 3)
+mp('the page of the root', 0, BASE, PAGE, 3)
+mp('the page past the second', 0, MORE + 3 * PAGE, PAGE, 3)
+mp('the page before the second', 0x1000, MORE - PAGE, PAGE, 3)
+mp('2 MiB that end where the second starts', 0x200000, MORE - MIB2, MIB2, 3)
+au('beside both')
+word('a page of the second', 1026, page(MORE + PAGE))
+au('a page of the second')
+qu('a page of the second', 0x2000)
+un('a page of the second', 0x2000)
+au('without it')
+word('2 MiB around the second', 514, large(MORE))
+au('2 MiB around the second')
+un('2 MiB around the second', 0x400000)
+word('1 GiB around both', 7, large(BASE))
+au('1 GiB around both')
+un('1 GiB around both', 0x1C0000000)
+au('without it')
+
+heading('Spare memory after boot. A map that was refused with 7 is accepted once a second region is there.')
+lend('four tables', 2048, 7, 4, 9)
+ready()
+mp('the pool is one short', 0x40000000, FRAME, PAGE, 3)
+have('spare memory', 1024, 7, 6, 9)
+ad('two tables more', MORE, 2)
+au('the mappings are as before')
+qu('the mappings are as before', 0x1234)
+mp('the same map', 0x40000000, FRAME, PAGE, 3)
+qu('the same map', 0x40000123)
+au('the same map')
+mp('the last of the first region', 0x80000000, FRAME, MIB2, 3)
+mp('7 again', 0xC0000000, FRAME, MIB2, 3)
+un('the same map', 0x40000000)
+un('two pages', 0)
+un('two pages', 0x1000)
+mp('tables of both', 0x400000, FRAME, PAGE, 3)
+au('tables of both')
+ad('a third region', MORE + GIB, 2)
+fmt('both regions', 3, BASE, 4, MORE, 2)
+au('both regions')
+ad('after a format with two regions', MORE + GIB, 2)
+
+heading('What an add writes. New tables come highest number first, from place f on; later places stay.')
+lend('four tables', 2048, 7, 4, 9)
+fmt('all free', 3, BASE, 4)
+have('three more', 1536, 5, 7, 9)
+ad('three free', MORE, 3)
+au('three free')
+lend('one table', 512, 7, 1, 9)
+fmt('one table', 4, BASE, 1)
+have('one more', 512, 2 ** 64 - 1, 2, 2 ** 32 - 1)
+ad('one more, which touches', BASE + PAGE, 1)
+mp('one more, which touches', 0, FRAME, GIB, 3)
+au('one more, which touches')
+lend('one table', 512, 7, 1, 9)
+fmt('one table', 3, BASE, 1)
+have('one more', 512, 7, 2, 9)
+ad('one more, from below', BASE - PAGE, 1)
+mp('one more, from below', 0, FRAME, MIB2, 3)
+au('one more, from below')
+lend('one table', 512, 7, 1, 9)
+fmt('one table', 3, BASE, 1)
+have('one more', 512, 7, 2, 9)
+ad('one more, at 0', 0, 1)
+au('one more, at 0')
+
+
+def to_add(name, n2=1024, np=6):
+    """The pool of case 4, with memory for two tables more."""
+    have(name, 0, 0, 4, 0)
+    ready()
+    have(name, n2, 7, np, 9)
+
+
+heading('An add refuses, by 1.')
+lend('four tables', 2048, 7, 4, 9)
+to_add('two tables more')
+ad('no table', MORE, 0)
+ad('no table and no base', 0, 0)
+ad('the last table shared', BASE + 3 * PAGE, 2)
+ad('the first table shared', BASE - PAGE, 2)
+ad('one base', BASE, 2)
+ad('base within a page', MORE + 2048, 2)
+ad('base too high', 2 ** 48 - PAGE, 2)
+ad('base at the top of 64 bits', TOP, 2)
+ad('three tables', MORE, 3)
+ad('one table', MORE, 1)
+ad('509 tables', MORE, 509)
+ad('2^64 - 4 tables', MORE, 2 ** 64 - 4)
+setup('levels 2', 2, BASE, 4, 1)
+ad('levels 2', MORE, 2)
+setup('a base that overlaps', 3, MORE + PAGE, 4, 1)
+ad('a base that overlaps', MORE, 2)
+setup('all tables free', 3, BASE, 4, 4)
+ad('the old limit of the free count', MORE, 2)
+setup('a second base without tables', 3, BASE, 4, 1, MORE, 0)
+ad('a second base without tables', MORE, 2)
+setup('a region there', 3, BASE, 4, 1, MORE, 2)
+ad('a region there', MORE, 2)
+ad('a region there, another', MORE + GIB, 2)
+setup('the pool', 3, BASE, 4, 1)
+have('too few more words', 1023, 7, 6, 9)
+ad('too few more words', MORE, 2)
+have('too many more words', 1025, 7, 6, 9)
+ad('too many more words', MORE, 2)
+have('no more words', 0, 0, 6, 9)
+ad('no more words', MORE, 2)
+have('too few places', 1024, 7, 5, 9)
+ad('too few places', MORE, 2)
+have('too many places', 1024, 7, 7, 9)
+ad('too many places', MORE, 2)
+have('the old list', 1024, 7, 4, 9)
+ad('the old list', MORE, 2)
+have('memory for two', 1024, 7, 6, 9)
+ad('the pool is as before', MORE, 2)
+
+heading('An add refuses, by 8, what is wrong in a reachable table, and nothing else.')
+to_add('a damaged page')
+word('a damaged page', 1026, 5)
+ad('a damaged page', MORE, 2)
+to_add('a damaged word in the root')
+word('a damaged word in the root', 511, 5)
+ad('a damaged word in the root', MORE, 2)
+to_add('a table of the region to come')
+word('a table of the region to come', 514, LINK2(0))
+ad('a table of the region to come', MORE, 2)
+to_add('past the first')
+word('past the first', 514, LINK(4))
+ad('past the first, where the new one starts', BASE + 4 * PAGE, 2)
+to_add('a table reached twice')
+word('a table reached twice', 1, LINK(1))
+ad('a table reached twice', MORE, 2)
+to_add('a table that names itself')
+word('a table that names itself', 514, LINK(1))
+ad('a table that names itself', MORE, 2)
+to_add('an empty table')
+word('an empty table', 514, LINK(3))
+ad('an empty table', MORE, 2)
+to_add('a free list of nonsense')
+for i, t in enumerate([2 ** 32 - 1, 0, 77]): place('a free list of nonsense', i, t)
+setup('a free list of nonsense', 3, BASE, 4, 3)
+ad('a free list of nonsense', MORE, 2)
+to_add('a free table that is not zero')
+word('a free table that is not zero', 1536, 5)
+ad('a free table that is not zero', MORE, 2)
+to_add('a frame in the first region')
+word('a frame in the first region', 1026, page(BASE + PAGE))
+ad('a frame in the first region', MORE, 2)
+au('a frame in the first region')
+un('a frame in the first region', 0x2000)
+au('without it')
+
+heading('An add refuses, by 11, a region that shares a byte with a live mapping\'s frame.')
+to_add('frames')
+have('frames', 0, 0, 4, 0)
+mp('a page', 0x2000, MORE, PAGE, 3)
+mp('2 MiB', 0x400000, MORE + MIB2, MIB2, 3)
+mp('1 GiB', 0x1C0000000, 0xC0000000, GIB, 3)
+have('frames', 1024, 7, 6, 9)
+ad('the page', MORE, 2)
+ad('the page, by the last table', MORE - PAGE, 2)
+ad('2 MiB, by the last table', MORE + MIB2 - PAGE, 2)
+ad('within 2 MiB', MORE + MIB2 + 7 * PAGE, 2)
+ad('the end of 2 MiB', MORE + 2 * MIB2 - PAGE, 2)
+ad('1 GiB', 0xC0000000 + GIB - 2 * PAGE, 2)
+ad('a page of case 2', FRAME, 2)
+ad('1 before 11', FRAME + 1, 2)
+word('8 before 11', 1027, 5)
+ad('8 before 11', MORE, 2)
+word('8 before 11', 1027, 0)
+ad('between the page and 2 MiB', MORE + PAGE, 2)
+au('between the page and 2 MiB')
 
 for l in given: assert l.count(':') <= 1, l
 d = sys.argv[1]

@@ -20,28 +20,69 @@ def attribute_word(a):
 ATTRS = [attribute_word(a) for a in range(16)]
 
 
-def bad_numbers(levels, P, n, words, places):
-    return (levels not in (3, 4) or P % 4096 != 0 or not 1 <= n <= 512 or P + 4096 * n > LIMIT
-            or len(words) != 512 * n or len(places) != n)
+class Lent:
+    """The lent memory: the two runs of words and the free list."""
+    def __init__(m, first, second, list): m.first, m.second, m.list = first, second, list
+    def copy(m): return Lent(m.first[:], m.second[:], m.list[:])
+    def key(m): return (m.first, m.second, m.list)
+
+    def part(m, s, t):
+        """The run that holds table t, and where the table starts in it."""
+        return (m.first, 512 * t) if t < s.tables else (m.second, 512 * (t - s.tables))
+
+    def table(m, s, t):
+        run, at = m.part(s, t)
+        return run[at:at + 512]
+
+    def word(m, s, t, i): return m.table(s, t)[i]
+
+    def put(m, s, t, i, w):
+        run, at = m.part(s, t)
+        run[at + i] = w
+
+    def clear(m, s, t):
+        run, at = m.part(s, t)
+        run[at:at + 512] = [0] * 512
+
+
+def share(a, x, b, y):
+    """Whether the x bytes from a on and the y bytes from b on share one."""
+    return len(range(max(a, b), min(a + x, b + y))) > 0
+
+
+def bad_region(P, n): return P % 4096 != 0 or P + 4096 * n > LIMIT
+
+
+def bad_numbers(levels, P, n, Q, m, lent):
+    return (levels not in (3, 4) or n < 1 or n + m > 512 or bad_region(P, n) or bad_region(Q, m) or (m == 0 and Q != 0)
+            or share(P, 4096 * n, Q, 4096 * m)
+            or len(lent.first) != 512 * n or len(lent.second) != 512 * m or len(lent.list) != n + m)
 
 
 class Setup:
-    def __init__(s, levels, base, tables, free): s.levels, s.base, s.tables, s.free = levels, base, tables, free
-    def bad(s, words, places): return bad_numbers(s.levels, s.base, s.tables, words, places) or s.free > s.tables - 1
-    def key(s): return (s.levels, s.base, s.tables, s.free)
+    def __init__(s, levels, base, tables, free, base2=0, tables2=0):
+        s.levels, s.base, s.tables, s.free, s.base2, s.tables2 = levels, base, tables, free, base2, tables2
+    def total(s): return s.tables + s.tables2
+    def bad(s, lent): return bad_numbers(s.levels, s.base, s.tables, s.base2, s.tables2, lent) or s.free > s.total() - 1
+    def key(s): return (s.levels, s.base, s.tables, s.free, s.base2, s.tables2)
+    def with_free(s, free): return Setup(s.levels, s.base, s.tables, free, s.base2, s.tables2)
+
+    def address(s, t):
+        """Where table t stands: numbers below n are in the first region, the others in the second."""
+        return s.base + 4096 * t if t < s.tables else s.base2 + 4096 * (t - s.tables)
 
 
 def in_pool(s, frame, size):
-    """Refusal 11: the frame shares a byte with P to P + 4096 x n."""
-    return len(range(max(frame, s.base), min(frame + size, s.base + 4096 * s.tables))) > 0
+    """Refusal 11: the frame shares a byte with P to P + 4096 x n, or with Q to Q + 4096 x m."""
+    return share(frame, size, s.base, 4096 * s.tables) or share(frame, size, s.base2, 4096 * s.tables2)
 
 
 def read(s, w, h):
     """What a word says at height h."""
     if w == 0: return ('empty',)
     if h > 0:
-        for c in range(1, s.tables):
-            if w == s.base + 4096 * c + 3: return ('table', c)
+        for c in range(1, s.total()):
+            if w == s.address(c) + 3: return ('table', c)
     if h <= 2:
         size, kind = SIZE[h], 3 if h == 0 else 1
         for a in range(16):
@@ -53,11 +94,11 @@ def read(s, w, h):
 def index(address, h): return address >> (12 + 9 * h) & 511
 
 
-def walk(s, words, address, target):
+def walk(s, lent, address, target):
     """Descend until an entry is no table or the target height is reached. The tables met, the height and the entry; or 'twice'."""
     met, t, h = [0], 0, s.levels - 1
     while True:
-        e = read(s, words[512 * t + index(address, h)], h)
+        e = read(s, lent.word(s, t, index(address, h)), h)
         if e[0] != 'table' or h == target: return met, h, e
         if e[1] in met: return met, h, ('damaged',)
         t, h = e[1], h - 1
@@ -70,15 +111,15 @@ def hole(address, h):
     return ('refused', 9, address // size * size, size)
 
 
-def format_(levels, P, n, words, places):
-    if bad_numbers(levels, P, n, words, places): return ('refused', 1), Setup(0, 0, 0, 0)
-    words[:] = [0] * len(words)
-    places[:] = [n - 1 - i for i in range(n)]
-    return ('done',), Setup(levels, P, n, n - 1)
+def format_(levels, P, n, Q, m, lent):
+    if bad_numbers(levels, P, n, Q, m, lent): return ('refused', 1), Setup(0, 0, 0, 0)
+    for t in range(n + m): lent.clear(Setup(levels, P, n, 0, Q, m), t)
+    lent.list[:] = [n + m - 1 - i for i in range(n + m)]
+    return ('done',), Setup(levels, P, n, n + m - 1, Q, m)
 
 
-def map_(s, words, places, address, frame, size, attributes):
-    if s.bad(words, places): return ('refused', 1), s
+def map_(s, lent, address, frame, size, attributes):
+    if s.bad(lent): return ('refused', 1), s
     if size not in SIZES: return ('refused', 2), s
     if attributes > 15: return ('refused', 3), s
     space = SPACE[s.levels]
@@ -86,49 +127,49 @@ def map_(s, words, places, address, frame, size, attributes):
     if address % size or frame % size: return ('refused', 5), s
     if in_pool(s, frame, size): return ('refused', 11), s
     target = SIZES[size]
-    met, h, e = walk(s, words, address, target)
+    met, h, e = walk(s, lent, address, target)
     if e[0] == 'damaged': return ('refused', 8), s
     if e[0] != 'empty': return ('refused', 6), s
     need = h - target
     if need > s.free: return ('refused', 7), s
-    taken = [places[s.free - 1 - i] for i in range(need)]
-    if any(not 1 <= t <= s.tables - 1 or t in met for t in taken) or len(set(taken)) != need: return ('refused', 8), s
+    taken = [lent.list[s.free - 1 - i] for i in range(need)]
+    if any(not 1 <= t <= s.total() - 1 or t in met for t in taken) or len(set(taken)) != need: return ('refused', 8), s
     t = met[-1]
     for c in taken:                                     # top first: filled with zeros, then linked
-        words[512 * c:512 * c + 512] = [0] * 512
-        words[512 * t + index(address, h)] = s.base + 4096 * c + 3
+        lent.clear(s, c)
+        lent.put(s, t, index(address, h), s.address(c) + 3)
         t, h = c, h - 1
     assert h == target
-    words[512 * t + index(address, h)] = frame + (3 if h == 0 else 1) + ATTRS[attributes]
-    return ('takes', need), Setup(s.levels, s.base, s.tables, s.free - need)
+    lent.put(s, t, index(address, h), frame + (3 if h == 0 else 1) + ATTRS[attributes])
+    return ('takes', need), s.with_free(s.free - need)
 
 
-def unmap_(s, words, places, address):
-    if s.bad(words, places): return ('refused', 1), s
+def unmap_(s, lent, address):
+    if s.bad(lent): return ('refused', 1), s
     if address >= SPACE[s.levels]: return ('refused', 4), s
     if address % 4096: return ('refused', 5), s
-    met, h, e = walk(s, words, address, 0)
+    met, h, e = walk(s, lent, address, 0)
     if e[0] in ('damaged', 'table'): return ('refused', 8), s
     if e[0] == 'empty': return hole(address, h), s
     if address % SIZE[h]: return ('refused', 10), s
-    trial, given, hh = list(words), [], h
-    trial[512 * met[-1] + index(address, h)] = 0
+    trial, given, hh = lent.copy(), [], h
+    trial.put(s, met[-1], index(address, h), 0)
     for k in range(len(met) - 1, 0, -1):
         t = met[k]
-        if any(trial[512 * t:512 * t + 512]): break
+        if any(trial.table(s, t)): break
         hh += 1
-        trial[512 * met[k - 1] + index(address, hh)] = 0
+        trial.put(s, met[k - 1], index(address, hh), 0)
         given.append(t)
-    if s.free + len(given) > s.tables - 1: return ('refused', 8), s
-    words[:] = trial
-    for i, t in enumerate(given): places[s.free + i] = t
-    return ('gives', e[1], SIZE[h], e[2], len(given)), Setup(s.levels, s.base, s.tables, s.free + len(given))
+    if s.free + len(given) > s.total() - 1: return ('refused', 8), s
+    lent.first[:], lent.second[:] = trial.first, trial.second
+    for i, t in enumerate(given): lent.list[s.free + i] = t
+    return ('gives', e[1], SIZE[h], e[2], len(given)), s.with_free(s.free + len(given))
 
 
-def query_(s, words, places, address):
-    if s.bad(words, places): return ('refused', 1)
+def query_(s, lent, address):
+    if s.bad(lent): return ('refused', 1)
     if address >= SPACE[s.levels]: return ('refused', 4)
-    met, h, e = walk(s, words, address, 0)
+    met, h, e = walk(s, lent, address, 0)
     if e[0] in ('damaged', 'table'): return ('refused', 8)
     if e[0] == 'empty': return hole(address, h)
     return ('found', address - address % SIZE[h], e[1], SIZE[h], e[2])
@@ -137,28 +178,49 @@ def query_(s, words, places, address):
 class Unsound(Exception): pass
 
 
-def audit_(s, words, places):
-    if s.bad(words, places): return ('refused', 1)
-    reached, mappings = set(), 0
+def reach(s, lent, full):
+    """The tables reached, and the frames with their sizes. A damaged word or a table reached twice is unsound, and where `full` asks for it an empty table
+    too, but for the root."""
+    reached, frames = set(), []
 
     def table(t, h):
-        nonlocal mappings
         if t in reached: raise Unsound
         reached.add(t)
-        part = words[512 * t:512 * t + 512]
-        if t != 0 and not any(part): raise Unsound
+        part = lent.table(s, t)
+        if full and t != 0 and not any(part): raise Unsound
         for w in part:
             e = read(s, w, h)
             if e[0] == 'damaged': raise Unsound
-            if e[0] == 'frame' and in_pool(s, e[1], SIZE[h]): raise Unsound
-            if e[0] == 'frame': mappings += 1
+            if e[0] == 'frame': frames.append((e[1], SIZE[h]))
             if e[0] == 'table': table(e[1], h - 1)
+    table(0, s.levels - 1)
+    return reached, frames
+
+
+def audit_(s, lent):
+    if s.bad(lent): return ('refused', 1)
     try:
-        table(0, s.levels - 1)
+        reached, frames = reach(s, lent, True)
     except Unsound:
         return ('refused', 8)
-    free = places[:s.free]
-    if len(set(free)) != len(free) or any(not 1 <= t <= s.tables - 1 or t in reached for t in free): return ('refused', 8)
-    if any(any(words[512 * t:512 * t + 512]) for t in free): return ('refused', 8)
-    if len(free) + len(reached) != s.tables: return ('refused', 8)
-    return ('sound', len(reached), mappings)
+    if any(in_pool(s, b, size) for b, size in frames): return ('refused', 8)
+    free = lent.list[:s.free]
+    if len(set(free)) != len(free) or any(not 1 <= t <= s.total() - 1 or t in reached for t in free): return ('refused', 8)
+    if any(any(lent.table(s, t)) for t in free): return ('refused', 8)
+    if len(free) + len(reached) != s.total(): return ('refused', 8)
+    return ('sound', len(reached), len(frames))
+
+
+def add_(s, lent, Q, m):
+    """The adding call. The free count is tested against the old limit, and the words are read under the old setup."""
+    if (s.base2, s.tables2) != (0, 0) or m == 0 or s.free > s.tables - 1: return ('refused', 1), s
+    if bad_numbers(s.levels, s.base, s.tables, Q, m, lent): return ('refused', 1), s
+    try:
+        reached, frames = reach(s, lent, False)
+    except Unsound:
+        return ('refused', 8), s
+    if any(share(b, size, Q, 4096 * m) for b, size in frames): return ('refused', 11), s
+    n = s.tables
+    lent.list[s.free:s.free + m] = list(range(n + m - 1, n - 1, -1))
+    lent.second[:] = [0] * (512 * m)
+    return ('done',), Setup(s.levels, s.base, n, s.free + m, Q, m)

@@ -12,6 +12,7 @@ const MIB2: u64 = 1 << 21;
 const GIB: u64 = 1 << 30;
 const TOP: u64 = 1 << 48;
 const BASE: u64 = 0x4000_0000;
+const MORE: u64 = 0x5000_0000; // where a second region stands
 
 fn line(text: &str) {
     OUT.with(|o| writeln!(o.borrow_mut(), "{text}").unwrap())
@@ -69,27 +70,57 @@ fn numbers() -> Vec<u64> {
     all
 }
 
+fn one_region(levels: u64, base: u64, tables: u64, free: u64) -> path::Setup {
+    path::Setup { levels, base, tables, free, base2: 0, tables2: 0 }
+}
+
+// Setups with two regions, good ones and bad ones, and what may be added.
+fn second_regions() {
+    for (base, tables) in [(BASE, 2), (BASE, 1), (BASE, 509), (0, 2), (TOP - 2 * PAGE, 2)] {
+        for more in [0, 1, 3, 510, 511, 512, 1 << 52, u64::MAX] {
+            let (end, bytes) = (base + PAGE * tables, PAGE.wrapping_mul(more));
+            let below = base.wrapping_sub(bytes);
+            for at in [0, 1, MORE, MORE + 8, end, end.wrapping_sub(PAGE), below, below.wrapping_add(PAGE), base, TOP.wrapping_sub(bytes), TOP, u64::MAX - 4095] {
+                let (words, second, places) = (512 * tables as usize, 512usize.wrapping_mul(more as usize), tables.wrapping_add(more) as usize);
+                ask!(path::good_numbers, 3, base, tables, at, more, words, second, places);
+                for free in [0, tables - 1, tables, (places as u64).wrapping_sub(1), places as u64] {
+                    let two = path::Setup { levels: 3, base, tables, free, base2: at, tables2: more };
+                    ask!(path::good_setup, two, words, second, places);
+                    ask!(path::good_adding, one_region(3, base, tables, free), at, more, words, second, places);
+                    ask!(path::good_adding, two, at, more, words, second, places);
+                }
+            }
+        }
+    }
+    for (words, second, places) in [(1024, 1536, 5), (1023, 1536, 5), (1024, 1535, 5), (1024, 1537, 5), (1024, 1536, 2), (1024, 1536, 6), (1536, 1024, 5), (1024, 0, 5)] {
+        ask!(path::good_numbers, 4, BASE, 2, MORE, 3, words, second, places);
+        ask!(path::good_adding, one_region(4, BASE, 2, 1), MORE, 3, words, second, places);
+    }
+    ask!(path::good_adding, path::Setup { levels: 3, base: BASE, tables: 2, free: 1, base2: MORE, tables2: 0 }, MORE, 3, 1024, 1536, 5);
+}
+
 fn paths() {
     ask!(path::no_setup,);
     for free in [0, 1, 7, u64::MAX] {
-        ask!(path::with_free, path::Setup { levels: 3, base: BASE, tables: 5, free: 2 }, free);
+        ask!(path::with_free, path::Setup { levels: 3, base: BASE, tables: 5, free: 2, base2: MORE, tables2: 7 }, free);
     }
+    second_regions();
     for levels in 0..7 {
         for base in [0, 1, 2048, PAGE, BASE, TOP - 64 * PAGE, TOP - PAGE, TOP, TOP + PAGE, 0u64.wrapping_sub(PAGE), 0u64.wrapping_sub(64 * PAGE)] {
             for tables in [0, 1, 2, 3, 4, 63, 64, 65, 511, 512, 513, 1 << 55, u64::MAX] {
                 for words in [512u64.wrapping_mul(tables), 511u64.wrapping_mul(tables), tables.wrapping_add(1)] {
                     for places in [tables, tables.wrapping_sub(1), levels] {
-                        ask!(path::good_numbers, levels, base, tables, words as usize, places as usize);
+                        ask!(path::good_numbers, levels, base, tables, 0, 0, words as usize, 0, places as usize);
                     }
                 }
             }
         }
         for tables in [1, 2, 3, 4, 8, 64] {
             for free in [0, 1, 2, 3, 4, 5, 7, 8, 63, 64, u64::MAX] {
-                ask!(path::good_setup, path::Setup { levels, base: BASE, tables, free }, 512 * tables as usize, tables as usize);
+                ask!(path::good_setup, one_region(levels, BASE, tables, free), 512 * tables as usize, 0, tables as usize);
             }
         }
-        ask!(path::good_setup, path::Setup { levels, base: BASE, tables: 2, free: 1 }, 2, 1024);
+        ask!(path::good_setup, one_region(levels, BASE, 2, 1), 2, 0, 1024);
     }
     for n in numbers() {
         for (levels, size) in [(2, 1), (3, 1), (4, 1), (5, 1), (3, PAGE), (4, GIB), (3, 1 << 39), (4, TOP), (3, TOP), (4, u64::MAX)] {
@@ -98,7 +129,9 @@ fn paths() {
         for (base, tables) in [(BASE, 0), (BASE, 1), (BASE, 64), (0, 2), (TOP - PAGE, 1), (u64::MAX - 4095, 9), (GIB + PAGE, u64::MAX)] {
             for size in [0, PAGE, MIB2, GIB, u64::MAX] {
                 for frame in [n, base.wrapping_sub(size), base.wrapping_sub(1), base, base.wrapping_add(PAGE.wrapping_mul(tables))] {
-                    ask!(path::meets_area, base, tables, frame, size);
+                    ask!(path::meets_region, base, tables, frame, size);
+                    ask!(path::meets_area, base, tables, 0, 0, frame, size);
+                    ask!(path::meets_area, 3 * GIB, 2, base, tables, frame, size);
                 }
             }
         }
@@ -120,8 +153,8 @@ fn paths() {
 fn words_to_read() -> Vec<u64> {
     let mut all = vec![BASE + 1, BASE + 3, BASE + PAGE * 2 + 3, BASE + 512 + 3, BASE + PAGE + 4, BASE + PAGE - 1 + 3, TOP + 3];
     all.extend(numbers());
-    for c in [1, 2, 3, 4, 63, 64, 65] {
-        all.extend([BASE + PAGE * c + 3, PAGE * c + 3]);
+    for c in [0, 1, 2, 3, 4, 63, 64, 65] {
+        all.extend([BASE + PAGE * c + 3, PAGE * c + 3, MORE + PAGE * c + 3, MORE - PAGE + 3]);
     }
     for attributes in 0..17 {
         for (base, size) in [(0, PAGE), (PAGE * 5, PAGE), (MIB2, MIB2), (GIB, GIB), (TOP - PAGE, PAGE), (TOP - GIB, GIB)] {
@@ -140,7 +173,9 @@ fn entries() {
     for n in numbers() {
         ask!(entry::attr_word, n);
         for c in [0, 1, 2, 63, 64, u32::MAX] {
-            ask!(entry::table_word, n, c);
+            for tables in [1, 2, 64, 512] {
+                ask!(entry::table_word, n, tables, MORE, c);
+            }
         }
         for size in [0, 1, PAGE, MIB2, GIB, 1 << 39, TOP] {
             for attributes in [0, 1, 5, 8, 15, 16, 17, u64::MAX] {
@@ -161,7 +196,9 @@ fn entries() {
     }
     for w in words_to_read() {
         for (base, tables) in [(BASE, 4), (0, 64), (BASE, 1), (TOP + PAGE, 8)] {
-            ask!(entry::child_in, w, base, tables);
+            ask!(entry::child_in, w, base, tables, 0, 0);
+            ask!(entry::child_in, w, MORE, 3, base, tables);
+            ask!(entry::child_in, w, base, tables, base.wrapping_add(PAGE * tables as u64), 2);
         }
         for size in [PAGE, MIB2, GIB, 1 << 39, 0] {
             ask!(entry::word_meaning, w, size);
@@ -171,20 +208,23 @@ fn entries() {
             ask!(entry::is_frame, w, height);
             ask!(entry::base_in, w);
             ask!(entry::frame_at, w, height);
-            for (base, tables) in [(BASE, 1), (BASE, 3), (BASE, 64), (0, 2), (TOP - PAGE, 4), (u64::MAX, u32::MAX)] {
-                ask!(entry::read_word, w, height, base, tables);
+            for (base, tables) in [(BASE, 1), (BASE, 3), (BASE, 64), (0, 2), (TOP - PAGE, 4), (u64::MAX, u16::MAX)] {
+                ask!(entry::read_word, w, height, base, tables, 0, 0);
+                ask!(entry::read_word, w, height, MORE, 2, base, tables);
             }
         }
     }
 }
 
-// The order of the writes of the calls since the last time, to these words and this list.
-fn writes(words: &[u64], list: &[u32]) -> u64 {
-    let (w, l) = (words.as_ptr() as usize, list.as_ptr() as usize);
+// The order of the writes of the calls since the last time, to these words of both runs and this list.
+fn writes(words: &[u64], second: &[u64], list: &[u32]) -> u64 {
+    let (w, v, l) = (words.as_ptr() as usize, second.as_ptr() as usize, list.as_ptr() as usize);
     WRITES.with(|made| {
         hash(made.borrow_mut().drain(..).flat_map(|(address, value)| {
             if (w..w + 8 * words.len()).contains(&address) {
                 [1, ((address - w) / 8) as u64, value]
+            } else if (v..v + 8 * second.len()).contains(&address) {
+                [3, ((address - v) / 8) as u64, value]
             } else if (l..l + 4 * list.len()).contains(&address) {
                 [2, ((address - l) / 4) as u64, value]
             } else {
@@ -196,24 +236,37 @@ fn writes(words: &[u64], list: &[u32]) -> u64 {
 
 // Says a call that may write, with the memory after it.
 fn told(what: &str, answer: String, words: &[u64], list: &[u32]) {
-    let (w, l) = (hash(words.iter().copied()), hash(list.iter().map(|&t| t as u64)));
-    line(&format!("{what} = {answer} {w:x} {l:x}"));
-    line(&format!("writes {what} = {:x}", writes(words, list)));
+    told_two(what, answer, words, &[], list)
+}
+
+// The same of a call that is lent two runs of words.
+fn told_two(what: &str, answer: String, words: &[u64], second: &[u64], list: &[u32]) {
+    let (w, v) = (hash(words.iter().copied()), hash(second.iter().copied()));
+    let l = hash(list.iter().map(|&t| t as u64));
+    line(&format!("{what} = {answer} {w:x} {v:x} {l:x}"));
+    line(&format!("writes {what} = {:x}", writes(words, second, list)));
 }
 
 fn pools() {
     for n in 0..4usize {
         let list: Vec<u32> = (0..n as u32).map(|i| 2 * i + 7).collect();
         let words: Vec<u64> = list.iter().map(|&t| t as u64 + 9).collect();
-        for i in [0, 1, 2, 3, 4, usize::MAX] {
-            ask!(pool::word, &words[..], i);
+        for i in [0, 1, 2, 3, 4, 5, 6, usize::MAX] {
             ask!(pool::place, &list[..], i);
-            for v in [0, 1, 5, 1 << 33] {
-                let (mut w, mut l) = (words.clone(), list.clone());
-                let r = tried(|| pool::put(&mut w, i, v));
-                told(&format!("pool::put {n} {i} {v}"), r, &w, &l);
+            for v in [0, 1, 5, 1u64 << 33] {
+                let mut l = list.clone();
                 let r = tried(|| pool::give(&mut l, i, v as u32));
-                told(&format!("pool::give {n} {i} {v}"), r, &w, &l);
+                told(&format!("pool::give {n} {i} {v}"), r, &[], &l);
+            }
+            // words of two runs, those of the second counted after those of the first
+            for more in [0, 1, 3] {
+                let second: Vec<u64> = (0..more).map(|i| 100 + i).collect();
+                ask!(pool::word, &words[..], &second[..], i);
+                for v in [0, 1, 5, 1u64 << 33] {
+                    let (mut w, mut s) = (words.clone(), second.clone());
+                    let r = tried(|| pool::put(&mut w, &mut s, i, v));
+                    told_two(&format!("pool::put {n} {more} {i} {v}"), r, &w, &s, &[]);
+                }
             }
         }
         let mut w = words.clone();
@@ -221,19 +274,33 @@ fn pools() {
         told(&format!("pool::clear {n}"), r, &w, &[]);
     }
     for length in [0, 511, 512, 513, 1023, 1024, 1536] {
-        for t in [0, 1, 2, 3, u32::MAX] {
-            let mut w = vec![5; length];
-            let r = tried(|| pool::wipe(&mut w, t));
-            told(&format!("pool::wipe {length} {t}"), r, &w, &[]);
+        for t in [0, 1, 2, 3, 4, u32::MAX] {
+            for more in [0, 511, 512, 1024] {
+                let (mut w, mut s) = (vec![5; length], vec![6; more]);
+                let r = tried(|| pool::wipe(&mut w, &mut s, t));
+                told_two(&format!("pool::wipe {length} {more} {t}"), r, &w, &s, &[]);
+                let (w, mut s) = (vec![0; length], vec![0; more]);
+                for at in [0, 511, 512, 1023] {
+                    if at < more {
+                        s[at] = 9;
+                    }
+                    line(&format!("pool::table_part {length} {more} {at} {t} = {}", tried(|| pool::table_part(&w, &s, t).to_vec())));
+                    line(&format!("pool::is_table_empty {length} {more} {at} {t} = {}", tried(|| pool::is_table_empty(&w, &s, t))));
+                    line(&format!("pool::only_entry {length} {more} {at} {t} = {}", tried(|| pool::only_entry(&w, &s, t, at as u16 % 512))));
+                    if at < more {
+                        s[at] = 0;
+                    }
+                }
+            }
             for at in [0, 1, 200, 255, 256, 300, 510, 511, 512, 513, 767, 1023, 1024, 1535] {
                 for value in [1, 2, u64::MAX] {
                     let mut w = vec![0; length];
                     if at < length {
                         w[at] = value;
                     }
-                    line(&format!("pool::is_table_empty {length} {at} {value} {t} = {}", tried(|| pool::is_table_empty(&w, t))));
+                    line(&format!("pool::is_table_empty {length} {at} {value} {t} = {}", tried(|| pool::is_table_empty(&w, &[], t))));
                     for i in [0, 1, 255, 256, 510, 511, 512, 513, 65535] {
-                        line(&format!("pool::only_entry {length} {at} {value} {t} {i} = {}", tried(|| pool::only_entry(&w, t, i))));
+                        line(&format!("pool::only_entry {length} {at} {value} {t} {i} = {}", tried(|| pool::only_entry(&w, &[], t, i))));
                     }
                 }
             }
@@ -254,71 +321,111 @@ fn pools() {
 fn planned() {
     use plans::Step::*;
     let plan = [Store { place: 513, value: 6 }, Give { place: 1, table: 9 }, Wipe { table: 2 }, Nothing, Store { place: 7, value: 1 << 40 }, Give { place: 5, table: 4 }, Wipe { table: 9 }];
-    let (mut w, mut l) = (vec![3; 1536], vec![8; 3]);
-    let r = tried(|| plans::write_words(&mut w, plan));
-    told("plans::write_words", r, &w, &l);
-    let r = tried(|| plans::write_all(&mut w, &mut l, plan));
-    told("plans::write_all", r, &w, &l);
+    for (first, more) in [(1536, 0), (1024, 512), (512, 1024)] {
+        let (mut w, mut s, mut l) = (vec![3; first], vec![4; more], vec![8; 3]);
+        let r = tried(|| plans::write_words(&mut w, &mut s, plan));
+        told_two(&format!("plans::write_words {first} {more}"), r, &w, &s, &l);
+        let r = tried(|| plans::write_all(&mut w, &mut s, &mut l, plan));
+        told_two(&format!("plans::write_all {first} {more}"), r, &w, &s, &l);
+    }
 }
 
 // A pool in lent memory, and the addresses that were mapped.
 #[derive(Clone)]
 struct Lent {
     name: String,
-    setup: [u64; 4],
+    setup: [u64; 6],
     words: Vec<u64>,
+    second: Vec<u64>,
     list: Vec<u32>,
     used: Vec<u64>,
 }
 
 impl Lent {
+    // A pool of one region, with the memory of so many tables lent.
     fn format(name: &str, levels: u64, base: u64, tables: u64, lent: usize) -> Lent {
-        let (mut words, mut list, mut answer) = (vec![77; 512 * lent], vec![66; lent], [55; 4]);
-        let r = tried(|| oakabut::oak_format(levels, base, tables, &mut words, &mut list, &mut answer));
-        told(&format!("{name} format {levels} {base:#x} {tables} {lent}"), format!("{r} {answer:?}"), &words, &list);
-        Lent { name: name.to_string(), setup: answer, words, list, used: vec![] }
+        Lent::format_two(name, levels, base, tables, 0, 0, lent, 0)
+    }
+
+    fn format_two(name: &str, levels: u64, base: u64, tables: u64, base2: u64, tables2: u64, lent: usize, more: usize) -> Lent {
+        let (mut words, mut second, mut list, mut answer) = (vec![77; 512 * lent], vec![88; 512 * more], vec![66; lent + more], [55; 6]);
+        let r = tried(|| oakabut::oak_format(levels, base, tables, base2, tables2, &mut words, &mut second, &mut list, &mut answer));
+        let what = format!("{name} format {levels} {base:#x} {tables} {base2:#x} {tables2} {lent} {more}");
+        told_two(&what, format!("{r} {answer:?}"), &words, &second, &list);
+        Lent { name: name.to_string(), setup: answer, words, second, list, used: vec![] }
+    }
+
+    fn told(&self, what: &str, answer: String) {
+        told_two(&format!("{} {what}", self.name), answer, &self.words, &self.second, &self.list);
     }
 
     fn map(&mut self, address: u64, frame: u64, size: u64, attributes: u64) {
-        let mut answer = [55; 5];
-        let r = tried(|| oakabut::oak_map(&self.setup, &mut self.words, &self.list, address, frame, size, attributes, &mut answer));
-        told(&format!("{} map {address:#x} {frame:#x} {size:#x} {attributes}", self.name), format!("{r} {answer:?}"), &self.words, &self.list);
+        let mut answer = [55; 7];
+        let r = tried(|| oakabut::oak_map(&self.setup, &mut self.words, &mut self.second, &self.list, address, frame, size, attributes, &mut answer));
+        self.told(&format!("map {address:#x} {frame:#x} {size:#x} {attributes}"), format!("{r} {answer:?}"));
         if r == "0" {
-            self.setup.copy_from_slice(&answer[..4]);
+            self.setup.copy_from_slice(&answer[..6]);
             self.used.push(address);
         }
     }
 
     fn unmap(&mut self, address: u64) {
-        let mut answer = [55; 10];
-        let r = tried(|| oakabut::oak_unmap(&self.setup, &mut self.words, &mut self.list, address, &mut answer));
-        told(&format!("{} unmap {address:#x}", self.name), format!("{r} {answer:?}"), &self.words, &self.list);
+        let mut answer = [55; 12];
+        let r = tried(|| oakabut::oak_unmap(&self.setup, &mut self.words, &mut self.second, &mut self.list, address, &mut answer));
+        self.told(&format!("unmap {address:#x}"), format!("{r} {answer:?}"));
         if r == "0" {
-            self.setup.copy_from_slice(&answer[..4]);
+            self.setup.copy_from_slice(&answer[..6]);
+        }
+    }
+
+    // A second region of so many tables, with memory for so many. Refused, the pool goes on with the memory that it had.
+    fn add(&mut self, base: u64, tables: u64, more: usize) {
+        let (mut second, mut list, mut answer) = (vec![88; 512 * more], self.list.clone(), [55; 6]);
+        list.resize(self.list.len() + more, 66);
+        let r = tried(|| oakabut::oak_add(&self.setup, &self.words, &mut second, &mut list, base, tables, &mut answer));
+        let what = format!("{} add {base:#x} {tables} {more}", self.name);
+        told_two(&what, format!("{r} {answer:?}"), &self.words, &second, &list);
+        if r == "0" {
+            (self.setup, self.second, self.list) = (answer, second, list);
         }
     }
 
     // All that changes nothing, at an address.
     fn asked(&self, address: u64) {
         let mut answer = [55; 6];
-        let r = tried(|| oakabut::oak_query(&self.setup, &self.words, &self.list, address, &mut answer));
+        let r = tried(|| oakabut::oak_query(&self.setup, &self.words, &self.second, &self.list, address, &mut answer));
         line(&format!("{} query {address:#x} = {r} {answer:?}", self.name));
-        let [levels, base, tables, free] = self.setup;
-        let r = tried(|| armwalk::stage2(&self.words, base, levels, address));
+        let [levels, base, tables, free, base2, tables2] = self.setup;
+        let setup = || path::Setup { levels, base, tables, free, base2, tables2 };
+        let r = tried(|| armwalk::stage2(&self.words, &self.second, base, base2, levels, address));
         line(&format!("{} stage2 {address:#x} = {r}", self.name));
         for target in [0, 1, 2, 3] {
-            let r = tried(|| lookup::walk_to(path::Setup { levels, base, tables, free }, &self.words, target, address));
+            let r = tried(|| lookup::walk_to(setup(), &self.words, &self.second, target, address));
             line(&format!("{} walk_to {target} {address:#x} = {r}", self.name));
             let mut way = [7u32; 4];
-            let r = tried(|| lookup::reach(path::Setup { levels, base, tables, free }, &self.words, target, address, &mut way));
+            let r = tried(|| lookup::reach(setup(), &self.words, &self.second, target, address, &mut way));
             line(&format!("{} reach {target} {address:#x} = {r} {way:?}", self.name));
         }
     }
 
     fn audit(&self) {
         let mut answer = [55; 2];
-        let r = tried(|| oakabut::oak_audit(&self.setup, &self.words, &self.list, &mut answer));
+        let r = tried(|| oakabut::oak_audit(&self.setup, &self.words, &self.second, &self.list, &mut answer));
         line(&format!("{} audit {:?} = {r} {answer:?}", self.name, self.setup));
+    }
+
+    // The place of an entry of a table, in the first run or past it in the second.
+    fn word(&mut self, at: usize) -> &mut u64 {
+        match at.checked_sub(self.words.len()) {
+            None => &mut self.words[at],
+            Some(at) => &mut self.second[at],
+        }
+    }
+
+    // The word that names a table.
+    fn link(&self, table: u64) -> u64 {
+        let [_, base, tables, _, base2, tables2] = self.setup;
+        if table < tables || tables2 == 0 { base + PAGE * table + 3 } else { base2 + PAGE * (table - tables) + 3 }
     }
 
     // An address that was mapped, or near one, or any.
@@ -340,7 +447,8 @@ impl Lent {
         let address = (top + index[1] * GIB + index[2] * MIB2 + index[3] * PAGE) / size * size;
         let frame = GIB * (2 + height as u64) + random.below(7) * size;
         let attributes = random.below(16);
-        let [_, base, tables, _] = self.setup;
+        let [_, base, tables, _, base2, tables2] = self.setup;
+        let (base, tables) = if tables2 > 0 && random.below(2) == 0 { (base2, tables2) } else { (base, tables) };
         let pool = [base.wrapping_sub(size), base, base.wrapping_add(PAGE), base.wrapping_add(PAGE.wrapping_mul(tables))];
         match random.below(14) {
             5 | 6 => self.map(address + random.of(&[0, 0, 0, 1]), random.of(&pool) / size * size, size, attributes),
@@ -356,9 +464,31 @@ impl Lent {
 
 // A history of calls, with damaged copies on the way.
 fn history(levels: u64, base: u64, tables: u64, seed: u64, steps: u64) {
-    let mut random = Random(seed * 1000 + levels * 100 + tables);
-    let mut lent = Lent::format(&format!("pool {levels}/{tables}/{seed}"), levels, base, tables, tables as usize);
+    let lent = Lent::format(&format!("pool {levels}/{tables}/{seed}"), levels, base, tables, tables as usize);
+    go_on(lent, Random(seed * 1000 + levels * 100 + tables), steps);
+}
+
+// The same of a pool with two regions from the start.
+fn history_of_two(levels: u64, base: u64, tables: u64, base2: u64, tables2: u64, seed: u64, steps: u64) {
+    let name = format!("pool {levels}/{tables}+{tables2}/{seed}");
+    let lent = Lent::format_two(&name, levels, base, tables, base2, tables2, tables as usize, tables2 as usize);
+    go_on(lent, Random(seed * 1000 + levels * 100 + tables + tables2), steps);
+}
+
+fn go_on(mut lent: Lent, mut random: Random, steps: u64) {
+    let tables = lent.list.len() as u64;
     for step in 0..steps {
+        if step % 16 == 12 {
+            // adds that are refused, and now and then one that is not
+            let [_, base, tables, ..] = lent.setup;
+            let frame = 2 * GIB + random.below(7) * PAGE;
+            for (at, more) in [(base, 2), (base + PAGE * tables - PAGE, 2), (base.wrapping_sub(PAGE), 2), (MORE + 1, 1), (MORE, 0), (frame, 3)] {
+                lent.clone().add(at, more, more as usize);
+            }
+            lent.clone().add(MORE, 2, 1);
+            lent.clone().add(base.wrapping_sub(2 * PAGE), 2, 2);
+            lent.add(if step % 32 == 12 { base + PAGE * tables } else { MORE }, 2, 2);
+        }
         match random.below(7) {
             0..=3 => lent.random_map(&mut random),
             _ => {
@@ -377,6 +507,7 @@ fn history(levels: u64, base: u64, tables: u64, seed: u64, steps: u64) {
                 copy.name = format!("{} damaged {kind}", lent.name);
                 damage(&mut copy, kind, &mut random);
                 copy.audit();
+                copy.clone().add(random.of(&[MORE, 2 * GIB]), 2, 2);
                 for address in [copy.address(&mut random), random.of(&copy.used.iter().copied().chain([0]).collect::<Vec<_>>())] {
                     copy.asked(address);
                     copy.clone().unmap(address);
@@ -395,56 +526,67 @@ fn history(levels: u64, base: u64, tables: u64, seed: u64, steps: u64) {
 
 // Breaks a rule of a sound pool, or several.
 fn damage(lent: &mut Lent, kind: u64, random: &mut Random) {
-    let (base, tables, free) = (lent.setup[1], lent.list.len() as u64, lent.setup[3]);
-    let used: Vec<usize> = (0..lent.words.len()).filter(|&i| lent.words[i] != 0).collect();
-    let links: Vec<usize> = used.iter().copied().filter(|&i| lent.words[i] % PAGE == 3).collect();
+    let ([_, base, first, free, base2, tables2], tables) = (lent.setup, lent.list.len() as u64);
+    let places = lent.words.len() + lent.second.len();
+    let used: Vec<usize> = (0..places).filter(|&i| *lent.word(i) != 0).collect();
+    let links: Vec<usize> = used.iter().copied().filter(|&i| *lent.word(i) % PAGE == 3).collect();
     let any = |random: &mut Random, of: &[usize]| if of.is_empty() { 0 } else { random.of(of) };
     match kind {
         // two entries name one table, and the count of free tables may fit that
         0 => {
             let link = any(random, &links);
-            lent.words[link ^ 256] = lent.words[link];
+            let word = *lent.word(link);
+            *lent.word(link ^ 256) = word;
             lent.setup[3] = free.saturating_sub(random.below(3));
         }
-        // an entry names a table: itself, one above it, any, or one past the pool
+        // an entry names a table: itself, one above it, any, or one past the pool or past a region
         1 => {
             let at = any(random, &used);
             let named = random.of(&[at as u64 / 512, 1, tables - 1, tables, tables + 1]);
-            lent.words[at] = base + PAGE * named + random.of(&[3, 3, 3, 3, 515]);
+            let word = random.of(&[lent.link(named), base + PAGE * first + 3, base2.wrapping_sub(4093), base2 + PAGE * tables2 + 3]);
+            *lent.word(at) = word + random.of(&[0, 0, 0, 0, 512]);
         }
         // a link to a table that is empty
         2 if free > 0 => {
-            lent.words[400] = base + PAGE * lent.list[free as usize - 1] as u64 + 3;
+            lent.words[400] = lent.link(lent.list[free as usize - 1] as u64);
             lent.setup[3] = free - 1;
         }
         // a bit of a word
-        3 => lent.words[any(random, &used)] ^= 1 << random.below(64),
-        4 => lent.words[any(random, &used)] ^= random.of(&[1, 2, 1 << 10, 1 << 11, 1 << 12, 1 << 54]),
+        3 => *lent.word(any(random, &used)) ^= 1 << random.below(64),
+        4 => *lent.word(any(random, &used)) ^= random.of(&[1, 2, 1 << 10, 1 << 11, 1 << 12, 1 << 54]),
         // a word of a table that is free
-        5 if free > 0 => lent.words[512 * lent.list[random.below(free) as usize] as usize + random.of(&[0, 1, 511])] = random.next(),
+        5 if free > 0 => {
+            let at = 512 * lent.list[random.below(free) as usize] as usize + random.of(&[0, 1, 511]);
+            *lent.word(at) = random.next();
+        }
         // a place of the free list
         6 if free > 0 => {
             let (one, other, reached) = (random.below(free), random.below(free), any(random, &links));
             let at = random.of(&[free - 1, free - 1, one]) as usize;
-            let named = lent.words[reached].wrapping_sub(base) / PAGE;
+            let named = lent.word(reached).wrapping_sub(base) / PAGE;
             lent.list[at] = random.of(&[0, tables, tables + 1, named, named, lent.list[other as usize] as u64, u64::MAX]) as u32;
         }
         // more tables are free than are
         7 => lent.setup[3] = random.of(&[tables - 1, free + 1, free.wrapping_sub(1)]),
-        // a frame at the pool, or just past it
+        // a frame at a region, or just past it
         9 => {
-            let frames: Vec<usize> = used.iter().copied().filter(|&i| lent.words[i] >> 10 & 1 == 1).collect();
+            let frames: Vec<usize> = used.iter().copied().filter(|&i| *lent.word(i) >> 10 & 1 == 1).collect();
             let size = random.of(&[PAGE, PAGE, MIB2, GIB]);
             let at = any(random, &frames);
-            lent.words[at] = lent.words[at] & !(TOP - PAGE) | (base + PAGE * random.below(tables + 1)) / size * size;
+            let table = if tables2 > 0 && random.below(2) == 0 { base2 + PAGE * random.below(tables2 + 1) } else { base + PAGE * random.below(first + 1) };
+            *lent.word(at) = *lent.word(at) & !(TOP - PAGE) | table / size * size;
         }
         // other setup numbers and lengths
-        _ => match random.below(6) {
+        _ => match random.below(10) {
             0 => lent.setup[0] = random.of(&[0, 1, 2, 3, 4, 5, u64::MAX]),
             1 => lent.setup[1] = random.of(&[0, base + 1, base + PAGE, TOP, u64::MAX - 4095]),
             2 => lent.setup[2] = random.of(&[0, tables - 1, tables + 1, 65, 513, u64::MAX]),
             3 => lent.setup[3] = random.of(&[tables, tables + 1, u64::MAX]),
             4 => lent.words.push(0),
+            5 => lent.setup[4] = random.of(&[0, 1, base, base2 + 1, base + PAGE * (first - 1), base.wrapping_sub(PAGE), MORE, TOP]),
+            6 => lent.setup[5] = random.of(&[0, 1, tables2 + 1, tables2.wrapping_sub(1), 512, u64::MAX]),
+            7 => lent.second.push(0),
+            8 => lent.second = vec![0; 512],
             _ => lent.list.push(0),
         },
     }
@@ -454,10 +596,19 @@ fn histories() {
     for (levels, base, tables, lent) in [(2, BASE, 1, 1), (3, 1, 1, 1), (3, BASE, 2, 1), (4, BASE, 1, 2), (5, BASE, 3, 3), (3, TOP, 1, 1), (4, 0, 65, 65), (3, 3, 3, 3), (4, 4, 4, 4)] {
         Lent::format("refused", levels, base, tables, lent).audit();
     }
+    for (base2, tables2) in [(BASE, 2), (BASE + PAGE, 2), (BASE - PAGE, 2), (MORE, 0), (MORE + 1, 2), (TOP - PAGE, 2), (MORE, 511), (MORE, 1)] {
+        Lent::format_two("refused", 3, BASE, 2, base2, tables2, 2, 2).audit();
+    }
     for levels in [3, 4] {
         for tables in [1, 2, 3, 4, 5, 6, 8] {
             for seed in 1..4 {
                 history(levels, [BASE, 0, TOP - tables * PAGE][seed as usize % 3], tables, seed, 40);
+            }
+        }
+        for (tables, tables2) in [(1, 1), (1, 4), (2, 3), (3, 1), (4, 4)] {
+            for seed in 1..3 {
+                let base2 = [MORE, BASE + PAGE * tables, BASE - PAGE * tables2][(seed + tables) as usize % 3];
+                history_of_two(levels, BASE, tables, base2, tables2, seed, 40);
             }
         }
         history(levels, BASE, 64, 1, 60);

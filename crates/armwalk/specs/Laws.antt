@@ -1,20 +1,22 @@
 -- Laws of the hardware's walk with the 4 KiB granule, in the order in which the code tests.
 use Prim.Native.Nat.{ℕ, zero, suc, _+_, _-_, _*_, _/_, _%_, _^_, _≤_, _<_}
 use mathlib.Core.Path.{_≡_, refl, ap, sym, _∙_}
-use mathlib.Core.Bool.{Bool, true, false, cond}
-use mathlib.Core.List.{List}
+use mathlib.Core.Bool.{Bool, true, false, cond, _&&_, and-eq-true-iff}
+use mathlib.Core.List.{List, _++_}
 use mathlib.Core.Option.{Option, none}
 use native.Mathlib.Nat.{mod-lt, le-div-iff-mul-le, div-lt-iff-lt-mul}
+use native.Mathlib.Decide.{decLe}
 use native.Mathlib.Omega.{arith}
-use lib.Dec.{leb, eqb}
-use lib.ListN.{getD}
+use lib.Dec.{ltb, leb, eqb}
+use lib.ListN.{length, getD}
 use lib.Pow.{pow-pos, pow-mono, pow-add, mod-pow-add}
-use borrow.Author.Tests.{eq-eqb, ne-eqb, le-leb, lt-leb, lt-ltb, le-ltb}
+use borrow.Author.Tests.{eq-eqb, ne-eqb, le-leb, lt-leb, lt-ltb, le-ltb, leb-true, ltb-true}
+use Rattle.laws.specs.ListLaws.{getD-first, getD-later}
 use Rattle.path.specs.Geometry.{four, physical, goodLevels}
 use Rattle.hardware.specs.Machine.{Translation, validBit, tableBit, accessFlag, addressFrom, shift, indexBits, outputOf, inputEnd}
 use Rattle.hardware.specs.Machine.{leaf, valid, stepBy, onStep, walk, stage2}
 use Rattle.hardware.specs.Machine as machine
-use Rattle.armwalk.specs.Runs.{memoryOf, byWord, stage2Of}
+use Rattle.armwalk.specs.Runs.{within, memoryOf, byWord, stage2Of}
 
 -- ---- sizes
 
@@ -44,14 +46,41 @@ module _ (h size : ℕ) (l : h ≤ 3) (e : size ≡ 2 ^ shift four h) where
 
 -- ---- memory
 
-module _ (base : ℕ) (ws : List ℕ) (at : ℕ) where
-  pub memory-below : at < base → 0 ≡ memoryOf base ws at
-  unfolding memoryOf
-  memory-below l = rw (lt-leb base at l)
+module _ (base words at : ℕ) where
+  pub within-at : within base words at ≡ true → (base ≤ at) × ((at - base) / 8 < words)
+  unfolding within
+  within-at e =
+      let (l, m) = and-eq-true-iff (leb base at) (ltb ((at - base) / 8) words) .0 e in
+      (leb-true base at l, ltb-true ((at - base) / 8) words m)
 
-  pub memory-at : base ≤ at → getD ws ((at - base) / 8) 0 ≡ memoryOf base ws at
+  pub within-yes : base ≤ at → ltb ((at - base) / 8) words ≡ within base words at
+  unfolding within
+  within-yes l = rw (le-leb base at l)
+
+  pub within-not : (base ≤ at → words ≤ (at - base) / 8) → within base words at ≡ false
+  unfolding within
+  within-not out = go (decLe base at)
+    where
+      go : Dec (base ≤ at) → (leb base at && ltb ((at - base) / 8) words) ≡ false
+      go (yes l) = rw (le-leb base at l, le-ltb ((at - base) / 8) words (out l))
+      go (no d) = rw (lt-leb base at (omega arith))
+
+module _ (base : ℕ) (first : List ℕ) (base₂ : ℕ) (second : List ℕ) (at : ℕ) where
+  pub memory-first : within base (length first) at ≡ true → getD (first ++ second) ((at - base) / 8) 0 ≡ memoryOf base first base₂ second at
   unfolding memoryOf
-  memory-at l = rw (le-leb base at l)
+  memory-first e = rw e (getD-first first second ((at - base) / 8) (within-at base (length first) at e .1))
+
+  -- not in the first run
+  module _ (out : within base (length first) at ≡ false) where
+    pub memory-none : at < base₂ → 0 ≡ memoryOf base first base₂ second at
+    unfolding memoryOf
+    memory-none l = rw (out, lt-leb base₂ at l)
+
+    pub memory-second : base₂ ≤ at → getD (first ++ second) (length first + (at - base₂) / 8) 0 ≡ memoryOf base first base₂ second at
+    unfolding memoryOf
+    memory-second l =
+        let e : length first + (at - base₂) / 8 - length first ≡ (at - base₂) / 8 = omega arith in
+        rw (out, le-leb base₂ at l) (getD-later first second (length first + (at - base₂) / 8) (omega arith) ∙ ap (λ (i : ℕ). getD second i 0) e)
 
 -- ---- words
 
@@ -142,25 +171,25 @@ module _ (a w t : ℕ) where
 
 -- ---- walks
 
-module _ (base : ℕ) (ws : List ℕ) (a : ℕ) where
+module _ (base : ℕ) (first : List ℕ) (base₂ : ℕ) (second : List ℕ) (a : ℕ) where
   abbrev mem : ℕ → ℕ → ℕ
-  mem = λ _. memoryOf base ws
+  mem = λ _. memoryOf base first base₂ second
 
   -- what is done at a table that a word of height h names
   abbrev onward : ℕ → ℕ → Option Translation
   onward zero c = none
   onward (suc h) c = walk four mem a h c
 
-  walk-by : (h table : ℕ) → walk four mem a h table ≡ onStep (stepBy four a h (memoryOf base ws (table + 8 * indexBits four a h))) (onward h)
+  walk-by : (h table : ℕ) → walk four mem a h table ≡ onStep (stepBy four a h (memoryOf base first base₂ second (table + 8 * indexBits four a h))) (onward h)
   unfolding walk
   walk-by zero table = refl
   walk-by (suc h) table = refl
 
   -- the word that the code reads is the one that the walk reads
-  module _ (h size table w : ℕ) (e : size ≡ 2 ^ shift four h) (r : w ≡ memoryOf base ws (table + 8 * (a / size % 512))) where
+  module _ (h size table w : ℕ) (e : size ≡ 2 ^ shift four h) (r : w ≡ memoryOf base first base₂ second (table + 8 * (a / size % 512))) where
     pub walk-step : (s : machine.Step) → s ≡ stepBy four a h w → onStep s (onward h) ≡ walk four mem a h table
     walk-step s q =
-        let u : w ≡ memoryOf base ws (table + 8 * indexBits four a h) = r ∙ ap (λ (x : ℕ). memoryOf base ws (table + 8 * (a / x % 512))) e in
+        let u : w ≡ memoryOf base first base₂ second (table + 8 * indexBits four a h) = r ∙ ap (λ (x : ℕ). memoryOf base first base₂ second (table + 8 * (a / x % 512))) e in
         ap (λ (s : machine.Step). onStep s (onward h)) (q ∙ ap (stepBy four a h) u) ∙ sym (walk-by h table)
 
     -- a table below the last level is nothing
@@ -175,20 +204,20 @@ module _ (base : ℕ) (ws : List ℕ) (a : ℕ) where
   -- ---- the root
 
   module _ (levels : ℕ) where
-    pub levels-few : levels < 3 → none ≡ stage2Of ws base levels a
+    pub levels-few : levels < 3 → none ≡ stage2Of first second base base₂ levels a
     unfolding goodLevels
     levels-few l = rw (lt-leb 3 levels l)
 
-    pub levels-many : 4 < levels → none ≡ stage2Of ws base levels a
+    pub levels-many : 4 < levels → none ≡ stage2Of first second base base₂ levels a
     unfolding goodLevels
     levels-many l = rw (le-leb 3 levels (omega arith), lt-leb levels 4 l)
 
-    pub base-high : 3 ≤ levels → levels ≤ 4 → physical < base → none ≡ stage2Of ws base levels a
+    pub base-high : 3 ≤ levels → levels ≤ 4 → physical < base → none ≡ stage2Of first second base base₂ levels a
     unfolding goodLevels
     base-high l m b = rw (le-leb 3 levels l, le-leb levels 4 m, lt-leb base physical b)
 
     module _ (l : 3 ≤ levels) (m : levels ≤ 4) (b : base ≤ physical) where
-      root-is : stage2 four levels base mem a ≡ stage2Of ws base levels a
+      root-is : stage2 four levels base mem a ≡ stage2Of first second base base₂ levels a
       unfolding goodLevels
       root-is = rw (le-leb 3 levels l, le-leb levels 4 m, le-leb base physical b)
 
@@ -202,13 +231,13 @@ module _ (base : ℕ) (ws : List ℕ) (a : ℕ) where
         size-root : 0 < size
         size-root = omega (arith, e, pow-pos (shift four (levels - 1)))
 
-        pub past-end : 512 ≤ a / size → none ≡ stage2Of ws base levels a
+        pub past-end : 512 ≤ a / size → none ≡ stage2Of first second base base₂ levels a
         past-end q =
             let far : inputEnd four levels ≤ a = omega (arith, end-is, le-div-iff-mul-le {x = 512} {y = a} size-root .0 q) in
             let u : stage2 four levels base mem a ≡ none = rw (le-ltb a (inputEnd four levels) far) in
             sym u ∙ root-is
 
-        pub from-root : a / size < 512 → walk four mem a (levels - 1) base ≡ stage2Of ws base levels a
+        pub from-root : a / size < 512 → walk four mem a (levels - 1) base ≡ stage2Of first second base base₂ levels a
         from-root q =
             let near : a < inputEnd four levels = omega (arith, end-is, div-lt-iff-lt-mul {x = a} {y = 512} size-root .0 q) in
             let u : stage2 four levels base mem a ≡ walk four mem a (levels - 1) base = rw (lt-ltb a (inputEnd four levels) near) in

@@ -3,3 +3,4 @@ mod Tables
 mod Pages
 mod Frees
 mod Whole
+mod Adds

@@ -1,7 +1,7 @@
 -- A check of parts of the tree, one after the other.
 use Prim.Native.Nat.{ℕ, _+_, _-_, _^_, _<_}
 use mathlib.Core.Path.{_≡_, refl, sym, ap, ap₂, _∙_}
-use mathlib.Core.Bool.{Bool, true, false, cond, _&&_, not, and-assoc}
+use mathlib.Core.Bool.{Bool, true, false, cond, _&&_, _||_, not, and-assoc}
 use mathlib.Core.List.{List, [], _∷_, _++_}
 use native.Mathlib.Omega.{arith}
 use lib.Dec.{eqb}
@@ -10,7 +10,8 @@ use Rattle.path.specs.Geometry.{Granule}
 use Rattle.path.specs.Areas.{Area, meetsArea}
 use Rattle.model.specs.Answers.{Mapping}
 use Rattle.model.specs.Audit.{Found, _⊕_, noneInside}
-use Rattle.audit.specs.Checks.{Seen, seen, Marked, clash, marks, mark, walked, Ends, Answers}
+use Rattle.audit.specs.Checks.{keptIn, Seen, seen, Marked, clash, marks, mark, walked, Ends, Answers}
+use Rattle.audit.specs.declared.Look.{Look}
 use Rattle.audit.specs.declared.Tally.{Tally}
 use Rattle.audit.specs.declared.Tally.the-variants.{Counts, Damaged}
 
@@ -34,15 +35,23 @@ inside-append G area (m ∷ a) b =
     ap (λ (x : Bool). not (meetsArea G area (m .frame) (m .size)) && x) (inside-append G area a b)
     ∙ sym (and-assoc (not (meetsArea G area (m .frame) (m .size))) (noneInside G area a) (noneInside G area b))
 
-pub seen-⊕ : (G : Granule) (area : Area) (F H : Found) → seen G area (F ⊕ H) ≡ seen G area F ⊞ seen G area H
-seen-⊕ G area F H =
+pub seen-⊕ : (G : Granule) (look : Look) (F H : Found) → seen G look (F ⊕ H) ≡ seen G look F ⊞ seen G look H
+seen-⊕ G look F H =
     rw (
       length-append (F .mappings) (H .mappings),
-      inside-append G area (F .mappings) (H .mappings),
-      in-pairs (F .ok) (H .ok) (F .full) (H .full),
-      in-pairs (noneInside G area (F .mappings)) (noneInside G area (H .mappings)) (F .ok && F .full) (H .ok && H .full),
+      inside-append G (keptIn look) (F .mappings) (H .mappings),
+      either (F .full) (H .full) (look .bare),
+      in-pairs (F .ok) (H .ok) (F .full || look .bare) (H .full || look .bare),
+      in-pairs (noneInside G (keptIn look) (F .mappings)) (noneInside G (keptIn look) (H .mappings)) (F .ok && (F .full || look .bare)) (H .ok && (H .full || look .bare)),
     )
   where
+    either : (a b c : Bool) → ((a && b) || c) ≡ ((a || c) && (b || c))
+    either true b c = refl
+    either false true true = refl
+    either false true false = refl
+    either false false true = refl
+    either false false false = refl
+
     in-pairs : (a b c d : Bool) → ((a && b) && (c && d)) ≡ ((a && c) && (b && d))
     in-pairs true true c d = refl
     in-pairs true false true d = refl

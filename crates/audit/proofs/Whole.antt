@@ -1,7 +1,7 @@
 -- The audit's answer, from what its checks answer: marking without a clash is the same as distinctness.
-use Prim.Native.Nat.{ℕ, _+_, _-_, _<_}
+use Prim.Native.Nat.{ℕ, _+_, _-_, _*_, _≤_, _<_}
 use mathlib.Core.Path.{_≡_, refl, sym, ap, ap₂, _∙_}
-use mathlib.Core.Bool.{Bool, true, false, cond, _&&_, _||_, not, true≢false, and-true, and-false, and-assoc}
+use mathlib.Core.Bool.{Bool, true, false, cond, _&&_, _||_, not, true≢false, false≢true, and-true, and-false, and-assoc}
 use mathlib.Core.List.{List, [], _∷_, _++_, List·Memᴰ·head as here, List·Memᴰ·tail as there}
 use native.Mathlib.Decide.{ℕ-discrete}
 use native.Mathlib.Omega.{arith}
@@ -12,17 +12,21 @@ use borrow.Author.Tests.{eq-eqb, ne-eqb}
 use Rattle.laws.specs.Lists.{allZero, among, distinct}
 use Rattle.laws.specs.ListLaws.{allZero-at, allZero-replicate, distinct-left}
 use Rattle.path.specs.Geometry.{Granule, four}
-use Rattle.path.specs.Areas.{areaOf}
+use Rattle.path.specs.Areas.{Area, areaOf, total, GoodArea}
 use Rattle.path.specs.Numbers.{mostTables, GoodSetup}
 use Rattle.path.specs.Laws.{four-sane, good-setup}
+use Rattle.path.specs.declared.Setup.{Setup}
 use Rattle.model.specs.Answers.{Pool, audited, refused}
 use Rattle.model.specs.Calls.{goodPool}
-use Rattle.model.specs.Audit.{tableWords, ofPool, freeOf, freeSound, noneInside, soundPool, auditW}
+use Rattle.model.specs.Audit.{Found, tableWords, ofTable, ofPool, freeOf, freeSound, noneInside, soundPool, auditW}
+use Rattle.model.specs.Adds.{soundTree}
 use Rattle.model.specs.Sound.{Each, reachedOf, mappingsOf}
-use Rattle.model.specs.AuditLaws.{each-append, pool-reached-low, free-back}
-use Rattle.audit.specs.Checks.{Seen, Marked, clash, marks, mark, Answers, atTable, freePass, TableFit}
+use Rattle.model.specs.AuditLaws.{each-append, reached-low, free-back}
+use Rattle.audit.specs.Checks.{areaIn, keptIn, Seen, seen, Marked, clash, marks, mark, walked, Answers, atTable, treeOf, freePass, RunsFit, TableFit, Rooted}
+use Rattle.audit.specs.declared.Look.{Look}
 use Rattle.audit.specs.declared.Tally.the-variants.{Counts, Damaged}
 use Rattle.audit.proofs.Parts.{mark-append, ended, clashed}
+use Rattle.audit.proofs.Tables.{or-false}
 
 -- ---- marks and distinct lists
 
@@ -110,70 +114,171 @@ free-parts G ws n M (t ∷ ts) = go (ltb t n) (eqb (getD M t 0) 0) (allZero (tab
     go true false false h = refl
     go false e z h = refl
 
+-- ---- the root
+
+-- the audit goes by the pool's own regions, and an empty table is damage
+abbrev pub strictly : Setup → Look
+strictly s = record {
+  base = s .base;
+  tables = s .tables;
+  base2 = s .base2;
+  tables2 = s .tables2;
+  kept = s .base;
+  many = s .tables;
+  kept2 = s .base2;
+  many2 = s .tables2;
+  bare = false;
+}
+
+-- the adding call keeps one region free, and looks at no empty table
+abbrev pub loosely : Setup → ℕ → ℕ → Look
+loosely s kept many = record {
+  base = s .base;
+  tables = s .tables;
+  base2 = s .base2;
+  tables2 = s .tables2;
+  kept = kept;
+  many = many;
+  kept2 = 0;
+  many2 = 0;
+  bare = true;
+}
+
+pub root-fit : {s : Setup} {look : Look} {first second : ℕ} → Rooted s first second → (look .tables ≡ s .tables) → (look .tables2 ≡ s .tables2) → GoodArea four (keptIn look)
+    → TableFit (blank mostTables) look 0 (s .levels - 1) × RunsFit look first second
+root-fit R e f g = (
+  record {
+    placed = g;
+    marked = rw (length-replicate {A = ℕ} mostTables 0) (omega (arith, R .few));
+    inside = omega (arith, R .some-table);
+    low = omega (arith, R .not-more, R .enough);
+  },
+  record { cut-is = R .cut-is ∙ ap (λ (x : ℕ). 512 * x) (sym e); long = omega (arith, R .long) },
+)
+
+module _ (s : Setup) (look : Look) (ws : List ℕ) (some-table : 1 ≤ s .tables) (few : total (areaOf s) ≤ mostTables) (same : areaIn look ≡ areaOf s) where
+  -- the tree, and the test that a check makes of it beside distinctness
+  abbrev tree : Found
+  tree = treeOf s ws
+
+  abbrev sound : Bool
+  sound = noneInside four (keptIn look) (tree .mappings) && (tree .ok && (tree .full || look .bare))
+
+  abbrev all : Seen
+  all = atTable four ws look (s .levels - 1) 0
+
+  all-is : all ≡ record { ok = sound; reached = tree .reached; count = length (tree .mappings) }
+  all-is = ap (λ (x : Area). seen four look (ofTable four ws x (s .levels - 1) 0 0)) same
+
+  pub reached-small : Each (λ t. t < mostTables) (tree .reached)
+  reached-small t m = omega (arith, few, reached-low four-sane ws (areaOf s) (s .levels - 1) 0 0 (omega arith) t m)
+
+  pub root-clash : (K : List ℕ) → Answers all (blank mostTables) Damaged K → (sound && distinct (tree .reached)) ≡ false
+  root-clash K h = go sound refl (ap (λ (x : Seen). walked x (blank mostTables)) (sym all-is) ∙ clashed all (blank mostTables) K h)
+    where
+      go : (o : Bool) → sound ≡ o → cond o (mark (blank mostTables) (tree .reached)) clash ≡ clash → (o && distinct (tree .reached)) ≡ false
+      go true o e = sym (blank-distinct mostTables (tree .reached) reached-small) ∙ ap passed e
+      go false o e = refl
+
+  pub root-sound : (a b : ℕ) (K : List ℕ) → Answers all (blank mostTables) (Counts a b) K
+      → (sound ≡ true) × ((mark (blank mostTables) (tree .reached) ≡ marks K) × ((a ≡ length (tree .reached)) × (b ≡ length (tree .mappings))))
+  root-sound a b K h =
+      let (x, y, z) = ended all (blank mostTables) K a b h in
+      let (o, m) = go sound refl (ap (λ (x : Seen). walked x (blank mostTables)) (sym all-is) ∙ x) in
+      (o, (m, (y ∙ ap (λ (x : Seen). length (x .reached)) all-is, z ∙ ap (λ (x : Seen). x .count) all-is)))
+    where
+      go : (o : Bool) → sound ≡ o → cond o (mark (blank mostTables) (tree .reached)) clash ≡ marks K → (sound ≡ true) × (mark (blank mostTables) (tree .reached) ≡ marks K)
+      go true q e = (q, e)
+      go false q e = absurd (let z : _≡_ {A = ℕ} 0 1 = cc in omega arith)
+
+  -- where empty tables are as good as others
+  pub tree-clash : (K : List ℕ) → look .bare ≡ true → Answers all (blank mostTables) Damaged K → false ≡ (noneInside four (keptIn look) (tree .mappings) && soundTree tree)
+  tree-clash K bare h = go (noneInside four (keptIn look) (tree .mappings)) (tree .ok) (tree .full) (distinct (tree .reached)) (rw bare at (root-clash K h))
+    where
+      go : (n o f d : Bool) → ((n && (o && (f || true))) && d) ≡ false → false ≡ (n && (o && d))
+      go true true true d e = sym e
+      go true true false d e = sym e
+      go true false f d e = refl
+      go false o f d e = refl
+
+  pub tree-sound : (a b : ℕ) (K : List ℕ) → look .bare ≡ true → Answers all (blank mostTables) (Counts a b) K
+      → true ≡ (noneInside four (keptIn look) (tree .mappings) && soundTree tree)
+  tree-sound a b K bare h =
+      let r = root-sound a b K h in
+      go (noneInside four (keptIn look) (tree .mappings)) (tree .ok) (tree .full) (rw bare at (r .0)) (sym (blank-distinct mostTables (tree .reached) reached-small) ∙ ap passed (r .1 .0))
+    where
+      go : (n o f : Bool) → (n && (o && (f || true))) ≡ true → distinct (tree .reached) ≡ true → true ≡ (n && (o && distinct (tree .reached)))
+      go true true f e d = sym d
+      go true false f e d = absurd (false≢true e)
+      go false o f e d = absurd (false≢true e)
+
 -- ---- the whole
 
+pub rooted : (p : Pool) → goodPool four p ≡ true → (second : ℕ) → length (p .words) ≡ p .cut + second → Rooted (p .numbers) (p .cut) second
+rooted p g second e =
+    let N : GoodSetup four (p .numbers) (p .cut) (length (p .words)) (length (p .list)) = good-setup g in
+    record {
+      enough = N .numbers .enough;
+      not-more = N .numbers .not-more;
+      some-table = N .numbers .some-table;
+      few = N .numbers .few;
+      cut-is = N .numbers .cut-is;
+      long = omega (arith, N .numbers .words-are);
+    }
+
 module _ (p : Pool) (g : goodPool four p ≡ true) where
-  N : GoodSetup four (p .numbers) (length (p .words)) (length (p .list))
+  abbrev look : Look
+  look = strictly (p .numbers)
+
+  N : GoodSetup four (p .numbers) (p .cut) (length (p .words)) (length (p .list))
   N = good-setup g
 
+  abbrev n : ℕ
+  n = total (areaOf (p .numbers))
+
   -- whether no frame shares a byte with the tables, and the tree is sound and has no empty table
-  abbrev sound : Bool
-  sound = noneInside four (areaOf (p .numbers)) (mappingsOf four p) && (ofPool four p .ok && ofPool four p .full)
+  abbrev good : Bool
+  good = noneInside four (areaOf (p .numbers)) (mappingsOf four p) && (ofPool four p .ok && ofPool four p .full)
 
-  -- what is seen from the root
-  abbrev all : Seen
-  all = atTable four (p .words) (areaOf (p .numbers)) (p .numbers .levels - 1) 0
+  abbrev seen-all : Seen
+  seen-all = atTable four (p .words) look (p .numbers .levels - 1) 0
 
-  pub root-fit : TableFit (blank mostTables) (p .numbers .base) (p .numbers .tables) 0 (p .numbers .levels - 1)
-  root-fit =
-      record {
-        placed = N .numbers .placed;
-        marked = rw (length-replicate {A = ℕ} mostTables 0) (N .numbers .few);
-        inside = N .numbers .some-table;
-        low = omega (arith, N .numbers .not-more, N .numbers .enough);
-      }
+  abbrev tested : Bool
+  tested = noneInside four (keptIn look) (mappingsOf four p) && (ofPool four p .ok && (ofPool four p .full || look .bare))
 
-  reached-small : Each (λ t. t < mostTables) (reachedOf four p)
-  reached-small t m = omega (arith, N .numbers .few, pool-reached-low four-sane p g t m)
+  good-is : tested ≡ good
+  good-is = rw (or-false (ofPool four p .full))
 
   damaged : soundPool four p ≡ false → refused 8 ≡ auditW four p
   unfolding auditW
   damaged e = sym (rw (g, e))
 
-  pub whole-clash : (K : List ℕ) → Answers all (blank mostTables) Damaged K → refused 8 ≡ auditW four p
+  pub whole-clash : (K : List ℕ) → Answers seen-all (blank mostTables) Damaged K → refused 8 ≡ auditW four p
   unfolding soundPool
-  whole-clash K h = damaged (go sound refl (clashed all (blank mostTables) K h))
+  whole-clash K h = damaged (go good (distinct (reachedOf four p)) refl (rw good-is at (root-clash (p .numbers) look (p .words) (N .numbers .some-table) (N .numbers .few) refl K h)))
     where
-      go : (o : Bool) → sound ≡ o → cond o (mark (blank mostTables) (reachedOf four p)) clash ≡ clash
-          → (o && (distinct (reachedOf four p ++ freeOf p) && (freeSound four (p .words) (p .numbers .tables) (freeOf p) && eqb (length (reachedOf four p) + p .numbers .free) (p .numbers .tables)))) ≡ false
-      go true o e = rw (left-not (reachedOf four p) (freeOf p) (sym (blank-distinct mostTables (reachedOf four p) reached-small) ∙ ap passed e))
-      go false o e = refl
+      go : (o d : Bool) → distinct (reachedOf four p) ≡ d → (o && d) ≡ false
+          → (o && (distinct (reachedOf four p ++ freeOf p) && (freeSound four (p .words) n (freeOf p) && eqb (length (reachedOf four p) + p .numbers .free) n))) ≡ false
+      go true d q e = rw (left-not (reachedOf four p) (freeOf p) (q ∙ e))
+      go false d q e = refl
 
-  module _ (a b : ℕ) (K : List ℕ) (h : Answers all (blank mostTables) (Counts a b) K) where
-    counts : (a ≡ length (reachedOf four p)) × (b ≡ length (mappingsOf four p))
-    counts = let (_, x, y) = ended all (blank mostTables) K a b h in (x, y)
-
-    sound-tree : (sound ≡ true) × (mark (blank mostTables) (reachedOf four p) ≡ marks K)
-    sound-tree = go (sound) refl (ended all (blank mostTables) K a b h .0)
-      where
-        go : (o : Bool) → sound ≡ o → cond o (mark (blank mostTables) (reachedOf four p)) clash ≡ marks K → (sound ≡ true) × (mark (blank mostTables) (reachedOf four p) ≡ marks K)
-        go true q e = (q, e)
-        go false q e = absurd (let z : _≡_ {A = ℕ} 0 1 = cc in omega arith)
+  module _ (a b : ℕ) (K : List ℕ) (h : Answers seen-all (blank mostTables) (Counts a b) K) where
+    found : (good ≡ true) × ((mark (blank mostTables) (reachedOf four p) ≡ marks K) × ((a ≡ length (reachedOf four p)) × (b ≡ length (mappingsOf four p))))
+    found = rw good-is at (root-sound (p .numbers) look (p .words) (N .numbers .some-table) (N .numbers .few) refl a b K h)
 
     -- the free list's check, after the tree's
-    frees : freePass four (p .words) (p .numbers .tables) K (freeOf p) ≡ (distinct (reachedOf four p ++ freeOf p) && freeSound four (p .words) (p .numbers .tables) (freeOf p))
-    frees = free-parts four (p .words) (p .numbers .tables) K (freeOf p) ∙ go (freeSound four (p .words) (p .numbers .tables) (freeOf p)) refl
+    frees : freePass four (p .words) n K (freeOf p) ≡ (distinct (reachedOf four p ++ freeOf p) && freeSound four (p .words) n (freeOf p))
+    frees = free-parts four (p .words) n K (freeOf p) ∙ go (freeSound four (p .words) n (freeOf p)) refl
       where
-        small : freeSound four (p .words) (p .numbers .tables) (freeOf p) ≡ true → Each (λ t. t < mostTables) (reachedOf four p ++ freeOf p)
+        small : freeSound four (p .words) n (freeOf p) ≡ true → Each (λ t. t < mostTables) (reachedOf four p ++ freeOf p)
         small e =
-            each-append (λ t. t < mostTables) (reachedOf four p) (freeOf p) reached-small
-            (λ t m. omega (arith, N .numbers .few, free-back four (p .words) (p .numbers .tables) (freeOf p) e t m .0))
+            each-append (λ t. t < mostTables) (reachedOf four p) (freeOf p) (reached-small (p .numbers) look (p .words) (N .numbers .some-table) (N .numbers .few) refl)
+            (λ t m. omega (arith, N .numbers .few, free-back four (p .words) n (freeOf p) e t m .0))
 
         joined : mark (blank mostTables) (reachedOf four p ++ freeOf p) ≡ mark K (freeOf p)
-        joined = mark-append (blank mostTables) (reachedOf four p) (freeOf p) ∙ rw (sound-tree .1)
+        joined = mark-append (blank mostTables) (reachedOf four p) (freeOf p) ∙ rw (found .1 .0)
 
-        go : (o : Bool) → freeSound four (p .words) (p .numbers .tables) (freeOf p) ≡ o
-            → (o && passed (mark K (freeOf p))) ≡ (distinct (reachedOf four p ++ freeOf p) && o)
+        go : (o : Bool) → freeSound four (p .words) n (freeOf p) ≡ o → (o && passed (mark K (freeOf p))) ≡ (distinct (reachedOf four p ++ freeOf p) && o)
         go true e =
             ap passed (sym joined)
             ∙ blank-distinct mostTables (reachedOf four p ++ freeOf p) (small e)
@@ -181,23 +286,23 @@ module _ (p : Pool) (g : goodPool four p ≡ true) where
         go false e = sym (and-false (distinct (reachedOf four p ++ freeOf p)))
 
     -- the whole test
-    test : soundPool four p ≡ (freePass four (p .words) (p .numbers .tables) K (freeOf p) && eqb (length (reachedOf four p) + p .numbers .free) (p .numbers .tables))
+    test : soundPool four p ≡ (freePass four (p .words) n K (freeOf p) && eqb (length (reachedOf four p) + p .numbers .free) n)
     unfolding soundPool
     test =
-        rw (sound-tree .0, frees)
-        (sym (and-assoc (distinct (reachedOf four p ++ freeOf p)) (freeSound four (p .words) (p .numbers .tables) (freeOf p)) (eqb (length (reachedOf four p) + p .numbers .free) (p .numbers .tables))))
+        rw (found .0, frees)
+        (sym (and-assoc (distinct (reachedOf four p ++ freeOf p)) (freeSound four (p .words) n (freeOf p)) (eqb (length (reachedOf four p) + p .numbers .free) n)))
 
-    pub whole-miscount : (a ≡ p .numbers .tables - p .numbers .free → ⊥) → refused 8 ≡ auditW four p
-    whole-miscount n =
-        damaged (test ∙ rw (ne-eqb (length (reachedOf four p) + p .numbers .free) (p .numbers .tables) (λ e. n (omega (arith, counts .0))))
-        (and-false (freePass four (p .words) (p .numbers .tables) K (freeOf p))))
+    pub whole-miscount : (a ≡ n - p .numbers .free → ⊥) → refused 8 ≡ auditW four p
+    whole-miscount m =
+        damaged (test ∙ rw (ne-eqb (length (reachedOf four p) + p .numbers .free) n (λ e. m (omega (arith, found .1 .1 .0))))
+        (and-false (freePass four (p .words) n K (freeOf p))))
 
-    pub whole-unfree : false ≡ freePass four (p .words) (p .numbers .tables) K (freeOf p) → refused 8 ≡ auditW four p
+    pub whole-unfree : false ≡ freePass four (p .words) n K (freeOf p) → refused 8 ≡ auditW four p
     whole-unfree e = damaged (test ∙ rw (← e))
 
-    pub whole-sound : a ≡ p .numbers .tables - p .numbers .free → true ≡ freePass four (p .words) (p .numbers .tables) K (freeOf p) → audited a b ≡ auditW four p
+    pub whole-sound : a ≡ n - p .numbers .free → true ≡ freePass four (p .words) n K (freeOf p) → audited a b ≡ auditW four p
     unfolding auditW
     whole-sound c e =
-        let total : length (reachedOf four p) + p .numbers .free ≡ p .numbers .tables = omega (arith, counts .0, N .room) in
-        let s : soundPool four p ≡ true = test ∙ rw (← e, eq-eqb _ _ total) in
-        ap₂ audited (counts .0) (counts .1) ∙ sym (rw (g, s))
+        let whole : length (reachedOf four p) + p .numbers .free ≡ n = omega (arith, found .1 .1 .0, N .room) in
+        let s : soundPool four p ≡ true = test ∙ rw (← e, eq-eqb _ _ whole) in
+        ap₂ audited (found .1 .1 .0) (found .1 .1 .1) ∙ sym (rw (g, s))

@@ -1,5 +1,5 @@
 -- What the audit's checks ask and answer. A check marks each table that it comes to, and stops at a table that is marked already.
-use Prim.Native.Nat.{ℕ, zero, suc, _≤_, _<_}
+use Prim.Native.Nat.{ℕ, zero, suc, _+_, _-_, _*_, _%_, _^_, _≤_, _<_}
 use mathlib.Core.Path.{_≡_}
 use mathlib.Core.Bool.{Bool, true, false, cond, _&&_, _||_, not}
 use mathlib.Core.List.{List, [], _∷_}
@@ -7,22 +7,36 @@ use lib.Dec.{ltb, eqb}
 use lib.ListN.{length, getD, set}
 use Rattle.laws.specs.Lists.{allZero}
 use Rattle.path.specs.Geometry.{Granule, four, entries}
-use Rattle.path.specs.Areas.{Area, areaAt, GoodArea, meetsArea}
+use Rattle.path.specs.Areas.{Area, areaAt, areaOf, total, GoodArea, meetsArea}
+use Rattle.path.specs.Numbers.{mostTables}
+use Rattle.path.specs.declared.Setup.{Setup}
 use Rattle.entry.specs.Words.{baseIn, attrsIn, frameWord, entryAt}
 use Rattle.model.specs.Audit.{Found, nothing, tableWords, ofEntry, ofTable, noneInside}
 use Rattle.model.specs.Sound.{wordAt}
+use Rattle.audit.specs.declared.Look.{Look}
 use Rattle.audit.specs.declared.Tally.{Tally}
 use Rattle.audit.specs.declared.Tally.the-variants.{Counts, Damaged}
 
--- of what is found in a part of the tree: whether no frame shares a byte with the tables and it is sound and has no empty table, the tables reached,
--- and how many mappings
+-- the tables that a check is of, and those that no frame may share a byte with
+abbrev pub areaIn : Look → Area
+areaIn look = areaAt (look .base) (look .tables) (look .base2) (look .tables2)
+
+abbrev pub keptIn : Look → Area
+keptIn look = areaAt (look .kept) (look .many) (look .kept2) (look .many2)
+
+-- of what is found in a part of the tree: whether no frame shares a byte with the kept regions and it is sound and has no empty table, or these are as good
+-- as others; the tables reached; and how many mappings
 pub record Seen : Type 0 where
   pub ok : Bool
   pub reached : List ℕ
   pub count : ℕ
 
-abbrev pub seen : Granule → Area → Found → Seen
-seen G area F = record { ok = noneInside G area (F .mappings) && (F .ok && F .full); reached = F .reached; count = length (F .mappings) }
+abbrev pub seen : Granule → Look → Found → Seen
+seen G look F = record {
+  ok = noneInside G (keptIn look) (F .mappings) && (F .ok && (F .full || look .bare));
+  reached = F .reached;
+  count = length (F .mappings);
+}
 
 -- the marks after tables were marked one after the other, or that one was marked before
 pub data Marked : Type 0 where
@@ -51,20 +65,28 @@ unfoldable pub belowOf : Granule → List ℕ → Area → ℕ → ℕ → ℕ �
 belowOf G ws area zero c v = nothing false
 belowOf G ws area (suc h) c v = ofTable G ws area h c v
 
--- table t, and entry i of it, of height h. What is seen is the same from any address: they are taken to stand for the addresses from 0 on
-abbrev pub atTable : Granule → List ℕ → Area → ℕ → ℕ → Seen
-atTable G ws area h t = seen G area (ofTable G ws area h t 0)
+-- table t, a word of an entry of height h, and entry i of table t. What is seen is the same from any address: they are taken to stand for the addresses from
+-- 0 on
+abbrev pub atTable : Granule → List ℕ → Look → ℕ → ℕ → Seen
+atTable G ws look h t = seen G look (ofTable G ws (areaIn look) h t 0)
 
-abbrev pub atEntry : Granule → List ℕ → Area → ℕ → ℕ → ℕ → Seen
-atEntry G ws area h t i = seen G area (ofEntry G h 0 (belowOf G ws area h) (entryAt G area h (wordAt G ws t i)))
+abbrev pub atWord : Granule → List ℕ → Look → ℕ → ℕ → Seen
+atWord G ws look h w = seen G look (ofEntry G h 0 (belowOf G ws (areaIn look) h) (entryAt G (areaIn look) h w))
+
+abbrev pub atEntry : Granule → List ℕ → Look → ℕ → ℕ → ℕ → Seen
+atEntry G ws look h t i = atWord G ws look h (wordAt G ws t i)
+
+-- the tree of a pool with these setup numbers and words
+abbrev pub treeOf : Setup → List ℕ → Found
+treeOf s ws = ofTable four ws (areaOf s) (s .levels - 1) 0 0
 
 -- the word of a page that shares no byte with the tables
 abbrev pub isPage : Area → ℕ → Bool
 isPage area w = eqb w (frameWord (baseIn w) 0 (attrsIn w)) && not (meetsArea four area (baseIn w) 4096)
 
--- table t was not marked before, and is the root or not empty
-abbrev pub isFresh : Granule → List ℕ → List ℕ → ℕ → Bool
-isFresh G ws M t = eqb (getD M t 0) 0 && (eqb t 0 || not (allZero (tableWords G ws t)))
+-- table t was not marked before, and is the root or not empty, or may be empty
+abbrev pub isFresh : Granule → List ℕ → List ℕ → Bool → ℕ → Bool
+isFresh G ws M bare t = eqb (getD M t 0) 0 && ((eqb t 0 || not (allZero (tableWords G ws t))) || bare)
 
 -- each of these free numbers is in range and was not marked before, and its table is all zero
 unfoldable pub freePass : Granule → List ℕ → ℕ → List ℕ → List ℕ → Bool
@@ -72,17 +94,41 @@ freePass G ws n M [] = true
 freePass G ws n M (t ∷ ts) =
     ltb t n && (eqb (getD M t 0) 0 && (allZero (tableWords G ws t) && freePass G ws n (set M t 1) ts))
 
+-- a page and a region's tables, as the difference of their addresses tells
+pub record PageFit (page base n : ℕ) : Type 0 where
+  pub paged : page % 4096 ≡ 0
+  pub low : page < 2 ^ 48
+  pub aligned : base % 4096 ≡ 0
+  pub fits : base + 4096 * n ≤ 2 ^ 48
+
+-- a run of so many words is of whole tables
+pub record Cut (first : ℕ) : Type 0 where
+  pub tables : ℕ
+  pub whole : first ≡ entries four * tables
+
+-- what a check asks of the runs of words, by their lengths
+pub record RunsFit (look : Look) (first second : ℕ) : Type 0 where
+  pub cut-is : first ≡ entries four * look .tables
+  pub long : entries four * total (areaIn look) ≤ first + second
+
 -- what a check of table t asks: tables in their places, a mark for each table of the pool, one of those, and the height of some level
-pub record TableFit (M : List ℕ) (base n t h : ℕ) : Type 0 where
-  pub placed : GoodArea four (areaAt base n)
-  pub marked : n ≤ length M
-  pub inside : t < n
+pub record TableFit (M : List ℕ) (look : Look) (t h : ℕ) : Type 0 where
+  pub placed : GoodArea four (keptIn look)
+  pub marked : total (areaIn look) ≤ length M
+  pub inside : t < total (areaIn look)
   pub low : h < four .most
 
--- what a check of an entry asks: the same, and that entries are left
-pub record EntryFit (M : List ℕ) (base n h left : ℕ) : Type 0 where
-  pub placed : GoodArea four (areaAt base n)
-  pub marked : n ≤ length M
+-- what a check of an entry asks: the same, of no table
+pub record EntryFit (M : List ℕ) (look : Look) (h : ℕ) : Type 0 where
+  pub placed : GoodArea four (keptIn look)
+  pub marked : total (areaIn look) ≤ length M
   pub low : h < four .most
-  pub some-left : 0 < left
-  pub few-left : left ≤ entries four
+
+-- what a check of the whole tree asks of the setup numbers and of the runs
+pub record Rooted (s : Setup) (first second : ℕ) : Type 0 where
+  pub enough : four .fewest ≤ s .levels
+  pub not-more : s .levels ≤ four .most
+  pub some-table : 1 ≤ s .tables
+  pub few : total (areaOf s) ≤ mostTables
+  pub cut-is : first ≡ entries four * s .tables
+  pub long : entries four * total (areaOf s) ≤ first + second

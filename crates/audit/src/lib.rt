@@ -1,18 +1,19 @@
-// The audit: the rules of a sound pool, tested from the root down and then along the free list.
+// The audit: the rules of a sound pool, tested from the root down and then along the free list. The adding call holds a tree to some of them.
 use entry::Entry;
 use model::AuditAnswer;
 use path::Setup;
 ghost use mathlib.Core.Path.{_≡_};
-ghost use mathlib.Core.Bool.{true};
-ghost use mathlib.Core.List.{List};
+ghost use mathlib.Core.Bool.{true, _&&_};
+ghost use mathlib.Core.List.{List, _++_};
 ghost use Prim.Native.Nat.{ℕ, _≤_, _<_, _+_, _-_, _*_};
-ghost use lib.ListN.{length, take, set};
+ghost use lib.ListN.{length, take, set, getD};
 ghost use Rattle.path.specs.Geometry.{four, entries};
-ghost use Rattle.path.specs.Areas.{areaAt, GoodArea};
+ghost use Rattle.path.specs.Areas.{oneRegion, GoodArea, meetsRegion};
+ghost use Rattle.path.specs.Numbers.{mostTables};
 ghost use Rattle.model.specs.Answers.{saysAudit, pool};
-ghost use Rattle.model.specs.Audit.{auditW};
-ghost use Rattle.model.specs.Sound.{wordAt};
-ghost use Rattle.audit.specs.Checks.{Answers, TableFit, EntryFit, isPage, isFresh, atTable, atEntry, freePass};
+ghost use Rattle.model.specs.Audit.{tableWords, noneInside, auditW};
+ghost use Rattle.model.specs.Adds.{soundTree, addTests};
+ghost use Rattle.audit.specs.Checks.{Answers, Cut, Rooted, RunsFit, PageFit, TableFit, EntryFit, keptIn, isPage, isFresh, atTable, atWord, treeOf, freePass};
 
 // The entries of a table.
 const ENTRIES: usize = path::ENTRIES as usize;
@@ -25,49 +26,76 @@ enum Tally {
     Damaged,
 }
 
-// Whether table t was not come to before, and is the root or not empty.
-fn is_fresh(words: &[u64], marks: &[u8], t: u32) -> bool
+// What a check goes by: the regions of the tree's tables; regions that no frame may share a byte with; and whether an empty table is as good as another.
+struct Look {
+    base: u64,
+    tables: u16,
+    base2: u64,
+    tables2: u16,
+    kept: u64,
+    many: u16,
+    kept2: u64,
+    many2: u16,
+    bare: bool,
+}
+
+// Whether table t was not come to before, and may be empty or is not.
+fn is_fresh<'a>(words: &'a [u64], second: &'a [u64], marks: &[u8], bare: bool, t: u32) -> bool
     requires { ⌜ t < length (now marks) ⌝ }
-    ensures { λ r. ⌜ r ≡ isFresh four (now (words .entry)) (now (marks .entry)) t ⌝ }
+    ensures { λ r. ⌜ ((k : ℕ) → length (now (words .entry)) ≡ entries four * k
+        → r ≡ isFresh four (now (words .entry) ++ now (second .entry)) (now (marks .entry)) bare t) ⌝ }
 {
     if marks[t as usize] != 0 {
         return false;
     }
+    if bare {
+        return true;
+    }
     if t == 0 {
         return true;
     }
-    !pool::is_table_empty(words, t)
+    !pool::is_table_empty(words, second, t)
 }
 
-// Whether a word is that of a page which shares no byte with the tables. Pages and tables stand at multiples of one size, so that one difference tells,
-// which wraps for a page below them.
-fn is_page(w: u64, base: u64, n: u32) -> bool
-    requires { ⌜ GoodArea four (areaAt base n) ⌝ }
-    ensures { λ r. ⌜ r ≡ isPage (areaAt base n) w ⌝ }
+// Whether a page shares a byte with the tables of a region. Pages and tables stand at multiples of one size, so that one difference tells, which wraps for a
+// page below them.
+fn is_within(page: u64, base: u64, tables: u16) -> bool
+    requires { ⌜ PageFit page base tables ⌝ }
+    ensures { λ r. ⌜ r ≡ meetsRegion four base tables page 4096 ⌝ }
+{
+    let off = std::num::wrapping_sub_u64(page, base);
+    off < path::PAGE * (tables as u64)
+}
+
+// Whether a word is that of a page which shares no byte with the tables of these regions.
+fn is_page(w: u64, look: Look) -> bool
+    requires { ⌜ GoodArea four (keptIn look) ⌝ }
+    ensures { λ r. ⌜ r ≡ isPage (keptIn look) w ⌝ }
 {
     let page = entry::is_frame(w, 0);
-    let off = std::num::wrapping_sub_u64(entry::base_in(w), base);
-    let inside = off < path::PAGE * (n as u64);
-    if inside {
+    let base = entry::base_in(w);
+    if is_within(base, look.kept, look.many) {
+        return false;
+    }
+    if is_within(base, look.kept2, look.many2) {
         return false;
     }
     page
 }
 
-// Checks table t of the last level, which is fresh. A word that is damaged is neither empty nor a page, and the loop goes on: it has no branch, so that it
-// is done on several words at once.
-fn pages_check(words: &[u64], base: u64, n: u32, t: u32) -> Tally
-    requires { ⌜ (entries four * t + entries four ≤ length (now words)) × GoodArea four (areaAt base n) ⌝ }
-    ensures { λ r. ⌜ ((M : List ℕ) → isFresh four (now (words .entry)) M t ≡ true
-        → Answers (atTable four (now (words .entry)) (areaAt base n) 0 t) M r (set M t 1)) ⌝ }
+// Checks the words of a table of the last level, which is fresh. A word that is damaged is neither empty nor a page, and the loop goes on: it has no branch, so
+// that it is done on several words at once.
+fn pages_check(part: &[u64], look: Look) -> Tally
+    requires { ⌜ (length (now part) ≡ entries four) × GoodArea four (keptIn look) ⌝ }
+    ensures { λ r. ⌜ ((ws : List ℕ) (t : ℕ) → now (part .entry) ≡ tableWords four ws t → (M : List ℕ) → isFresh four ws M (look .bare) t ≡ true
+        → Answers (atTable four ws look 0 t) M r (set M t 1)) ⌝ }
 {
-    let end = ENTRIES * (t as usize) + ENTRIES;
     let mut empty: u64 = 0;
     let mut pages: u64 = 0;
     let mut left = ENTRIES;
     while 0 < left {
-        let w = words[end - left];
-        let page = is_page(w, base, n);
+        let w = part[ENTRIES - left];
+        let page = is_page(w, look);
         empty += (w == 0) as u64;
         pages += page as u64;
         left -= 1;
@@ -78,15 +106,14 @@ fn pages_check(words: &[u64], base: u64, n: u32, t: u32) -> Tally
     Tally::Counts(1, pages)
 }
 
-// Where so many entries of table t are left: how many are left from the first of them that is not empty on.
-fn skip_empty(words: &[u64], t: u32, left: usize) -> usize
-    requires { ⌜ (left ≤ entries four) × (entries four * t + entries four ≤ length (now words)) ⌝ }
-    ensures { λ r. ⌜ (r ≤ left) × ((k : ℕ) → r < k → k ≤ left → wordAt four (now (words .entry)) t (entries four - k) ≡ 0) ⌝ }
+// Where so many words of a table are left: how many are left from the first of them that is not 0 on.
+fn skip_empty(part: &[u64], left: usize) -> usize
+    requires { ⌜ (left ≤ entries four) × (length (now part) ≡ entries four) ⌝ }
+    ensures { λ r. ⌜ (r ≤ left) × ((k : ℕ) → r < k → k ≤ left → getD (now (part .entry)) (entries four - k) 0 ≡ 0) ⌝ }
 {
-    let end = ENTRIES * (t as usize) + ENTRIES;
     let mut rest = left;
     while 0 < rest {
-        if words[end - rest] != 0 {
+        if part[ENTRIES - rest] != 0 {
             return rest;
         }
         rest -= 1;
@@ -95,22 +122,31 @@ fn skip_empty(words: &[u64], t: u32, left: usize) -> usize
 }
 
 // Checks table t, whose entries have this height, and all below it, and marks the tables come to.
-fn table_check(words: &[u64], marks: &mut [u8], base: u64, n: u32, t: u32, height: usize) -> Tally
-    requires { ⌜ TableFit (now marks) base n t height × (entries four * n ≤ length (now words)) ⌝ }
-    ensures { λ r. ⌜ Answers (atTable four (now (words .entry)) (areaAt base n) height t) (now (marks .entry)) r (now (marks .exit)) ⌝ }
+fn table_check<'a>(
+    words: &'a [u64],
+    second: &'a [u64],
+    marks: &mut [u8],
+    look: Look,
+    t: u32,
+    height: usize,
+) -> Tally
+    requires { ⌜ TableFit (now marks) look t height × RunsFit look (length (now words)) (length (now second)) ⌝ }
+    ensures { λ r. ⌜ Answers (atTable four (now (words .entry) ++ now (second .entry)) look height t) (now (marks .entry)) r (now (marks .exit)) ⌝ }
 {
-    if !is_fresh(words, marks, t) {
+    if !is_fresh(words, second, marks, look.bare, t) {
         return Tally::Damaged;
     }
     marks[t as usize] = 1;
+    let part = pool::table_part(words, second, t);
     if height == 0 {
-        return pages_check(words, base, n, t);
+        return pages_check(part, look);
     }
     let mut tables: u64 = 1;
     let mut mappings: u64 = 0;
-    let mut left = skip_empty(words, t, ENTRIES);
+    let mut left = skip_empty(part, ENTRIES);
     while 0 < left {
-        let r = entry_check(words, marks, base, n, t, height, left);
+        let w = part[ENTRIES - left];
+        let r = entry_check(words, second, marks, look, w, height);
         match r {
             Tally::Counts(a, b) => {
                 tables += a;
@@ -120,48 +156,55 @@ fn table_check(words: &[u64], marks: &mut [u8], base: u64, n: u32, t: u32, heigh
                 return Tally::Damaged;
             }
         }
-        left = skip_empty(words, t, left - 1);
+        left = skip_empty(part, left - 1);
     }
     Tally::Counts(tables, mappings)
 }
 
-// Checks the entry of table t that so many entries are left from, itself included, and the table that it names.
-fn entry_check(
-    words: &[u64],
+// Checks a word at this height, and the table that it names.
+fn entry_check<'a>(
+    words: &'a [u64],
+    second: &'a [u64],
     marks: &mut [u8],
-    base: u64,
-    n: u32,
-    t: u32,
+    look: Look,
+    w: u64,
     height: usize,
-    left: usize,
 ) -> Tally
-    requires { ⌜ EntryFit (now marks) base n height left × (entries four * n ≤ length (now words)) ⌝ }
-    ensures { λ r. ⌜ Answers (atEntry four (now (words .entry)) (areaAt base n) height t (entries four - left))
-        (now (marks .entry)) r (now (marks .exit)) ⌝ }
+    requires { ⌜ EntryFit (now marks) look height × RunsFit look (length (now words)) (length (now second)) ⌝ }
+    ensures { λ r. ⌜ Answers (atWord four (now (words .entry) ++ now (second .entry)) look height w) (now (marks .entry)) r (now (marks .exit)) ⌝ }
 {
-    let w = pool::word(words, ENTRIES * (t as usize) + (ENTRIES - left));
-    let e = entry::read_word(w, height, base, n);
+    let e = entry::read_word(w, height, look.base, look.tables, look.base2, look.tables2);
     match e {
         Entry::Empty => Tally::Counts(0, 0),
         Entry::Frame {
             base: frame,
             attributes: _,
         } => {
-            let met = path::meets_area(base, n as u64, frame, path::size_at(height));
+            let size = path::size_at(height);
+            let first = look.many as u64;
+            let more = look.many2 as u64;
+            let met = path::meets_area(look.kept, first, look.kept2, more, frame, size);
             if met {
                 return Tally::Damaged;
             }
             Tally::Counts(0, 1)
         }
-        Entry::Table(c) => table_check(words, marks, base, n, c, height - 1),
+        Entry::Table(c) => table_check(words, second, marks, look, c, height - 1),
         Entry::Damaged => Tally::Damaged,
     }
 }
 
 // Checks the first f numbers of the free list: in range, not marked before, and their tables all zero.
-fn free_check(words: &[u64], marks: &mut [u8], list: &[u32], n: u32, f: usize) -> bool
-    requires { ⌜ (n ≤ length (now marks)) × (f ≤ length (now list)) ⌝ }
-    ensures { λ r. ⌜ r ≡ freePass four (now (words .entry)) n (now (marks .entry)) (take f (now (list .entry))) ⌝ }
+fn free_check<'a>(
+    words: &'a [u64],
+    second: &'a [u64],
+    marks: &mut [u8],
+    list: &[u32],
+    n: u32,
+    f: usize,
+) -> bool
+    requires { ⌜ (n ≤ length (now marks)) × ((f ≤ length (now list)) × Cut (length (now words))) ⌝ }
+    ensures { λ r. ⌜ r ≡ freePass four (now (words .entry) ++ now (second .entry)) n (now (marks .entry)) (take f (now (list .entry))) ⌝ }
 {
     let mut i: usize = 0;
     while i < f {
@@ -173,7 +216,7 @@ fn free_check(words: &[u64], marks: &mut [u8], list: &[u32], n: u32, f: usize) -
         if marks[place] != 0 {
             return false;
         }
-        if !pool::is_table_empty(words, t) {
+        if !pool::is_table_empty(words, second, t) {
             return false;
         }
         marks[place] = 1;
@@ -182,22 +225,85 @@ fn free_check(words: &[u64], marks: &mut [u8], list: &[u32], n: u32, f: usize) -
     true
 }
 
-// The counts of reached tables and of mappings of a sound pool; refusal 1 for bad setup numbers or lengths, 8 for a broken rule.
-pub fn audit(s: Setup, words: &[u64], list: &[u32]) -> AuditAnswer
-    ensures { λ r. ⌜ saysAudit r ≡ auditW four (pool s (now (words .entry)) (now (list .entry))) ⌝ }
+// Whether every reachable word is sound, no table is reached twice, and no frame shares a byte with a region of so many tables. Empty tables are not looked at.
+fn tree_check<'a>(s: Setup, words: &'a [u64], second: &'a [u64], kept: u64, many: u64) -> bool
+    requires { ⌜ Rooted s (length (now words)) (length (now second)) × (GoodArea four (oneRegion kept many) × (many ≤ mostTables)) ⌝ }
+    ensures { λ r. ⌜ r ≡ (noneInside four (oneRegion kept many) (treeOf s (now (words .entry) ++ now (second .entry)) .mappings)
+        && soundTree (treeOf s (now (words .entry) ++ now (second .entry)))) ⌝ }
 {
-    if !path::good_setup(s, words.len(), list.len()) {
+    let mut marks = [0u8; MARKS];
+    let look = Look {
+        base: s.base,
+        tables: s.tables as u16,
+        base2: s.base2,
+        tables2: s.tables2 as u16,
+        kept,
+        many: many as u16,
+        kept2: 0,
+        many2: 0,
+        bare: true,
+    };
+    let r = table_check(words, second, &mut marks, look, 0, (s.levels - 1) as usize);
+    match r {
+        Tally::Counts(_, _) => true,
+        Tally::Damaged => false,
+    }
+}
+
+// The tests of an add of so many tables from an address on, where the free list has so many places: 1, 8 for a tree that is not sound as it stands, 11 where a
+// frame shares a byte with the region, or 0.
+pub fn add_tests<'a>(
+    s: Setup,
+    words: &'a [u64],
+    second: &'a [u64],
+    places: usize,
+    base2: u64,
+    tables2: u64,
+) -> u64
+    ensures { λ r. ⌜ ((list : List ℕ) → length list ≡ places
+        → r ≡ addTests four (pool s (now (words .entry) ++ now (second .entry)) (length (now (words .entry))) list) base2 tables2) ⌝ }
+{
+    if !path::good_adding(s, base2, tables2, words.len(), second.len(), places) {
+        return 1;
+    }
+    if !tree_check(s, words, second, 0, 0) {
+        return 8;
+    }
+    if !tree_check(s, words, second, base2, tables2) {
+        return 11;
+    }
+    0
+}
+
+// The counts of reached tables and of mappings of a sound pool; refusal 1 for bad setup numbers or lengths, 8 for a broken rule.
+pub fn audit<'a>(s: Setup, words: &'a [u64], second: &'a [u64], list: &[u32]) -> AuditAnswer
+    ensures { λ r. ⌜ saysAudit r ≡ auditW four (pool s (now (words .entry) ++ now (second .entry)) (length (now (words .entry))) (now (list .entry))) ⌝ }
+{
+    if !path::good_setup(s, words.len(), second.len(), list.len()) {
         return AuditAnswer::Refused(1);
     }
-    let n = s.tables as u32;
+    let n = s.tables as u16;
+    let m = s.tables2 as u16;
+    let all = s.tables + s.tables2;
     let mut marks = [0u8; MARKS];
-    let r = table_check(words, &mut marks, s.base, n, 0, (s.levels - 1) as usize);
+    let look = Look {
+        base: s.base,
+        tables: n,
+        base2: s.base2,
+        tables2: m,
+        kept: s.base,
+        many: n,
+        kept2: s.base2,
+        many2: m,
+        bare: false,
+    };
+    let r = table_check(words, second, &mut marks, look, 0, (s.levels - 1) as usize);
     match r {
         Tally::Counts(tables, mappings) => {
-            if tables != s.tables - s.free {
+            if tables != all - s.free {
                 return AuditAnswer::Refused(8);
             }
-            if !free_check(words, &mut marks, list, n, s.free as usize) {
+            if !free_check(words, second, &mut marks, list, all as u32, s.free as usize) {
                 return AuditAnswer::Refused(8);
             }
             AuditAnswer::Sound { tables, mappings }

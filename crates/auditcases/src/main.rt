@@ -18,6 +18,9 @@ type Words = [u64; 2048];
 
 type List = [u32; 4];
 
+// There is no second region.
+const NO_WORDS: [u64; 0] = [0; 0];
+
 // The first word of each table.
 const ROOT: usize = 0;
 
@@ -34,9 +37,11 @@ fn report(name: &[u8], levels: u64, free: u64, words: &[u64], list: &[u32]) {
         base: BASE,
         tables: TABLES,
         free,
+        base2: 0,
+        tables2: 0,
     };
     io::write_all(STDOUT_FILENO, name);
-    let answer = audit::audit(s, words, list);
+    let answer = audit::audit(s, words, &NO_WORDS, list);
     match answer {
         AuditAnswer::Sound { tables, mappings } => {
             io::write_all(STDOUT_FILENO, b": sound, tables ");
@@ -52,14 +57,25 @@ fn report(name: &[u8], levels: u64, free: u64, words: &[u64], list: &[u32]) {
     io::write_all(STDOUT_FILENO, b"\n");
 }
 
+// A word becomes another.
+fn put(words: &mut Words, i: usize, w: u64) {
+    let mut none = NO_WORDS;
+    pool::put(words, &mut none, i, w);
+}
+
+// The word that names table c.
+fn table_word(c: u32) -> u64 {
+    entry::table_word(BASE, TABLES as u16, 0, c)
+}
+
 // An entry that names table c.
 fn link(words: &mut Words, i: usize, c: u32) {
-    pool::put(words, i, entry::table_word(BASE, c));
+    put(words, i, table_word(c));
 }
 
 // An entry of a frame of this size, for reading and writing.
 fn frame(words: &mut Words, i: usize, size: u64) {
-    pool::put(words, i, entry::frame_word(FRAME, size, 3));
+    put(words, i, entry::frame_word(FRAME, size, 3));
 }
 
 // The root alone. Tables 3, 2 and 1 are free.
@@ -96,13 +112,13 @@ fn four_levels(words: &mut Words) {
 // Three tables, but for one word.
 fn with_word(name: &[u8], free: u64, i: usize, w: u64, words: &mut Words, list: &mut List) {
     three_tables(words, list);
-    pool::put(words, i, w);
+    put(words, i, w);
     report(name, LEVELS, free, words, list);
 }
 
 // Three tables, but for one entry, which names table c.
 fn with_table(name: &[u8], free: u64, i: usize, c: u32, words: &mut Words, list: &mut List) {
-    with_word(name, free, i, entry::table_word(BASE, c), words, list);
+    with_word(name, free, i, table_word(c), words, list);
 }
 
 fn sound(words: &mut Words, list: &mut List) {

@@ -1,7 +1,11 @@
-// The five calls, each on the numbers of a line.
+// The six calls, each on the numbers of a line.
+use crate::memory::MORE;
+use crate::memory::More;
 use crate::memory::WORDS;
 use crate::memory::Words;
 use crate::read::Line;
+use model::AddAnswer;
+use model::Added;
 use model::AuditAnswer;
 use model::FormatAnswer;
 use model::Formatted;
@@ -12,55 +16,92 @@ use model::UnmapAnswer;
 use model::Unmapped;
 use path::Setup;
 
-// An answer as numbers: the refusal or 0, the setup that is handed back, and the rest, which with 9 is the hole, followed by zeros.
-pub(crate) type Told = [u64; 9];
+// The numbers of an answer.
+pub(crate) const ANSWER: usize = 11;
 
-// A call on the memory that is lent, which is the first words and places.
-pub(crate) fn lent(call: u8, line: &Line, words: &mut [u64], list: &mut [u32]) -> Told {
+// An answer as numbers: the refusal or 0, the setup that is handed back, and the rest, which with 9 is the hole, followed by zeros.
+pub(crate) type Told = [u64; ANSWER];
+
+// A call on the memory that is lent, which is the first words of both runs and the first places.
+pub(crate) fn lent(
+    call: u8,
+    line: &Line,
+    words: &mut [u64],
+    more: &mut [u64],
+    list: &mut [u32],
+) -> Told {
     let w = line[1] as usize;
-    let l = line[2] as usize;
+    let v = line[2] as usize;
+    let l = line[3] as usize;
     if w > words.len() {
-        return [0; 9];
+        return [0; ANSWER];
+    }
+    if v > more.len() {
+        return [0; ANSWER];
     }
     if l > list.len() {
-        return [0; 9];
+        return [0; ANSWER];
     }
-    run(call, line, &mut words[..w], &mut list[..l])
+    run(call, line, &mut words[..w], &mut more[..v], &mut list[..l])
 }
 
 // The call that a letter stands for.
-fn run(call: u8, line: &Line, words: &mut [u64], list: &mut [u32]) -> Told {
+fn run(call: u8, line: &Line, words: &mut [u64], second: &mut [u64], list: &mut [u32]) -> Told {
     match call {
-        b'f' | b'F' => format(line, words, list),
-        b'm' | b'M' => map(line, words, list),
-        b'u' | b'U' => unmap(line, words, list),
-        _ => asked(call, line, words, list),
+        b'f' | b'F' => format(line, words, second, list),
+        b'g' | b'G' => add(line, words, second, list),
+        b'm' | b'M' => map(line, words, second, list),
+        b'u' | b'U' => unmap(line, words, second, list),
+        _ => asked(call, line, words, second, list),
     }
 }
 
 // Query or audit.
-fn asked(call: u8, line: &Line, words: &[u64], list: &[u32]) -> Told {
+fn asked<'a>(call: u8, line: &Line, words: &'a [u64], second: &'a [u64], list: &[u32]) -> Told {
     match call {
-        b'q' | b'Q' => query(line, words, list),
-        _ => audit(line, words, list),
+        b'q' | b'Q' => query(line, words, second, list),
+        _ => audit(line, words, second, list),
     }
 }
 
 fn setup(line: &Line) -> Setup {
     Setup {
-        levels: line[3],
-        base: line[4],
-        tables: line[5],
-        free: line[6],
+        levels: line[4],
+        base: line[5],
+        tables: line[6],
+        free: line[7],
+        base2: line[8],
+        tables2: line[9],
     }
 }
 
 fn told(refusal: u64, s: Setup, a: u64, b: u64, c: u64, d: u64) -> Told {
-    [refusal, s.levels, s.base, s.tables, s.free, a, b, c, d]
+    [
+        refusal,
+        s.levels,
+        s.base,
+        s.tables,
+        s.free,
+        s.base2,
+        s.tables2,
+        a,
+        b,
+        c,
+        d,
+    ]
 }
 
-fn format(line: &Line, words: &mut [u64], list: &mut [u32]) -> Told {
-    formatted(pagetable::format(line[3], line[4], line[5], words, list))
+fn format(line: &Line, words: &mut [u64], second: &mut [u64], list: &mut [u32]) -> Told {
+    formatted(pagetable::format(
+        line[4],
+        line[5],
+        line[6],
+        line[7],
+        line[8],
+        words,
+        second,
+        list,
+    ))
 }
 
 fn formatted(r: Formatted) -> Told {
@@ -71,15 +112,28 @@ fn formatted(r: Formatted) -> Told {
     }
 }
 
-fn map(line: &Line, words: &mut [u64], list: &[u32]) -> Told {
+fn add(line: &Line, words: &[u64], second: &mut [u64], list: &mut [u32]) -> Told {
+    added(pagetable::add(setup(line), words, second, list, line[10], line[11]))
+}
+
+fn added(r: Added) -> Told {
+    let answer = r.answer;
+    match answer {
+        AddAnswer::Done => told(0, r.setup, 0, 0, 0, 0),
+        AddAnswer::Refused(k) => told(k, r.setup, 0, 0, 0, 0),
+    }
+}
+
+fn map(line: &Line, words: &mut [u64], second: &mut [u64], list: &[u32]) -> Told {
     mapped(pagetable::map(
         setup(line),
         words,
+        second,
         list,
-        line[7],
-        line[8],
-        line[9],
         line[10],
+        line[11],
+        line[12],
+        line[13],
     ))
 }
 
@@ -91,8 +145,8 @@ fn mapped(r: Mapped) -> Told {
     }
 }
 
-fn unmap(line: &Line, words: &mut [u64], list: &mut [u32]) -> Told {
-    unmapped(pagetable::unmap(setup(line), words, list, line[7]))
+fn unmap(line: &Line, words: &mut [u64], second: &mut [u64], list: &mut [u32]) -> Told {
+    unmapped(pagetable::unmap(setup(line), words, second, list, line[10]))
 }
 
 fn unmapped(r: Unmapped) -> Told {
@@ -109,9 +163,9 @@ fn unmapped(r: Unmapped) -> Told {
     }
 }
 
-fn query(line: &Line, words: &[u64], list: &[u32]) -> Told {
+fn query(line: &Line, words: &[u64], second: &[u64], list: &[u32]) -> Told {
     let s = setup(line);
-    let answer = pagetable::query(s, words, list, line[7]);
+    let answer = pagetable::query(s, words, second, list, line[10]);
     match answer {
         QueryAnswer::Found {
             base,
@@ -124,16 +178,16 @@ fn query(line: &Line, words: &[u64], list: &[u32]) -> Told {
     }
 }
 
-fn audit(line: &Line, words: &[u64], list: &[u32]) -> Told {
+fn audit<'a>(line: &Line, words: &'a [u64], second: &'a [u64], list: &[u32]) -> Told {
     let s = setup(line);
-    let answer = pagetable::audit(s, words, list);
+    let answer = pagetable::audit(s, words, second, list);
     match answer {
         AuditAnswer::Sound { tables, mappings } => told(0, s, tables, mappings, 0, 0),
         AuditAnswer::Refused(k) => told(k, s, 0, 0, 0, 0),
     }
 }
 
-// The words before a call, or zeros where format makes all words 0.
+// The words of the first run before a call, or zeros where format makes all words 0.
 pub(crate) fn before(call: u8, told: Told, old: Words) -> Words {
     if call == b'f' && told[0] == 0 {
         [0; WORDS]
@@ -142,19 +196,30 @@ pub(crate) fn before(call: u8, told: Told, old: Words) -> Words {
     }
 }
 
+// Those of the second run, which an add makes 0 too.
+pub(crate) fn more_before(call: u8, told: Told, old: More) -> More {
+    if (call == b'f' || call == b'g') && told[0] == 0 {
+        [0; MORE]
+    } else {
+        old
+    }
+}
+
 // The setup that is handed back is the next call's.
 pub(crate) fn hand_back(told: Told, line: &mut Line) {
-    line[3] = told[1];
-    line[4] = told[2];
-    line[5] = told[3];
-    line[6] = told[4];
+    line[4] = told[1];
+    line[5] = told[2];
+    line[6] = told[3];
+    line[7] = told[4];
+    line[8] = told[5];
+    line[9] = told[6];
 }
 
 // Whether an answer is the one that the line has.
 pub(crate) fn same(line: &Line, told: Told) -> bool {
     let mut i = 0;
-    while i < 9 {
-        if line[i + 11] != told[i] {
+    while i < ANSWER {
+        if line[i + 14] != told[i] {
             return false;
         }
         i += 1;

@@ -7,74 +7,115 @@ mod read;
 mod say;
 
 use libc::STDIN_FILENO;
+use memory::More;
 use memory::Places;
 use memory::Words;
 use read::Line;
 use read::State;
 
 // All bytes that are read.
-const TEXT: usize = 131072;
+const TEXT: usize = 262144;
 
-// Lends so many words and so many places, each sort alike. All other words are 0.
-fn lend(line: &mut Line, words: &mut Words, list: &mut Places) {
-    let t = memory::narrow(line[10]);
+// Lends so many words of both runs and so many places, each sort alike. All other words are 0.
+fn lend(line: &mut Line, words: &mut Words, more: &mut More, list: &mut Places) {
     *words = [0; memory::WORDS];
-    *list = [t; memory::PLACES];
-    memory::fill(words, line[7] as usize, line[8]);
-    line[1] = line[7];
-    line[2] = line[9];
+    memory::fill(words, 0, line[10] as usize, line[11]);
+    *more = [0; memory::MORE];
+    memory::fill(more, 0, line[14] as usize, line[15]);
+    memory::fill_places(list, 0, memory::narrow(line[13]));
+    line[1] = line[10];
+    line[2] = line[14];
+    line[3] = line[12];
+}
+
+// Lends another second run, and so many places in all, of which those that were lent stay.
+fn have(line: &mut Line, more: &mut More, list: &mut Places) {
+    *more = [0; memory::MORE];
+    memory::fill(more, 0, line[10] as usize, line[11]);
+    memory::fill_places(list, line[3] as usize, memory::narrow(line[13]));
+    line[2] = line[10];
+    line[3] = line[12];
+}
+
+// A word becomes another, by its number in both runs, where the second begins at `from`.
+fn write(line: &Line, from: u64, words: &mut Words, more: &mut More) {
+    let i = line[10];
+    if i < from {
+        pool::put(words, more, i as usize, line[11]);
+    } else {
+        let k = std::num::wrapping_add_u64(i - from, memory::WORDS as u64);
+        pool::put(words, more, k as usize, line[11]);
+    }
 }
 
 // What changes the memory and is no call.
-fn lay(call: u8, line: &mut Line, words: &mut Words, list: &mut Places) {
+fn lay(call: u8, line: &mut Line, words: &mut Words, more: &mut More, list: &mut Places) {
+    let lent = line[1];
     match call {
-        b'l' | b'L' => lend(line, words, list),
-        b'w' | b'W' => pool::put(words, line[7] as usize, line[8]),
-        b'p' | b'P' => pool::give(list, line[7] as usize, memory::narrow(line[8])),
+        b'l' | b'L' => lend(line, words, more, list),
+        b'h' => have(line, more, list),
+        b'w' => write(line, lent, words, more),
+        b'W' => write(line, memory::WORDS as u64, words, more),
+        b'p' | b'P' => pool::give(list, line[10] as usize, memory::narrow(line[11])),
         _ => {}
     }
 }
 
 // A call, its answer, and what became of the memory. The setup that it hands back is the next call's.
-fn say_call(call: u8, line: &mut Line, words: &mut Words, list: &mut Places) {
+fn say_call(call: u8, line: &mut Line, words: &mut Words, more: &mut More, list: &mut Places) {
     let old = *words;
+    let old_more = *more;
     let places = *list;
-    let told = calls::lent(call, line, words, list);
+    let told = calls::lent(call, line, words, more, list);
     say::answer(call, told);
-    say::changes(words, list, &calls::before(call, told, old), &places);
+    say::changes(
+        line[1],
+        words,
+        more,
+        list,
+        &calls::before(call, told, old),
+        &calls::more_before(call, told, old_more),
+        &places,
+    );
     calls::hand_back(told, line);
 }
 
 // Whether a call answers what its line says, and leaves memory of that sum.
-fn agrees(call: u8, line: &Line, words: &mut Words, list: &mut Places) -> bool {
-    let told = calls::lent(call, line, words, list);
-    calls::same(line, told) && memory::sum(words, list) == line[20]
+fn agrees(call: u8, line: &Line, words: &mut Words, more: &mut More, list: &mut Places) -> bool {
+    let told = calls::lent(call, line, words, more, list);
+    calls::same(line, told) && memory::sum(words, more, list) == line[25]
 }
 
 // Whether the host's call for a word answers what its line says.
 fn host_agrees(call: u8, line: &Line) -> bool {
     let word = match call {
-        b'E' => entry::frame_word(line[7], line[8], line[9]),
-        _ => entry::word_meaning(line[7], line[8]),
+        b'E' => entry::frame_word(line[10], line[11], line[12]),
+        _ => entry::word_meaning(line[10], line[11]),
     };
-    word == line[11]
+    word == line[14]
 }
 
 // A line that is said: what it says, and what follows from it.
-fn said(call: u8, line: &mut Line, words: &mut Words, list: &mut Places) {
+fn said(call: u8, line: &mut Line, words: &mut Words, more: &mut More, list: &mut Places) {
     match call {
-        b'f' | b'm' | b'u' | b'q' | b'a' => say_call(call, line, words, list),
-        _ => lay(call, line, words, list),
+        b'f' | b'g' | b'm' | b'u' | b'q' | b'a' => say_call(call, line, words, more, list),
+        _ => lay(call, line, words, more, list),
     }
 }
 
 // A line that is compared: whether it agrees.
-fn compared(call: u8, line: &mut Line, words: &mut Words, list: &mut Places) -> bool {
+fn compared(
+    call: u8,
+    line: &mut Line,
+    words: &mut Words,
+    more: &mut More,
+    list: &mut Places,
+) -> bool {
     match call {
-        b'F' | b'M' | b'U' | b'Q' | b'A' => agrees(call, line, words, list),
+        b'F' | b'G' | b'M' | b'U' | b'Q' | b'A' => agrees(call, line, words, more, list),
         b'E' | b'D' => host_agrees(call, line),
         _ => {
-            lay(call, line, words, list);
+            lay(call, line, words, more, list);
             true
         }
     }
@@ -87,29 +128,30 @@ fn line_end(
     i: usize,
     line: &mut Line,
     words: &mut Words,
+    more: &mut More,
     list: &mut Places,
 ) -> State {
     let call = s.call;
     if read::is_compared(call) {
-        let same = compared(call, line, words, list);
+        let same = compared(call, line, words, more, list);
         say::differs(same, text, s.start, i);
         return read::counted(s, same);
     }
     say::part(text, s.start, i);
-    said(call, line, words, list);
+    said(call, line, words, more, list);
     say::end(call, s.agreed);
     s
 }
 
-fn run(text: &[u8], words: &mut Words, list: &mut Places) {
-    let mut line = [0u64; 21];
+fn run(text: &[u8], words: &mut Words, more: &mut More, list: &mut Places) {
+    let mut line = [0u64; read::LINE];
     let mut s = read::start();
     let mut i = 0;
     while i < text.len() {
         let b = text[i];
         if b == b'\n' {
             s = read::last(s, &mut line);
-            s = line_end(s, text, i, &mut line, words, list);
+            s = line_end(s, text, i, &mut line, words, more, list);
             s = read::next_line(s, i);
         } else {
             s = read::byte(s, b, &mut line);
@@ -122,6 +164,7 @@ fn main() {
     let mut text = [0u8; TEXT];
     let n = io::read_full(STDIN_FILENO, &mut text);
     let mut words = [0u64; memory::WORDS];
+    let mut more = [0u64; memory::MORE];
     let mut list = [0u32; memory::PLACES];
-    run(&text[..n], &mut words, &mut list);
+    run(&text[..n], &mut words, &mut more, &mut list);
 }

@@ -1,6 +1,8 @@
 // The lines of the text, byte by byte. A line is a name, a colon, a call, and numbers with other words between them; one with no colon is a heading.
 // A call that begins with a large letter has what it must answer after what it takes, and is compared.
 
+use crate::memory;
+
 // Where in a line the next byte stands: in its name, before its call, in a word, between words, in a number.
 const NAME: u8 = 0;
 
@@ -12,9 +14,12 @@ const SPACE: u8 = 3;
 
 const NUMBER: u8 = 4;
 
-// The numbers of a line, each at its place: 1 and 2 are the words and places lent, 3 to 6 the setup, 7 to 10 the rest that a call takes, 11 to 19 the
-// answer and 20 the sum of the memory after it. What a line does not name stays as it was.
-pub(crate) type Line = [u64; 21];
+// The numbers of a line.
+pub(crate) const LINE: usize = 26;
+
+// Each at its place: 1 to 3 are the words of both runs and the places lent, 4 to 9 the setup, 10 to 13 the rest that a call takes, 14 to 24 the answer
+// and 25 the sum of the memory after it. What a line may name and does not is 0; what stands before that stays as it was.
+pub(crate) type Line = [u64; LINE];
 
 pub(crate) struct State {
     // where the line begins, where in it the next byte stands, the first letter of its call, and the place of its next number
@@ -52,9 +57,9 @@ pub(crate) fn is_compared(call: u8) -> bool {
 // The place of a call's first number.
 fn first_place(call: u8) -> usize {
     match call {
-        b'F' | b'M' | b'U' | b'Q' | b'A' => 1,
-        b'f' | b's' => 3,
-        _ => 7,
+        b'F' | b'M' | b'U' | b'Q' | b'A' | b'G' => 1,
+        b'f' | b's' => 4,
+        _ => 10,
     }
 }
 
@@ -86,6 +91,7 @@ pub(crate) fn byte(mut s: State, b: u8, line: &mut Line) -> State {
                 s.call = b;
                 s.next = first_place(b);
                 s.part = WORD;
+                memory::fill(line, s.next, LINE, 0);
             }
             s
         }
@@ -139,7 +145,7 @@ pub(crate) fn last(mut s: State, line: &mut Line) -> State {
     }
     s.part = WORD;
     let n = s.next;
-    if n < 21 {
+    if n < LINE {
         line[n] = s.value;
         s.next = n + 1;
     }

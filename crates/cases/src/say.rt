@@ -1,6 +1,8 @@
 // What is written.
 use crate::calls::Told;
 use crate::memory;
+use crate::memory::ALL_WORDS;
+use crate::memory::More;
 use crate::memory::NUMBERS;
 use crate::memory::Places;
 use crate::memory::WORDS;
@@ -46,8 +48,8 @@ pub(crate) fn answer(call: u8, told: Told) {
 fn refused(told: Told) {
     number(b" -> refused ", told[0]);
     if told[0] == 9 {
-        hex(b", hole ", told[5]);
-        hex(b", size ", told[6]);
+        hex(b", hole ", told[7]);
+        hex(b", size ", told[8]);
     }
 }
 
@@ -55,29 +57,34 @@ fn refused(told: Told) {
 fn done(call: u8, told: Told) {
     match call {
         b'f' => text(b" -> done, all words 0"),
-        b'm' => number(b" -> takes ", told[5]),
+        b'g' => text(b" -> done, all more words 0"),
+        b'm' => number(b" -> takes ", told[7]),
         b'u' => gives(told),
         b'q' => found(told),
         _ => sound(told),
     }
 }
 
-// The setup that a call hands back.
+// The setup that a call hands back, and the second region's numbers where one of them is not 0.
 fn setup(told: Told) {
     number(b"; levels ", told[1]);
     hex(b", base ", told[2]);
     number(b", tables ", told[3]);
     number(b", free ", told[4]);
+    if told[5] != 0 || told[6] != 0 {
+        hex(b", second base ", told[5]);
+        number(b", second tables ", told[6]);
+    }
 }
 
 fn gives(told: Told) {
-    number(b" -> gives ", told[8]);
-    frame(told[5], told[6], told[7]);
+    number(b" -> gives ", told[10]);
+    frame(told[7], told[8], told[9]);
 }
 
 fn found(told: Told) {
-    hex(b" -> base ", told[5]);
-    frame(told[6], told[7], told[8]);
+    hex(b" -> base ", told[7]);
+    frame(told[8], told[9], told[10]);
 }
 
 fn frame(base: u64, size: u64, attributes: u64) {
@@ -87,29 +94,44 @@ fn frame(base: u64, size: u64, attributes: u64) {
 }
 
 fn sound(told: Told) {
-    number(b" -> tables ", told[5]);
-    number(b", mappings ", told[6]);
+    number(b" -> tables ", told[7]);
+    number(b", mappings ", told[8]);
 }
 
-// One number of the memory.
-fn one(i: usize, n: u64) {
+// A word, by its number in both runs.
+fn word(i: u64, n: u64) {
+    number(b"; word ", i);
+    hex(b"=", n);
+}
+
+// One number of the memory. The words of the second run are counted after those that are lent of the first.
+fn one(i: usize, lent: u64, n: u64) {
     if i < WORDS {
-        number(b"; word ", i as u64);
-        hex(b"=", n);
+        word(i as u64, n);
+    } else if i < ALL_WORDS {
+        word(std::num::wrapping_add_u64(lent, (i - WORDS) as u64), n);
     } else {
-        number(b"; place ", (i - WORDS) as u64);
+        number(b"; place ", (i - ALL_WORDS) as u64);
         number(b"=", n);
     }
 }
 
 // Each word and each place that is not as it was.
-pub(crate) fn changes(words: &Words, list: &Places, old: &Words, places: &Places) {
+pub(crate) fn changes(
+    lent: u64,
+    words: &Words,
+    more: &More,
+    list: &Places,
+    old: &Words,
+    old_more: &More,
+    places: &Places,
+) {
     let mut same = true;
     let mut i = 0;
     while i < NUMBERS {
-        let n = memory::number(words, list, i);
-        if n != memory::number(old, places, i) {
-            one(i, n);
+        let n = memory::number(words, more, list, i);
+        if n != memory::number(old, old_more, places, i) {
+            one(i, lent, n);
             same = false;
         }
         i += 1;

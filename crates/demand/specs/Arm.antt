@@ -88,5 +88,5 @@ module _ (G : Granule) (Z : Sane G) (area : Area) (top : ℕ) (al : GoodArea G a
     enc-dec = λ h w c e q. enc-dec h w c e _ refl q;
     dec-good = λ h w x q. dec-good h w x _ refl q;
     dec-child = λ h w c q. dec-child h w c _ refl q;
-    dec-table = λ h c a b d. ap readEntry (table-back G area h c a b d);
+    dec-table = λ h c a b d. ap readEntry (table-back G area al h c a b d);
   }

@@ -3,16 +3,17 @@
 use mathlib.Core.Path.{_≡_}
 use mathlib.Core.Logic.{_≢_, _⊎_, _↔_}
 use mathlib.Core.List.{List, [], _∷_, _++_, List·Memᴰ}
-use Prim.Native.Nat.{ℕ, _-_, _<_}
-use lib.ListN.{take}
+use Prim.Native.Nat.{ℕ, _+_, _-_, _<_}
+use lib.ListN.{length, take}
 use Rattle.path.specs.Geometry.{Granule, sizeAt}
 use Rattle.path.specs.Areas.{Area, total}
 use Rattle.entry.specs.declared.Entry.the-variants.{Table}
 use Rattle.model.specs.Answers.{Answer, answered, refusal, refused, hole, Pool, pool, Done, done}
 use Rattle.model.specs.Calls.{walkTo, formatW, queryW, mapW, unmapW}
 use Rattle.model.specs.Audit.{auditW, freeOf}
+use Rattle.model.specs.Adds.{lent, addW}
 use Rattle.model.specs.Sound.{reachedOf}
-use Rattle.model.specs.Ledger.{Ledger, region, regionsNeeded, freeTables, Entered, entered, formatL, queryL, mapL, unmapL, auditL}
+use Rattle.model.specs.Ledger.{Ledger, region, regionsNeeded, freeTables, Entered, entered, formatL, addL, queryL, mapL, unmapL, auditL}
 use Rattle.model.specs.Holes.{IsHole}
 use Rattle.laws.specs.Lists.{Distinct}
 use Rattle.demand.specs.Holds.{Holds}
@@ -25,8 +26,10 @@ pub data Ask : Type 0 where
 
 -- a call and its arguments, whatever they are
 pub data Call : Type 0 where
-  -- levels, and the area of the tables: base, tables
+  -- levels, and the area of the tables: base and tables of each region
   formatC : ℕ → Area → Call
+  -- base and tables of a second region; what stands in the second run that is lent with it, and in the longer list after the free numbers
+  addC : ℕ → ℕ → List ℕ → List ℕ → Call
   -- address, frame base, size, attributes
   mapC : ℕ → ℕ → ℕ → ℕ → Call
   -- address
@@ -42,7 +45,12 @@ auditC = askC audit
 -- after a refused format the setup from before goes on
 abbrev pub goOn : Pool → Done → Answer → Done
 goOn p d (answered values) = d
-goOn p d (refusal k values) = done (refusal k values) (pool (p .numbers) (d .after .words) (d .after .list))
+goOn p d (refusal k values) = done (refusal k values) (pool (p .numbers) (d .after .words) (d .after .cut) (d .after .list))
+
+-- after a refused add the pool from before goes on
+abbrev pub goBack : Pool → Done → Answer → Done
+goBack p d (answered values) = d
+goBack p d (refusal k values) = done (refusal k values) p
 
 -- what a pool answers to a question, and what a ledger does
 abbrev pub askW : Granule → Pool → Ask → Answer
@@ -55,7 +63,8 @@ askL G A audit = auditL G A
 
 -- one call on a pool
 abbrev pub stepW : Granule → Pool → Call → Done
-stepW G p (formatC l r) = let d = formatW G l r (p .words) (p .list) in goOn p d (d .answer)
+stepW G p (formatC l r) = let d = formatW G l r (p .words) (p .cut) (p .list) in goOn p d (d .answer)
+stepW G p (addC q m second rest) = let d = addW G (lent p second rest) q m in goBack p d (d .answer)
 stepW G p (mapC a b s k) = mapW G p a b s k
 stepW G p (unmapC a) = unmapW G p a
 stepW G p (askC q) = done (askW G p q) p
@@ -63,6 +72,7 @@ stepW G p (askC q) = done (askW G p q) p
 -- one call on a ledger
 abbrev pub stepL : Granule → Ledger → Call → Entered
 stepL G A (formatC l r) = formatL G A l r
+stepL G A (addC q m second rest) = addL G A q m (length second) (freeTables G A + length rest)
 stepL G A (mapC a b s k) = mapL G A a b s k
 stepL G A (unmapC a) = unmapL G A a
 stepL G A (askC q) = entered (askL G A q) A
@@ -98,7 +108,7 @@ pub record Rests (G : Granule) (p : Pool) (A : Ledger) : Type 0 where
   pub holds : Holds G p A
   -- the free count is the ledger's: what its mappings do not need
   pub free-count : p .numbers .free ≡ freeTables G A
-  -- the reachable tables and the free numbers are all the numbers below the table count, each once
+  -- the reachable tables and the free numbers are all the numbers below the table count, those of both regions, each once
   pub once : Distinct (reachedOf G p ++ freeOf p)
   pub all : (t : ℕ) → List·Memᴰ t (reachedOf G p ++ freeOf p) ↔ (t < total (A .area))
   -- a table is reachable exactly when it is the root or stands for a region that a live mapping needs; one table a region

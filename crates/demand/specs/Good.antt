@@ -8,32 +8,44 @@ use Rattle.laws.specs.Lists.{down}
 use Rattle.path.specs.Geometry.{Granule, four}
 use Rattle.path.specs.Areas.{Area, total}
 use Rattle.path.specs.Numbers.{noSetup, setupOf, goodNumbers}
+use Rattle.path.specs.Laws.{setup-good}
 use Rattle.model.specs.Answers.{formatted, Pool, pool, Done, done, refuse}
 use Rattle.model.specs.Calls.{goodPool, formatW}
 use Rattle.model.specs.AuditLaws.{format-audit, audit-counts}
+use Rattle.model.specs.Adds.{lent, addW}
+use Rattle.model.specs.AddLaws.{AddView, add-grows, add-refuses, add-view, may-add, grown-good}
 use Rattle.model.specs.LeftLaws.{map-leaves, unmap-leaves, leaves-good}
 use Rattle.model.specs.Refusals.{Breaks}
 use Rattle.model.specs.RefusalLaws.{good-keeps, unbroken-good}
-use Rattle.demand.specs.Demand3.{Call, formatC, mapC, unmapC, askC, goOn, stepW, poolAfter}
+use Rattle.demand.specs.Demand3.{Call, formatC, addC, mapC, unmapC, askC, goOn, goBack, stepW, poolAfter}
 
 module _ (G : Granule) where
   -- an accepted format leaves a good pool, a refused one the pool from before
   format-good : (p : Pool) (levels : ℕ) (area : Area) → goodPool G p ≡ true → goodPool G (stepW G p (formatC levels area) .after) ≡ true
   unfolding formatW
-  format-good p levels area g = go (goodNumbers G levels area (length (p .words)) (length (p .list))) refl
+  format-good p levels area g = go (goodNumbers G levels area (p .cut) (length (p .words)) (length (p .list))) refl
     where
       left : Bool → Done
-      left y = cond y (done formatted (pool (setupOf levels area (total area - 1)) (replicate (length (p .words)) 0) (down (total area)))) (refuse 1 (pool noSetup (p .words) (p .list)))
+      left y = cond y (done formatted (pool (setupOf levels area (total area - 1)) (replicate (length (p .words)) 0) (p .cut) (down (total area)))) (refuse 1 (pool noSetup (p .words) (p .cut) (p .list)))
 
-      fresh : goodNumbers G levels area (length (p .words)) (length (p .list)) ≡ true → goodPool G (left (goodNumbers G levels area (length (p .words)) (length (p .list))) .after) ≡ true
-      fresh e = audit-counts G _ 1 0 (format-audit G levels area (p .words) (p .list) (rw e)) .0
+      fresh : goodNumbers G levels area (p .cut) (length (p .words)) (length (p .list)) ≡ true → goodPool G (left (goodNumbers G levels area (p .cut) (length (p .words)) (length (p .list))) .after) ≡ true
+      fresh e = audit-counts G _ 1 0 (format-audit G levels area (p .words) (p .cut) (p .list) (rw e)) .0
 
-      go : (y : Bool) → goodNumbers G levels area (length (p .words)) (length (p .list)) ≡ y → goodPool G (goOn p (left y) (left y .answer) .after) ≡ true
+      go : (y : Bool) → goodNumbers G levels area (p .cut) (length (p .words)) (length (p .list)) ≡ y → goodPool G (goOn p (left y) (left y .answer) .after) ≡ true
       go true e = subst (λ (y : Bool). goodPool G (left y .after) ≡ true) e (fresh e)
       go false e = g
 
+  -- an accepted add leaves a good pool, a refused one the pool from before
+  add-good-step : (p : Pool) (q m : ℕ) (second rest : List ℕ) → goodPool G p ≡ true → goodPool G (stepW G p (addC q m second rest) .after) ≡ true
+  add-good-step p q m second rest g = go (addW G (lent p second rest) q m) (add-view G (lent p second rest) q m)
+    where
+      go : (d : Done) → AddView G (lent p second rest) q m d → goodPool G (goBack p d (d .answer) .after) ≡ true
+      go d (add-grows a b c) = let (x, r) = may-add G (lent p second rest) q m a in setup-good (grown-good G (lent p second rest) q m x r)
+      go d (add-refuses k) = g
+
   pub stays-good : (p : Pool) (c : Call) → goodPool G p ≡ true → goodPool G (stepW G p c .after) ≡ true
   stays-good p (formatC l r) g = format-good p l r g
+  stays-good p (addC q m second rest) g = add-good-step p q m second rest g
   stays-good p (mapC a b s k) g = leaves-good (map-leaves G p a b s k) g
   stays-good p (unmapC a) g = leaves-good (unmap-leaves G p a) g
   stays-good p (askC q) g = g

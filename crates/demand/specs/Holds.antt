@@ -1,22 +1,16 @@
--- A pool whose words are a tree; and a pool that holds a ledger: the audit's rules are kept, the numbers are the ledger's, and the mappings found in the words are the ledger's, in
--- whatever order.
+-- A pool that holds a ledger: the audit's rules are kept, the numbers are the ledger's, and the mappings found in the words are the ledger's, in whatever
+-- order. A pool whose words are a tree is `WfTree`.
 use mathlib.Core.Path.{_≡_}
-use Prim.Native.Nat.{_-_}
 use mathlib.Core.List.{List, List·Memᴰ}
 use lib.ListN.{length}
 use Rattle.path.specs.Geometry.{Granule}
 use Rattle.path.specs.Areas.{areaOf}
 use Rattle.path.specs.Numbers.{GoodSetup}
 use Rattle.model.specs.Answers.{Mapping, Pool}
-use Rattle.model.specs.Sound.{SoundTable, SoundPool, reachedOf, mappingsOf}
+use Rattle.model.specs.Sound.{SoundPool, mappingsOf}
 use Rattle.model.specs.Ledger.{Ledger, ledger}
 use Rattle.laws.specs.Lists.{Distinct}
-
--- the tree is well-formed: every table and every entry that is reached is sound, and no table is reached twice. Tables may be empty, and of the free
--- list nothing is asked.
-pub record WfTree (G : Granule) (p : Pool) : Type 0 where
-  pub tree : SoundTable G (p .words) (areaOf (p .numbers)) (p .numbers .levels - 1) 0
-  pub once : Distinct (reachedOf G p)
+pub use Rattle.model.specs.Sound.{WfTree}
 
 -- the pool's numbers and the mappings in its words, as a ledger
 abbrev pub ledgerOf : Granule → Pool → Ledger
@@ -24,7 +18,7 @@ ledgerOf G p = ledger (p .numbers .levels) (areaOf (p .numbers)) (mappingsOf G p
 
 pub record Holds (G : Granule) (p : Pool) (A : Ledger) : Type 0 where
   -- the pool's numbers and lengths are good, and the ledger's
-  pub good : GoodSetup G (p .numbers) (length (p .words)) (length (p .list))
+  pub good : GoodSetup G (p .numbers) (p .cut) (length (p .words)) (length (p .list))
   pub levels-are : p .numbers .levels ≡ A .levels
   pub area-is : areaOf (p .numbers) ≡ A .area
   -- the pool keeps the audit's rules

@@ -11,8 +11,10 @@ pub mod Maps
 pub mod Unmaps
 pub mod Others
 pub mod Demand3
+pub mod Adds
 pub mod Rest
 pub mod Theorem
+pub mod Story
 pub mod Clauses
 pub mod ClauseLaws
 pub mod Good

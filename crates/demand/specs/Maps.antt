@@ -80,7 +80,7 @@ tests-fine G levels area a b size k e = go (ltb (G .large) (heightOf G size)) (l
     }
 
 -- good numbers stay good with memory of the same lengths and another free count
-abbrev pub regood : {G : Granule} {s : Setup} {w l : ℕ} → GoodSetup G s w l → (w′ l′ f : ℕ) → w′ ≡ entries G * total (areaOf s) → l′ ≡ total (areaOf s) → f < total (areaOf s) → GoodSetup G (withFree s f) w′ l′
+abbrev pub regood : {G : Granule} {s : Setup} {c w l : ℕ} → GoodSetup G s c w l → (w′ l′ f : ℕ) → w′ ≡ entries G * total (areaOf s) → l′ ≡ total (areaOf s) → f < total (areaOf s) → GoodSetup G (withFree s f) c w′ l′
 regood g w′ l′ f p q r = record {
   numbers = record {
     enough = g .numbers .enough;
@@ -88,6 +88,7 @@ regood g w′ l′ f p q r = record {
     some-table = g .numbers .some-table;
     few = g .numbers .few;
     placed = g .numbers .placed;
+    cut-is = g .numbers .cut-is;
     words-are = p;
     places-are = q;
   };
@@ -122,6 +123,11 @@ module _ (G : Granule) (Z : Sane G) {C D : Type 0} {p : Pool} {B : Ledger} (I : 
   pub free-is : C → D → freeTables G (own G Z I) ≡ f
   unfolding freeTables tablesNeeded
   free-is c d = omega (arith, needed-count G Z (k₀ G Z I) (I .L), pool-count (whole (I .inv) c d) (k₀ G Z I) (root-at G Z I))
+
+  -- and with the tables needed and the root it makes all
+  pub count-is : C → D → suc (f + tablesNeeded G (p .numbers .levels) (own G Z I .live)) ≡ total (areaOf (p .numbers))
+  unfolding tablesNeeded
+  count-is c d = omega (arith, needed-count G Z (k₀ G Z I) (I .L), pool-count (whole (I .inv) c d) (k₀ G Z I) (root-at G Z I))
 
   module _ (a b size k : ℕ) (F : Fine G (p .numbers .levels) (area G Z I) a b size k) where
     abbrev g : ℕ

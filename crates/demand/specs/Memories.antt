@@ -3,7 +3,7 @@ use mathlib.Core.Path.{_≡_, refl, ap, sym, _∙_, subst}
 use mathlib.Core.Logic.{_≢_, _⊎_, inl, inr, ⊎-elim}
 use mathlib.Core.List.{List}
 use Prim.Native.Nat.{ℕ, zero, suc, _+_, _-_, _*_, _/_, _%_, _≤_, _<_}
-use native.Mathlib.Nat.{mul-comm, mul-le-mul-left, mul-add, mul-suc}
+use native.Mathlib.Nat.{mul-comm, mul-le-mul-left}
 use native.Mathlib.Omega.{arith}
 use native.Mathlib.Decide.{ℕ-discrete, decLt}
 use lib.Arith.{digits-lt, digits-div, digits-mod}
@@ -13,6 +13,7 @@ use Rattle.laws.specs.Lists.{zeroed}
 use Rattle.laws.specs.ListLaws.{length-zeroed, getD-zeroed, getD-zeroed-before, getD-zeroed-after}
 use Rattle.path.specs.Geometry.{Granule, pageSize, entries, Sane}
 use Rattle.path.specs.Areas.{Area, total, GoodArea}
+pub use Rattle.path.specs.Laws.{table-ends, in-table}
 use Rattle.model.specs.Walk.{slot}
 use Rattle.tree.specs.Region.{Same, same?, upd, upd-at, upd-other, put1, put1-at, put1-other}
 use Rattle.tree.specs.Tree.{Geo}
@@ -25,12 +26,9 @@ one-place {K} {t} {i} {t′} {i′} a b e =
     let p : t′ * K + i′ ≡ t * K + i = rw (mul-comm t′ K, mul-comm t K) e in
     (sym (digits-div t′ b) ∙ ap (λ (z : ℕ). z / K) p ∙ digits-div t a, sym (digits-mod t′ b) ∙ ap (λ (z : ℕ). z % K) p ∙ digits-mod t a)
 
--- the tables before another end where it starts, at the latest
-pub table-ends : (K : ℕ) {t c : ℕ} → t < c → K * t + K ≤ K * c
-table-ends K {t} {c} l = rw (← mul-suc K t) (mul-le-mul-left K l)
-
-pub in-table : (K : ℕ) {t n i : ℕ} → t < n → i < K → K * t + i < K * n
-in-table K l b = omega (arith, table-ends K l)
+-- the tables below a number end where that number's starts
+pub tables-before : (K : ℕ) {n t : ℕ} → n ≤ t → K * n ≤ K * t
+tables-before K l = mul-le-mul-left K l
 
 -- the words of a pool, by table and index
 abbrev pub readAt : Granule → List ℕ → ℕ → ℕ → ℕ

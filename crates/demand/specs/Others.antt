@@ -36,9 +36,9 @@ zero-at k i = allZero-at (replicate k 0) (allZero-replicate k) i
 
 module _ (G : Granule) (Z : Sane G) where
   -- what an accepted format leaves
-  pub fresh-sim : (levels : ℕ) (area : Area) (ws list : List ℕ) → GoodNumbers G levels area (length ws) (length list)
-      → Sim G Z (pool (setupOf levels area (total area - 1)) (replicate (length ws) 0) (down (total area))) (ledger levels area [])
-  fresh-sim levels area ws list g = record {
+  pub fresh-sim : (levels : ℕ) (area : Area) (ws : List ℕ) (cut : ℕ) (list : List ℕ) → GoodNumbers G levels area cut (length ws) (length list)
+      → Sim G Z (pool (setupOf levels area (total area - 1)) (replicate (length ws) 0) cut (down (total area))) (ledger levels area [])
+  fresh-sim levels area ws cut list g = record {
     good = good;
     levels-are = refl;
     area-is = refl;
@@ -46,17 +46,20 @@ module _ (G : Granule) (Z : Sane G) where
     live-is = refl;
     once = tt;
     T = λ _ _. 0;
-    S = Rattle.tree.specs.Fresh.S₀ X₀ (levels - 1) (root-height G Z p good) (g .some-table);
+    S = Rattle.tree.specs.Fresh.S₀ X₀ (levels - 1) (root-height G Z p good) some;
     outside = λ _ m i. absurd (List·Memᴰ·not-nil i);
-    inv = fresh X₀ (levels - 1) (root-height G Z p good) (g .some-table) (readAt G (p .words)) (placeAt (p .list)) (λ t i. zero-at (length ws) _) (λ i l. getD-down (total area) i (omega arith));
+    inv = fresh X₀ (levels - 1) (root-height G Z p good) some (readAt G (p .words)) (placeAt (p .list)) (λ t i. zero-at (length ws) _) (λ i l. getD-down (total area) i (omega arith));
   }
     where
       p : Pool
-      p = pool (setupOf levels area (total area - 1)) (replicate (length ws) 0) (down (total area))
+      p = pool (setupOf levels area (total area - 1)) (replicate (length ws) 0) cut (down (total area))
 
-      good : GoodSetup G (p .numbers) (length (p .words)) (length (p .list))
+      some : 0 < total area
+      some = omega (arith, g .some-table)
+
+      good : GoodSetup G (p .numbers) (p .cut) (length (p .words)) (length (p .list))
       good = record {
-        numbers = record { enough = g .enough; not-more = g .not-more; some-table = g .some-table; few = g .few; placed = g .placed; words-are = length-replicate (length ws) 0 ∙ g .words-are; places-are = length-down (total area) };
+        numbers = record { enough = g .enough; not-more = g .not-more; some-table = g .some-table; few = g .few; placed = g .placed; cut-is = g .cut-is; words-are = length-replicate (length ws) 0 ∙ g .words-are; places-are = length-down (total area) };
         room = omega (arith, g .some-table);
       }
 
@@ -91,7 +94,7 @@ module _ (G : Granule) (Z : Sane G) where
   pub accepted-holds : (p : Pool) (t m : ℕ) → auditW G p ≡ audited t m → Holds G p (ledger (p .numbers .levels) (areaOf (p .numbers)) (mappingsOf G p))
   accepted-holds p t m e = let (g, s, _, _) = audit-counts G p t m e in from (good-setup g) s
     where
-      from : GoodSetup G (p .numbers) (length (p .words)) (length (p .list)) → SoundPool G p → Holds G p (ledger (p .numbers .levels) (areaOf (p .numbers)) (mappingsOf G p))
+      from : GoodSetup G (p .numbers) (p .cut) (length (p .words)) (length (p .list)) → SoundPool G p → Holds G p (ledger (p .numbers .levels) (areaOf (p .numbers)) (mappingsOf G p))
       from good s = record {
         good = good;
         levels-are = refl;

@@ -113,7 +113,7 @@ module _ (G : Granule) (Z : Sane G) {p : Pool} {A : Ledger} (I : Sim G Z p A) wh
   all-distinct : Distinct (reachedOf G p ++ freeOf p)
   all-distinct = distinct-append (reachedOf G p) (freeOf p) (H .sound .once) (H .sound .free-once) (λ t m n. H .sound .free-apart t n m)
 
-  all-low : (t : ℕ) → List·Memᴰ t (reachedOf G p ++ freeOf p) → t < p .numbers .tables
+  all-low : (t : ℕ) → List·Memᴰ t (reachedOf G p ++ freeOf p) → t < total (areaOf (p .numbers))
   all-low t m = ⊎-elim (λ n. pool-reached-low Z p (pool-good G Z I) t n) (λ n. H .sound .free-range t n) (List·Memᴰ·append-cases (reachedOf G p) m)
 
   free-long : length (freeOf p) ≡ p .numbers .free
@@ -127,7 +127,7 @@ module _ (G : Granule) (Z : Sane G) {p : Pool} {A : Ledger} (I : Sim G Z p A) wh
     holds = H;
     free-count = sym (free-is G Z I tt tt);
     once = all-distinct;
-    all = λ t. (all-low t, λ l. has-all (p .numbers .tables) (reachedOf G p ++ freeOf p) all-distinct all-low (length-append (reachedOf G p) (freeOf p) ∙ omega (arith, H .sound .total, free-long)) t l);
+    all = λ t. (all-low t, λ l. has-all (total (areaOf (p .numbers))) (reachedOf G p ++ freeOf p) all-distinct all-low (length-append (reachedOf G p) (freeOf p) ∙ omega (arith, H .sound .total, free-long)) t l);
     reached-needed = λ t m. ⊎-elim (λ e. inl e) (λ n. let (q, b, e) = Memᴰ·of-map (λ (z : Reg). I .T z.h z.r) (needed (entries G) (k₀ G Z I) (I .L)) (tabs-needed (I .inv) (k₀ G Z I) (root-at G Z I) t n) in
         let (l, _) = needed-from (entries G) (k₀ G Z I) (I .L) q b in
         inr (q.h, q.r * sizeAt G q.h, needed-region q b, subst (λ (u : ℕ). StandsFor G p q.h (q.r * sizeAt G q.h) u) e (table-stands G Z I q.h q.r l (is-table (I .inv) (k₀ G Z I) (root-at G Z I) q b))))

@@ -69,7 +69,7 @@ module _ (G : Granule) (Z : Sane G) where
   -- a pool, the ledger of its mappings, and the tree between them; of entries no more than C asks, and of the free list and of frames beside the tables
   -- no more than D
   pub record SimIf (C D : Type 0) (p : Pool) (A : Ledger) : Type 0 where
-    pub good : GoodSetup G (p .numbers) (length (p .words)) (length (p .list))
+    pub good : GoodSetup G (p .numbers) (p .cut) (length (p .words)) (length (p .list))
     pub levels-are : p .numbers .levels ≡ A .levels
     pub area-is : areaOf (p .numbers) ≡ A .area
     pub L : List Mapping
@@ -84,7 +84,7 @@ module _ (G : Granule) (Z : Sane G) where
   abbrev pub Sim : Pool → Ledger → Type 0
   Sim p A = SimIf (Unit {0}) (Unit {0}) p A
 
-  module _ (p : Pool) (good : GoodSetup G (p .numbers) (length (p .words)) (length (p .list))) where
+  module _ (p : Pool) (good : GoodSetup G (p .numbers) (p .cut) (length (p .words)) (length (p .list))) where
     abbrev area : Area
     area = areaOf (p .numbers)
 
@@ -248,7 +248,7 @@ module _ (G : Granule) (Z : Sane G) where
           Memᴰ·cast (sym (shown-injective c m e)) d
 
   -- a well-formed tree, with the mappings in its words; with entries in its tables where C holds
-  pub wf-sim : {C : Type 0} {p : Pool} → GoodSetup G (p .numbers) (length (p .words)) (length (p .list)) → WfTree G p
+  pub wf-sim : {C : Type 0} {p : Pool} → GoodSetup G (p .numbers) (p .cut) (length (p .words)) (length (p .list)) → WfTree G p
       → (C → sound.Each (λ t. t ≢ 0 → sound.EmptyTable G (p .words) t → ⊥) (reachedOf G p)) → SimIf C ⊥ p (ledgerOf G p)
   wf-sim {C} {p} good w alive = record {
     good = good;

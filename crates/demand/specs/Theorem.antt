@@ -12,21 +12,22 @@ use Rattle.laws.specs.Lists.{down}
 use borrow.Author.Tests.{leb-true, leb-false, eqb-true}
 use Rattle.path.specs.Geometry.{Granule, four, entries, pageSize, sizeAt, spaceOf, physical, heightOf, Sane}
 use Rattle.path.specs.Laws.{four-sane, good-numbers}
-use Rattle.path.specs.Areas.{Area, areaOf, total, GoodArea, meetsArea}
-use Rattle.path.specs.Numbers.{noSetup, setupOf, goodNumbers, GoodNumbers}
-use Rattle.model.specs.Answers.{Answer, formatted, took, gave, found, audited, refused, Mapping, mapping, Pool, pool, Done, done, refuse}
+use Rattle.path.specs.Areas.{Area, areaOf, oneRegion, withSecond, total, GoodArea, meetsArea}
+use Rattle.path.specs.Numbers.{noSetup, setupOf, goodNumbers, goodAdding, GoodNumbers}
+use Rattle.model.specs.Answers.{Answer, formatted, added, took, gave, found, audited, refused, Mapping, mapping, Pool, pool, Done, done, refuse}
 use Rattle.model.specs.Calls.{walkTo, formatW, queryW, mapTests, mapAt, mapW, unmapTests, unmapAt, unmapW}
-use Rattle.model.specs.Audit.{auditW}
+use Rattle.model.specs.Audit.{auditW, noneInside}
 use Rattle.model.specs.Sound.{mappingsOf}
-use Rattle.model.specs.Ledger.{Ledger, ledger, withLive, anyOverlap, coverOf, dropAt, freeTables, tablesLacking, Entered, entered, formatL, queryOf, queryL, mapL, unmapOf, unmapL, auditL}
+use Rattle.model.specs.Ledger.{Ledger, ledger, withLive, anyOverlap, coverOf, dropAt, freeTables, tablesLacking, Entered, entered, formatL, addL, queryOf, queryL, mapL, unmapOf, unmapL, auditL}
 use Rattle.demand.specs.Holds.{Holds}
 use Rattle.demand.specs.Sims.{Sim, holds-sim, sim-holds}
 use Rattle.demand.specs.Queries.{own, ledger-is, pool-good, query-own}
 use Rattle.demand.specs.Maps.{Alike, ledgerMap, own-sim, tests-fine, map-alike}
 use Rattle.demand.specs.Unmaps.{unmap-alike}
 use Rattle.demand.specs.Others.{fresh-sim, audit-own, accepted-holds}
+use Rattle.demand.specs.Adds.{add-step}
 use Rattle.demand.specs.Rest.{rests-own}
-use Rattle.demand.specs.Demand3.{Ask, query, audit, Call, formatC, mapC, unmapC, askC, askW, askL, goOn, stepW, stepL, answersW, answersL, poolAfter, ledgerAfter, Rests, Demand3}
+use Rattle.demand.specs.Demand3.{Ask, query, audit, Call, formatC, addC, mapC, unmapC, askC, askW, askL, goOn, stepW, stepL, answersW, answersL, poolAfter, ledgerAfter, Rests, Demand3}
 
 module _ (G : Granule) (Z : Sane G) where
   -- one call, by the pool's own ledger
@@ -68,23 +69,23 @@ module _ (G : Granule) (Z : Sane G) where
 
     format-step : (levels : ℕ) (area : Area) → Alike G Z (stepW G p (formatC levels area)) (formatL G (own G Z I) levels area)
     unfolding formatW formatL
-    format-step levels area = go (goodNumbers G levels area (length (p .words)) (length (p .list))) refl
+    format-step levels area = go (goodNumbers G levels area (p .cut) (length (p .words)) (length (p .list))) refl
       where
-        same : goodNumbers G levels area (length (p .words)) (length (p .list)) ≡ goodNumbers G levels area (entries G * total (areaOf (p .numbers))) (total (areaOf (p .numbers)))
-        same = (λ i. goodNumbers G levels area (I .good .numbers .words-are i) (I .good .numbers .places-are i))
+        same : goodNumbers G levels area (p .cut) (length (p .words)) (length (p .list)) ≡ goodNumbers G levels area (entries G * areaOf (p .numbers) .tables) (entries G * total (areaOf (p .numbers))) (total (areaOf (p .numbers)))
+        same = (λ i. goodNumbers G levels area (I .good .numbers .cut-is i) (I .good .numbers .words-are i) (I .good .numbers .places-are i))
 
         left : Bool → Done
-        left y = cond y (done formatted (pool (setupOf levels area (total area - 1)) (replicate (length (p .words)) 0) (down (total area)))) (refuse 1 (pool noSetup (p .words) (p .list)))
+        left y = cond y (done formatted (pool (setupOf levels area (total area - 1)) (replicate (length (p .words)) 0) (p .cut) (down (total area)))) (refuse 1 (pool noSetup (p .words) (p .cut) (p .list)))
 
         right : Bool → Entered
         right y = cond y (entered formatted (ledger levels area [])) (entered (refused 1) (own G Z I))
 
-        on : (y : Bool) → goodNumbers G levels area (length (p .words)) (length (p .list)) ≡ y → Alike G Z (goOn p (left y) (left y .answer)) (right y)
-        on true e = record { answer = refl; sim = fresh-sim G Z levels area (p .words) (p .list) (good-numbers e) }
+        on : (y : Bool) → goodNumbers G levels area (p .cut) (length (p .words)) (length (p .list)) ≡ y → Alike G Z (goOn p (left y) (left y .answer)) (right y)
+        on true e = record { answer = refl; sim = fresh-sim G Z levels area (p .words) (p .cut) (p .list) (good-numbers e) }
         on false e = record { answer = refl; sim = own-sim G Z I }
 
-        go : (y : Bool) → goodNumbers G levels area (length (p .words)) (length (p .list)) ≡ y → Alike G Z (goOn p (left (goodNumbers G levels area (length (p .words)) (length (p .list)))) (left (goodNumbers G levels area (length (p .words)) (length (p .list))) .answer)) (right (goodNumbers G levels area (entries G * total (areaOf (p .numbers))) (total (areaOf (p .numbers)))))
-        go y e = rw (sym same) (on (goodNumbers G levels area (length (p .words)) (length (p .list))) refl)
+        go : (y : Bool) → goodNumbers G levels area (p .cut) (length (p .words)) (length (p .list)) ≡ y → Alike G Z (goOn p (left (goodNumbers G levels area (p .cut) (length (p .words)) (length (p .list)))) (left (goodNumbers G levels area (p .cut) (length (p .words)) (length (p .list))) .answer)) (right (goodNumbers G levels area (entries G * areaOf (p .numbers) .tables) (entries G * total (areaOf (p .numbers))) (total (areaOf (p .numbers)))))
+        go y e = rw (sym same) (on (goodNumbers G levels area (p .cut) (length (p .words)) (length (p .list))) refl)
 
     ask-own : (q : Ask) → askW G p q ≡ askL G (own G Z I) q
     ask-own (query a) = query-own G Z I tt a
@@ -92,6 +93,7 @@ module _ (G : Granule) (Z : Sane G) where
 
     step-own : (c : Call) → Alike G Z (stepW G p c) (stepL G (own G Z I) c)
     step-own (formatC l r) = format-step l r
+    step-own (addC q m second rest) = add-step G Z I q m second rest
     step-own (mapC a b s k) = map-step a b s k
     step-own (unmapC a) = unmap-step a
     step-own (askC q) = record { answer = ask-own q; sim = own-sim G Z I }
@@ -115,20 +117,22 @@ module _ (G : Granule) (Z : Sane G) where
   another : (x : ℕ) → x ≢ 8 → refused x ≢ refused 8
   another x l e = let z : x ≡ 8 = cc in l z
 
-  map-other : (levels : ℕ) (area : Area) (a b size k : ℕ) → mapTests G levels area a b size k ≢ 8
+  -- the numbers of map's tests are 2 to 5 and 11, or 0
+  pub map-other : (levels : ℕ) (area : Area) (a b size k : ℕ) (x : ℕ) → (x ≢ 0) × (x ≢ 2) × (x ≢ 3) × (x ≢ 4) × (x ≢ 5) × (x ≢ 11)
+      → mapTests G levels area a b size k ≢ x
   unfolding mapTests
-  map-other levels area a b size k = go (ltb (G .large) (heightOf G size)) (ltb 15 k) (leb (spaceOf G levels) a) (ltb (spaceOf G levels) (a + size)) (ltb physical (b + size)) (eqb (a % size) 0) (eqb (b % size) 0) (meetsArea G area b size)
+  map-other levels area a b size k x d = go (ltb (G .large) (heightOf G size)) (ltb 15 k) (leb (spaceOf G levels) a) (ltb (spaceOf G levels) (a + size)) (ltb physical (b + size)) (eqb (a % size) 0) (eqb (b % size) 0) (meetsArea G area b size)
     where
-      go : (x₁ x₂ x₃ x₄ x₅ x₆ x₇ x₈ : Bool) → _≢_ {A = ℕ} (cond x₁ 2 (cond x₂ 3 (cond x₃ 4 (cond x₄ 4 (cond x₅ 4 (cond x₆ (cond x₇ (cond x₈ 11 0) 5) 5)))))) 8
-      go true x₂ x₃ x₄ x₅ x₆ x₇ x₈ = λ e. omega arith
-      go false true x₃ x₄ x₅ x₆ x₇ x₈ = λ e. omega arith
-      go false false true x₄ x₅ x₆ x₇ x₈ = λ e. omega arith
-      go false false false true x₅ x₆ x₇ x₈ = λ e. omega arith
-      go false false false false true x₆ x₇ x₈ = λ e. omega arith
-      go false false false false false false x₇ x₈ = λ e. omega arith
-      go false false false false false true false x₈ = λ e. omega arith
-      go false false false false false true true true = λ e. omega arith
-      go false false false false false true true false = λ e. omega arith
+      go : (x₁ x₂ x₃ x₄ x₅ x₆ x₇ x₈ : Bool) → cond x₁ 2 (cond x₂ 3 (cond x₃ 4 (cond x₄ 4 (cond x₅ 4 (cond x₆ (cond x₇ (cond x₈ 11 0) 5) 5))))) ≢ x
+      go true x₂ x₃ x₄ x₅ x₆ x₇ x₈ = λ e. d .1 (sym e)
+      go false true x₃ x₄ x₅ x₆ x₇ x₈ = λ e. d .2 (sym e)
+      go false false true x₄ x₅ x₆ x₇ x₈ = λ e. d .3 (sym e)
+      go false false false true x₅ x₆ x₇ x₈ = λ e. d .3 (sym e)
+      go false false false false true x₆ x₇ x₈ = λ e. d .3 (sym e)
+      go false false false false false false x₇ x₈ = λ e. d .4 (sym e)
+      go false false false false false true false x₈ = λ e. d .4 (sym e)
+      go false false false false false true true true = λ e. d .5 (sym e)
+      go false false false false false true true false = λ e. d .0 (sym e)
 
   unmap-other : (levels a : ℕ) → unmapTests G levels a ≢ 8
   unfolding unmapTests
@@ -158,8 +162,16 @@ module _ (G : Granule) (Z : Sane G) where
   ask-never-eight A audit = other (λ e. cc)
 
   never-eight : (A : Ledger) (c : Call) → stepL G A c .answer ≢ refused 8
-  unfolding formatL mapL unmapL unmapOf
-  never-eight A (formatC l r) = either (goodNumbers G l r (entries G * total (A .area)) (total (A .area))) (entered formatted (ledger l r [])) (entered (refused 1) A) (other (λ e. cc)) (another 1 (λ e. omega arith))
+  unfolding formatL addL mapL unmapL unmapOf
+  never-eight A (formatC l r) = either (goodNumbers G l r (entries G * A .area .tables) (entries G * total (A .area)) (total (A .area))) (entered formatted (ledger l r [])) (entered (refused 1) A) (other (λ e. cc)) (another 1 (λ e. omega arith))
+  never-eight A (addC q m second rest) =
+      either (goodAdding G (A .levels) (A .area) q m (entries G * A .area .tables) (entries G * A .area .tables + length second) (freeTables G A + length rest))
+      (cond (noneInside G (oneRegion q m) (A .live)) grew (entered (refused 11) A)) (entered (refused 1) A)
+      (either (noneInside G (oneRegion q m) (A .live)) grew (entered (refused 11) A) (other (λ e. cc)) (other (λ e. cc)))
+      (other (λ e. cc))
+    where
+      grew : Entered
+      grew = entered added (ledger (A .levels) (withSecond (A .area) q m) (A .live))
   never-eight A (mapC a b s k) =
       let no = mapTests G (A .levels) (A .area) a b s k in
       let need = tablesLacking G (A .levels) (A .live) (mapping a b s k) in
@@ -167,7 +179,7 @@ module _ (G : Granule) (Z : Sane G) where
       either (eqb no 0) (ledgerMap G A a b s k) (entered (refused no) A)
       (either (anyOverlap a s (A .live)) (entered (refused 6) A) (cond (ltb (freeTables G A) need) (entered (refused 7) A) taken) (other (λ e. cc))
       (either (ltb (freeTables G A) need) (entered (refused 7) A) taken (other (λ e. cc)) (other (λ e. cc))))
-      (another no (map-other (A .levels) (A .area) a b s k))
+      (another no (map-other (A .levels) (A .area) a b s k 8 (omega arith)))
   never-eight A (unmapC a) = either (eqb (unmapTests G (A .levels) a) 0) (unmapOf G A a (coverOf a (A .live))) (entered (refused (unmapTests G (A .levels) a)) A) (on (coverOf a (A .live))) (another (unmapTests G (A .levels) a) (unmap-other (A .levels) a))
     where
       on : (m : Option Mapping) → unmapOf G A a m .answer ≢ refused 8
@@ -191,16 +203,16 @@ module _ (G : Granule) (Z : Sane G) where
       I = holds-sim G Z H
 
   -- from a fresh format of any memory
-  pub from-format : (levels : ℕ) (area : Area) (ws list : List ℕ) → formatW G levels area ws list .answer ≡ formatted → (cs : List Call)
-      → Demand3 G (formatW G levels area ws list .after) (ledger levels area []) cs
+  pub from-format : (levels : ℕ) (area : Area) (ws : List ℕ) (cut : ℕ) (list : List ℕ) → formatW G levels area ws cut list .answer ≡ formatted → (cs : List Call)
+      → Demand3 G (formatW G levels area ws cut list .after) (ledger levels area []) cs
   unfolding formatW
-  from-format levels area ws list e cs = go (goodNumbers G levels area (length ws) (length list)) refl e
+  from-format levels area ws cut list e cs = go (goodNumbers G levels area cut (length ws) (length list)) refl e
     where
       left : Bool → Done
-      left y = cond y (done formatted (pool (setupOf levels area (total area - 1)) (replicate (length ws) 0) (down (total area)))) (refuse 1 (pool noSetup ws list))
+      left y = cond y (done formatted (pool (setupOf levels area (total area - 1)) (replicate (length ws) 0) cut (down (total area)))) (refuse 1 (pool noSetup ws cut list))
 
-      go : (y : Bool) → goodNumbers G levels area (length ws) (length list) ≡ y → left y .answer ≡ formatted → Demand3 G (left y .after) (ledger levels area []) cs
-      go true q e = demand3 (sim-holds G Z (fresh-sim G Z levels area ws list (good-numbers q))) cs
+      go : (y : Bool) → goodNumbers G levels area cut (length ws) (length list) ≡ y → left y .answer ≡ formatted → Demand3 G (left y .after) (ledger levels area []) cs
+      go true q e = demand3 (sim-holds G Z (fresh-sim G Z levels area ws cut list (good-numbers q))) cs
       go false q e = let z : _≡_ {A = ℕ} 0 1 = cc in absurd (omega arith)
 
   -- from a pool that the audit accepts: the ledger is that pool's mappings

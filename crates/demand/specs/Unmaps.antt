@@ -162,7 +162,7 @@ module _ (G : Granule) (Z : Sane G) {C D : Type 0} {p : Pool} {B : Ledger} (I : 
 
     -- a pool of the theory, with this pool's numbers
     abbrev back : prunes.Pool (A G Z (area G Z I) top (al G Z I)) → Pool
-    back q = pool (withFree (p .numbers) (q .f)) (q .m) (q .q)
+    back q = pool (withFree (p .numbers) (q .f)) (q .m) (p .cut) (q .q)
 
     abbrev ledger₁ : Ledger
     ledger₁ = withLive (own G Z I) (dropAt a (map (shown G Z) (I .L)))

@@ -24,6 +24,9 @@ type Words = [u64; POOL_WORDS];
 
 type List = [u32; 4];
 
+// This pool has no second region.
+const NO_WORDS: [u64; 0] = [0; 0];
+
 // What is written.
 
 fn text(t: &[u8]) {
@@ -107,12 +110,17 @@ fn same_list(list: &List, old: &List) -> bool {
 }
 
 fn same_setup(s: Setup, t: Setup) -> bool {
-    s.levels == t.levels && s.base == t.base && s.tables == t.tables && s.free == t.free
+    s.levels == t.levels
+        && s.base == t.base
+        && s.tables == t.tables
+        && s.free == t.free
+        && s.base2 == t.base2
+        && s.tables2 == t.tables2
 }
 
 fn compared(same: bool) {
     if same {
-        text(b"  All 2048 words, 4 places of the free list and 4 setup numbers are as before.\n");
+        text(b"  All 2048 words, 4 places of the free list and 6 setup numbers are as before.\n");
     } else {
         text(b"  SOMETHING CHANGED.\n");
     }
@@ -121,7 +129,7 @@ fn compared(same: bool) {
 // The calls, each with its lines.
 
 fn audit(s: Setup, words: &Words, list: &List) {
-    let answer = pagetable::audit(s, words, list);
+    let answer = pagetable::audit(s, words, &NO_WORDS, list);
     match answer {
         AuditAnswer::Sound { tables, mappings } => {
             number(b"  The audit finds the pool sound: tables in use ", tables);
@@ -141,7 +149,8 @@ fn format(words: &mut Words, list: &mut List) -> Setup {
     address(b" tables at ", BASE);
     address(b", for addresses below ", GIB512);
     text(b".\n");
-    let r = pagetable::format(3, BASE, TABLES, words, list);
+    let mut second = NO_WORDS;
+    let r = pagetable::format(3, BASE, TABLES, 0, 0, words, &mut second, list);
     let answer = r.answer;
     let back = r.setup;
     match answer {
@@ -167,7 +176,8 @@ fn map(
     address(b" at ", at);
     address(b" to memory ", frame);
     rights(attributes);
-    let r = pagetable::map(s, words, list, at, frame, bytes, attributes);
+    let mut second = NO_WORDS;
+    let r = pagetable::map(s, words, &mut second, list, at, frame, bytes, attributes);
     let answer = r.answer;
     let back = r.setup;
     match answer {
@@ -189,7 +199,8 @@ fn unmap(s: Setup, words: &mut Words, list: &mut List, at: u64) -> Setup {
     let places = *list;
     address(b"Unmap at ", at);
     text(b".\n");
-    let r = pagetable::unmap(s, words, list, at);
+    let mut second = NO_WORDS;
+    let r = pagetable::unmap(s, words, &mut second, list, at);
     let answer = r.answer;
     let back = r.setup;
     match answer {
@@ -221,7 +232,7 @@ fn unmap(s: Setup, words: &mut Words, list: &mut List, at: u64) -> Setup {
 fn query(s: Setup, words: &Words, list: &List, at: u64) {
     address(b"Query ", at);
     text(b".\n");
-    let answer = pagetable::query(s, words, list, at);
+    let answer = pagetable::query(s, words, &NO_WORDS, list, at);
     match answer {
         QueryAnswer::Found {
             base,

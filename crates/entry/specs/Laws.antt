@@ -4,15 +4,16 @@ use mathlib.Core.Path.{_≡_, refl, sym, ap, _∙_}
 use mathlib.Core.Bool.{Bool, true, false, cond, _&&_, false≢true}
 use mathlib.Core.Logic.{_⊎_, inl, inr}
 use native.Mathlib.Omega.{arith}
-use native.Mathlib.Nat.{mul-mod-right, mul-div-right, zero-mod, mul-le-mul-left, eq-of-mul-eq-mul-left}
+use native.Mathlib.Nat.{mul-div-right, zero-mod, mul-le-mul-left}
+use native.Mathlib.Decide.{decLt}
 use lib.Dec.{ltb, leb, eqb}
 use lib.Pow.{mod-mod-pow}
-use borrow.Author.Tests.{lt-ltb, le-leb, eq-eqb, ne-eqb, ltb-true, leb-true, eqb-true, eqb-false}
+use borrow.Author.Tests.{lt-ltb, le-ltb, le-leb, eq-eqb, ne-eqb, ltb-true, leb-true, eqb-true, eqb-false}
 use Rattle.path.specs.Geometry.{Granule, Sane, pageSize, sizeAt, physical}
-use Rattle.path.specs.Laws.{page-pos, size-pos}
+use Rattle.path.specs.Laws.{page-pos, size-pos, table-first, table-second, table-aligned, table-one, table-stays}
 use Rattle.path.specs.RegionLaws.{multiple-gap}
-use Rattle.path.specs.Areas.{Area, total, tableAt, GoodArea}
-use Rattle.entry.specs.Words.{frameWord, tableWord, Framed, Says, childAt, baseIn, attrsIn, frameAt, entryAt}
+use Rattle.path.specs.Areas.{Area, withSecond, total, tableAt, GoodArea}
+use Rattle.entry.specs.Words.{frameWord, tableWord, Framed, Says, namedIn, childAt, baseIn, attrsIn, frameAt, entryAt}
 use Rattle.entry.specs.Words.Says.{says-empty, says-table, says-frame, says-damaged}
 use Rattle.entry.specs.Parts.{low-of}
 pub use Rattle.entry.specs.Parts.{type-le, attr-word-le, attr-word-ge, attrs-lt, base-of, attrs-of}
@@ -32,6 +33,15 @@ power-down b {i} {j} l e =
 pub and-true : (x y : Bool) → (x && y) ≡ true → (x ≡ true) × (y ≡ true)
 and-true true y e = (refl, e)
 and-true false y e = absurd (false≢true e)
+
+-- where not both hold, their tests are not both true
+and-false : (k m n : ℕ) → (k < m → m < n → ⊥) → (ltb k m && ltb m n) ≡ false
+and-false k m n f = go (ltb k m) (ltb m n) refl refl
+  where
+    go : (x y : Bool) → ltb k m ≡ x → ltb m n ≡ y → (x && y) ≡ false
+    go true true p q = absurd (f (ltb-true k m p) (ltb-true m n q))
+    go true false p q = refl
+    go false y p q = refl
 
 -- ---- frames
 
@@ -141,31 +151,119 @@ module _ {G : Granule} (S : Sane G) where
 
 -- ---- tables
 
-pub table-word-one : (G : Granule) (area : Area) (c d : ℕ) → tableWord G area c ≡ tableWord G area d → c ≡ d
+pub table-word-one : (G : Granule) (area : Area) → GoodArea G area → (c d : ℕ) → c < total area → d < total area
+    → tableWord G area c ≡ tableWord G area d → c ≡ d
 unfolding tableWord
-table-word-one G area c d e = eq-of-mul-eq-mul-left (pageSize G) (page-pos G) c d (omega arith)
+table-word-one G area placed c d l m e = table-one G area placed c d l m (omega arith)
 
--- the child that a table's word names
-pub child-back : (G : Granule) (area : Area) (c : ℕ) → c < total area → childAt G area (tableWord G area c) ≡ c
-unfolding childAt tableWord
-child-back G area c l =
-    let m = pageSize G * c in
-    let off : area .base + m + 3 - 3 - area .base ≡ m = omega arith in
-    rw (off, mul-div-right c (page-pos G), lt-ltb c (total area) l, eq-eqb (area .base + m + 3) (area .base + m + 3) refl)
+-- the word of a table of the first region is the same whatever the second is
+pub table-word-stays : (G : Granule) (area : Area) (q m c : ℕ) → c < area .tables → tableWord G (withSecond area q m) c ≡ tableWord G area c
+unfolding tableWord
+table-word-stays G area q m c l = ap (λ (x : ℕ). x + 3) (table-stays G area q m c l)
 
--- and no other word names it
-pub child-only : (G : Granule) (area : Area) (w : ℕ) {c : ℕ} → childAt G area w ≡ c → 1 ≤ c → (c < total area) × (w ≡ tableWord G area c)
-unfolding childAt
-child-only G area w {c} e some = go (ltb k (total area) && eqb w (tableWord G area k)) refl e
+-- the word of a table of one region names it there,
+pub named-back : (G : Granule) (b n i w : ℕ) → i < n → w ≡ b + pageSize G * i + 3 → namedIn G b n w ≡ i
+unfolding namedIn
+named-back G b n i w l e =
+    let m = pageSize G * i in
+    let off : b + m + 3 - 3 - b ≡ m = omega arith in
+    rw (e, off, mul-div-right i (page-pos G), lt-ltb i n l, eq-eqb (b + m + 3) (b + m + 3) refl)
+
+-- and no other word does
+pub named-only : (G : Granule) (b n w : ℕ) {i : ℕ} → namedIn G b n w ≡ i → i < n → w ≡ b + pageSize G * i + 3
+unfolding namedIn
+named-only G b n w {i} e l = go (ltb k n && eqb w (b + pageSize G * k + 3)) refl e
   where
     k : ℕ
-    k = (w - 3 - area .base) / pageSize G
+    k = (w - 3 - b) / pageSize G
 
-    go : (t : Bool) → (ltb k (total area) && eqb w (tableWord G area k)) ≡ t → cond t k 0 ≡ c → (c < total area) × (w ≡ tableWord G area c)
-    go true p e =
-        let (lt, same) = and-true (ltb k (total area)) (eqb w (tableWord G area k)) p in
-        (rw (← e) (ltb-true k (total area) lt), rw (← e) (eqb-true w (tableWord G area k) same))
+    go : (x : Bool) → (ltb k n && eqb w (b + pageSize G * k + 3)) ≡ x → cond x k n ≡ i → w ≡ b + pageSize G * i + 3
+    go true p e = rw (← e) (eqb-true w (b + pageSize G * k + 3) (and-true (ltb k n) _ p .1))
     go false p e = absurd (omega arith)
+
+pub named-le : (G : Granule) (b n w : ℕ) → namedIn G b n w ≤ n
+unfolding namedIn
+named-le G b n w = go (ltb k n && eqb w (b + pageSize G * k + 3)) refl
+  where
+    k : ℕ
+    k = (w - 3 - b) / pageSize G
+
+    go : (x : Bool) → (ltb k n && eqb w (b + pageSize G * k + 3)) ≡ x → cond x k n ≤ n
+    go true p = let l = ltb-true k n (and-true (ltb k n) _ p .0) in omega arith
+    go false p = omega arith
+
+-- a word that is that of no table of the region
+pub named-none : (G : Granule) (b n w : ℕ) → ((i : ℕ) → i < n → w ≡ b + pageSize G * i + 3 → ⊥) → namedIn G b n w ≡ n
+named-none G b n w f = go (decLt (namedIn G b n w) n)
+  where
+    go : Dec (namedIn G b n w < n) → namedIn G b n w ≡ n
+    go (yes l) = absurd (f (namedIn G b n w) l (named-only G b n w refl l))
+    go (no d) = omega (arith, named-le G b n w)
+
+module _ (G : Granule) (area : Area) (w : ℕ) where
+  abbrev first : ℕ
+  first = namedIn G (area .base) (area .tables) w
+
+  abbrev second : ℕ
+  second = namedIn G (area .base₂) (area .tables₂) w
+
+  -- the child by the two tests
+  child-by : (x y : Bool) → (ltb 0 first && ltb first (area .tables)) ≡ x → ltb second (area .tables₂) ≡ y
+      → childAt G area w ≡ cond x first (cond y (area .tables + second) 0)
+  unfolding childAt
+  child-by x y p q = rw (p, q)
+
+  pub child-first : 0 < first → first < area .tables → childAt G area w ≡ first
+  child-first some l = child-by true (ltb second (area .tables₂)) (simp (lt-ltb 0 first some, lt-ltb first (area .tables) l)) refl
+
+  pub child-second : (0 < first → first < area .tables → ⊥) → second < area .tables₂ → childAt G area w ≡ area .tables + second
+  child-second f l = child-by false true (and-false 0 first (area .tables) f) (lt-ltb second (area .tables₂) l)
+
+  pub child-neither : (0 < first → first < area .tables → ⊥) → area .tables₂ ≤ second → childAt G area w ≡ 0
+  child-neither f l = child-by false false (and-false 0 first (area .tables) f) (le-ltb second (area .tables₂) l)
+
+  -- what a table's word names is a table with that word
+  pub child-only : {c : ℕ} → childAt G area w ≡ c → 1 ≤ c → (c < total area) × (w ≡ tableWord G area c)
+  unfolding tableWord
+  child-only {c} e some = go (decLt 0 first) (decLt first (area .tables)) (decLt second (area .tables₂))
+    where
+      from-second : (0 < first → first < area .tables → ⊥) → Dec (second < area .tables₂) → (c < total area) × (w ≡ tableAt G area c + 3)
+      from-second f (yes l) =
+          let z : c ≡ area .tables + second = sym e ∙ child-second f l in
+          let k : c - area .tables ≡ second = omega arith in
+          (omega arith, rw (table-second G area c (omega arith), k) (named-only G (area .base₂) (area .tables₂) w refl l))
+      from-second f (no l) = absurd (omega (arith, sym e ∙ child-neither f (omega arith)))
+
+      go : Dec (0 < first) → Dec (first < area .tables) → Dec (second < area .tables₂) → (c < total area) × (w ≡ tableAt G area c + 3)
+      go (yes a) (yes l) d =
+          let z : c ≡ first = sym e ∙ child-first a l in
+          (omega arith, rw (table-first G area c (omega arith), z) (named-only G (area .base) (area .tables) w refl l))
+      go (no a) b d = from-second (λ x y. a x) d
+      go (yes a) (no b) d = from-second (λ x y. b y) d
+
+  -- and each table's word names some table
+  pub child-some : (c : ℕ) → 1 ≤ c → c < total area → w ≡ tableWord G area c → 1 ≤ childAt G area w
+  unfolding tableWord
+  child-some c some lt e = go (decLt c (area .tables)) (decLt 0 first) (decLt first (area .tables))
+    where
+      by-second : area .tables ≤ c → (0 < first → first < area .tables → ⊥) → 1 ≤ childAt G area w
+      by-second l f =
+          let s = named-back G (area .base₂) (area .tables₂) (c - area .tables) w (omega arith) (e ∙ ap (λ (x : ℕ). x + 3) (table-second G area c l)) in
+          omega (arith, child-second f (omega arith))
+
+      go : Dec (c < area .tables) → Dec (0 < first) → Dec (first < area .tables) → 1 ≤ childAt G area w
+      go (yes l) a b =
+          let s = named-back G (area .base) (area .tables) c w l (e ∙ ap (λ (x : ℕ). x + 3) (table-first G area c l)) in
+          omega (arith, child-first (omega arith) (omega arith))
+      go (no l) (yes a) (yes b) = omega (arith, child-first a b)
+      go (no l) (no a) b = by-second (omega arith) (λ x y. a x)
+      go (no l) (yes a) (no b) = by-second (omega arith) (λ x y. b y)
+
+-- the child that a table's word names is that table
+pub child-back : (G : Granule) (area : Area) → GoodArea G area → (c : ℕ) → 1 ≤ c → c < total area → childAt G area (tableWord G area c) ≡ c
+child-back G area placed c some l =
+    let (m, e) = child-only G area (tableWord G area c) refl (child-some G area (tableWord G area c) c some l refl) in
+    table-word-one G area placed _ c m l (sym e)
 
 -- a word that is no table's names none
 pub child-none : (G : Granule) (area : Area) (w : ℕ) → ((c : ℕ) → 1 ≤ c → c < total area → w ≡ tableWord G area c → ⊥) → childAt G area w ≡ 0
@@ -181,16 +279,22 @@ pub entry-zero : (G : Granule) (area : Area) (h : ℕ) → entryAt G area h 0 �
 unfolding entryAt
 entry-zero G area h = refl
 
--- what a table's word says is that table
-pub table-back : (G : Granule) (area : Area) (h c : ℕ) → 1 ≤ h → 1 ≤ c → c < total area → entryAt G area h (tableWord G area c) ≡ Table c
+-- a word that names a child says that table, at any level but the last
+pub entry-table : (G : Granule) (area : Area) (h w : ℕ) {c : ℕ} → 1 ≤ h → childAt G area w ≡ c → 1 ≤ c → entryAt G area h w ≡ Table c
 unfolding entryAt
-table-back G area h c high some lt =
+entry-table G area h w {c} high e some =
+    let (_, same) = child-only G area w e some in
     rw (
-      ne-eqb (tableWord G area c) 0 (λ e. omega (arith, table-word-ge G area c)),
-      child-back G area c lt,
+      ne-eqb w 0 (λ z. omega (arith, same, table-word-ge G area c)),
+      e,
       lt-ltb 0 h high,
       lt-ltb 0 c some,
     )
+
+-- what a table's word says is that table
+pub table-back : (G : Granule) (area : Area) → GoodArea G area → (h c : ℕ) → 1 ≤ h → 1 ≤ c → c < total area
+    → entryAt G area h (tableWord G area c) ≡ Table c
+table-back G area placed h c high some lt = entry-table G area h (tableWord G area c) high (child-back G area placed c some lt) some
 
 -- a word that is not 0 and names no table is read as a frame
 pub entry-frame : (G : Granule) (area : Area) (h w : ℕ) → (w ≡ 0 → ⊥) → (1 ≤ h → childAt G area w ≡ 0) → entryAt G area h w ≡ frameAt G h w
@@ -224,10 +328,8 @@ module _ {G : Granule} (S : Sane G) where
 
       no-table : named ≡ false → (c : ℕ) → 1 ≤ h → 1 ≤ c → c < total area → w ≡ tableWord G area c → ⊥
       no-table q c high some lt e =
-          let t : childAt G area w ≡ c = rw e (child-back G area c lt) in
-          let f = rw (lt-ltb 0 h high, t, lt-ltb 0 c some) at q in
-          let z : _≡_ {A = ℕ} 0 1 = cc in
-          omega arith
+          let k = child-some G area w c some lt e in
+          false≢true (sym q ∙ simp (lt-ltb 0 h high, lt-ltb 0 (childAt G area w) k))
 
       no-frame : isFrame G h w ≡ false → (b a : ℕ) → Framed G h b a → w ≡ frameWord b h a → ⊥
       no-frame r b a f e =
@@ -266,16 +368,15 @@ module _ {G : Granule} (S : Sane G) where
       of (says-frame b a f z) = (f, z)
 
   -- no word is both a table's and a frame's, since a table's ends in 3
-  pub table-low : (area : Area) (c : ℕ) → GoodArea G area → tableWord G area c % 4096 ≡ 3
+  pub table-low : (area : Area) (c : ℕ) → GoodArea G area → c < total area → tableWord G area c % 4096 ≡ 3
   unfolding tableWord
-  table-low area c placed =
-      let p = power-down (area .base) {i = 12} {j = G .page} (S .page-least) (placed .aligned) in
-      let q = power-down (pageSize G * c) {i = 12} {j = G .page} (S .page-least) (mul-mod-right (pageSize G) c) in
+  table-low area c placed l =
+      let p = power-down (tableAt G area c) {i = 12} {j = G .page} (S .page-least) (table-aligned G area placed c l) in
       omega arith
 
-  pub not-both : (area : Area) (c : ℕ) {h b a : ℕ} → GoodArea G area → Framed G h b a → frameWord b h a ≡ tableWord G area c → ⊥
-  not-both area c {h} {b} {a} placed f e =
-      low-of b h a (framed-below S f) (framed-paged S f) (f .few) (ap (λ (x : ℕ). x % 4096) e ∙ table-low area c placed)
+  pub not-both : (area : Area) (c : ℕ) {h b a : ℕ} → GoodArea G area → c < total area → Framed G h b a → frameWord b h a ≡ tableWord G area c → ⊥
+  not-both area c {h} {b} {a} placed l f e =
+      low-of b h a (framed-below S f) (framed-paged S f) (f .few) (ap (λ (x : ℕ). x % 4096) e ∙ table-low area c placed l)
 
   -- what a frame's word says is that frame
   pub frame-back : (area : Area) {h b a : ℕ} → GoodArea G area → Framed G h b a → entryAt G area h (frameWord b h a) ≡ Frame b a
@@ -283,12 +384,12 @@ module _ {G : Granule} (S : Sane G) where
       entry-frame G area h (frameWord b h a) (λ e. omega (arith, frame-word-ge b h a)) (λ high. no-child) ∙ frame-at-back S f
     where
       no-child : childAt G area (frameWord b h a) ≡ 0
-      no-child = child-none G area (frameWord b h a) (λ c some lt e. not-both area c placed f e)
+      no-child = child-none G area (frameWord b h a) (λ c some lt e. not-both area c placed lt f e)
 
   -- a word says nothing but what is computed from it
   pub entry-says : {area : Area} {h w : ℕ} {e : Entry} → GoodArea G area → Says G area h w e → entryAt G area h w ≡ e
   entry-says {area} {h} placed (says-empty z) = rw z (entry-zero G area h)
-  entry-says {area} {h} placed (says-table c high some lt z) = rw z (table-back G area h c high some lt)
+  entry-says {area} {h} placed (says-table c high some lt z) = rw z (table-back G area placed h c high some lt)
   entry-says {area} placed (says-frame b a f z) = rw z (frame-back area placed f)
   entry-says {area} {h} {w} placed (says-damaged no-empty no-table no-frame) = of (says-entry area h w)
     where

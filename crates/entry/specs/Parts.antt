@@ -3,10 +3,10 @@ use Prim.Native.Nat.{ℕ, _+_, _-_, _*_, _/_, _%_, _^_, _≤_, _<_}
 use mathlib.Core.Path.{_≡_, _∙_}
 use mathlib.Core.Bool.{Bool, true, false, cond}
 use native.Mathlib.Omega.{arith}
-use native.Mathlib.Nat.{mul-le-mul-left}
 use lib.Dec.{eqb}
-use Rattle.path.specs.Geometry.{Granule, pageSize, physical}
-use Rattle.path.specs.Areas.{Area, total, tableAt, GoodArea}
+use Rattle.path.specs.Geometry.{Granule, physical}
+use Rattle.path.specs.Areas.{Area, total, GoodArea}
+use Rattle.path.specs.Laws.{table-fits}
 use Rattle.entry.specs.Words.{attrWord, typeAt, frameWord, tableWord, baseIn, attrsIn}
 
 -- ---- bounds
@@ -39,7 +39,7 @@ table-word-ge G area c = omega arith
 
 pub table-word-lt : (G : Granule) (area : Area) (c : ℕ) → GoodArea G area → c < total area → tableWord G area c < 2 ^ 64
 unfolding tableWord
-table-word-lt G area c placed l = omega (arith, placed .fits, mul-le-mul-left {m = c} {n = total area} (pageSize G) (omega arith))
+table-word-lt G area c placed l = omega (arith, table-fits G area placed c l)
 
 pub attrs-lt : (w : ℕ) → attrsIn w < 16
 attrs-lt w = omega arith

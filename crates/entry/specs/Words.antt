@@ -47,10 +47,17 @@ pub data Says (G : Granule) (area : Area) (h w : ℕ) : Entry → Type 0 where
       → ((b a : ℕ) → Framed G h b a → w ≡ frameWord b h a → ⊥)
       → Says G area h w Damaged
 
--- The same, computed; Laws says that the two agree. The child that a word names as a table, 0 where it names none:
+-- The same, computed; Laws says that the two agree. Of the n tables from b on, the number of the one that a word names by its address + 3; n where it
+-- names none of them:
+unfoldable pub namedIn : Granule → ℕ → ℕ → ℕ → ℕ
+namedIn G b n w = let i = (w - 3 - b) / pageSize G in cond (ltb i n && eqb w (b + pageSize G * i + 3)) i n
+
+-- the child that a word names as a table, of the first region, but not the root, or else of the second; 0 where it names none
 unfoldable pub childAt : Granule → Area → ℕ → ℕ
 childAt G area w =
-    let c = (w - 3 - area .base) / pageSize G in cond (ltb c (total area) && eqb w (tableWord G area c)) c 0
+    let c = namedIn G (area .base) (area .tables) w in
+    let d = namedIn G (area .base₂) (area .tables₂) w in
+    cond (ltb 0 c && ltb c (area .tables)) c (cond (ltb d (area .tables₂)) (area .tables + d) 0)
 
 -- the base that a frame's word has: bits 47:12
 abbrev pub baseIn : ℕ → ℕ

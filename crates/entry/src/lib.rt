@@ -5,7 +5,7 @@ ghost use mathlib.Core.Bool.{cond};
 ghost use lib.Dec.{ltb, leb, eqb};
 ghost use Rattle.path.specs.Geometry.{four, physical};
 ghost use Rattle.path.specs.Areas.{areaAt};
-ghost use Rattle.entry.specs.Words.{attrWord, baseIn, attrsIn, typeAt, frameWord, tableWord, childAt, frameAt, entryAt};
+ghost use Rattle.entry.specs.Words.{attrWord, baseIn, attrsIn, typeAt, frameWord, tableWord, namedIn, childAt, frameAt, entryAt};
 ghost use Rattle.entry.specs.Host.{hostWord, hostMeaning, meaningOf};
 
 // The attribute words of the attributes 0 to 15.
@@ -100,14 +100,20 @@ pub fn word_of(base: u64, height: usize, attributes: u64) -> u64
     base + type_at(height) + bits
 }
 
-// The word that names table c of a pool; 0 where the pool's base is above 2^48.
-pub fn table_word(base: u64, c: u32) -> u64
-    ensures { λ r. ⌜ ((n : ℕ) → r ≡ cond (leb base physical) (tableWord four (areaAt base n) c) 0) ⌝ }
+// The word that names table c of a pool, of so many tables in its first region; 0 where the base of c's region is above 2^48.
+pub fn table_word(base: u64, tables: u16, base2: u64, c: u32) -> u64
+    ensures { λ r. ⌜ ((m : ℕ) → r ≡ cond (leb (cond (ltb c tables) base base2) physical) (tableWord four (areaAt base tables base2 m) c) 0) ⌝ }
 {
-    if base > path::PHYSICAL {
+    if c < tables as u32 {
+        if base > path::PHYSICAL {
+            return 0;
+        }
+        return base + path::PAGE * (c as u64) + 3;
+    }
+    if base2 > path::PHYSICAL {
         return 0;
     }
-    base + path::PAGE * (c as u64) + 3
+    base2 + path::PAGE * ((c - tables as u32) as u64) + 3
 }
 
 // The attributes that the bits of a word stand for.
@@ -157,35 +163,55 @@ pub fn frame_at(w: u64, height: usize) -> Entry
     Entry::Damaged
 }
 
-// The child that a word names as a table, 1 to tables - 1; 0 where it names none.
-pub fn child_in(w: u64, base: u64, tables: u32) -> u32
-    ensures { λ r. ⌜ r ≡ childAt four (areaAt base tables) w ⌝ }
+// The number of the table in a region of so many tables that a word names; that many where it names none.
+fn named_in(w: u64, base: u64, tables: u16) -> u32
+    ensures { λ r. ⌜ r ≡ namedIn four base tables w ⌝ }
 {
     if base > path::PHYSICAL {
         if w < base {
-            return 0;
+            return tables as u32;
         }
     }
     let off = std::num::wrapping_sub_u64(w, base);
     if off % path::PAGE != 3 {
-        return 0;
+        return tables as u32;
     }
     let c = off / path::PAGE;
     if c >= tables as u64 {
-        return 0;
+        return tables as u32;
     }
     c as u32
 }
 
-// What a word says at a height of a tree whose tables, so many, stand from base on.
-pub fn read_word(w: u64, height: usize, base: u64, tables: u32) -> Entry
-    ensures { λ r. ⌜ r ≡ entryAt four (areaAt base tables) height w ⌝ }
+// The child that a word names as a table, of the first region or else of the second; 0 where it names none.
+pub fn child_in(w: u64, base: u64, tables: u16, base2: u64, tables2: u16) -> u32
+    ensures { λ r. ⌜ r ≡ childAt four (areaAt base tables base2 tables2) w ⌝ }
+{
+    let c = named_in(w, base, tables);
+    if c > 0 {
+        if c < tables as u32 {
+            return c;
+        }
+    }
+    if tables2 == 0 {
+        return 0;
+    }
+    let d = named_in(w, base2, tables2);
+    if d >= tables2 as u32 {
+        return 0;
+    }
+    tables as u32 + d
+}
+
+// What a word says at a height of a tree whose tables stand in one or two regions.
+pub fn read_word(w: u64, height: usize, base: u64, tables: u16, base2: u64, tables2: u16) -> Entry
+    ensures { λ r. ⌜ r ≡ entryAt four (areaAt base tables base2 tables2) height w ⌝ }
 {
     if w == 0 {
         return Entry::Empty;
     }
     if height > 0 {
-        let c = child_in(w, base, tables);
+        let c = child_in(w, base, tables, base2, tables2);
         if c > 0 {
             return Entry::Table(c);
         }

@@ -3,6 +3,7 @@ use model::FormatAnswer;
 use model::Formatted;
 use path::Setup;
 ghost use mathlib.Core.Path.{_≡_};
+ghost use mathlib.Core.List.{_++_};
 ghost use Prim.Native.Nat.{_≤_};
 ghost use lib.ListN.{length};
 ghost use Rattle.laws.specs.Lists.{down};
@@ -26,11 +27,29 @@ fn count_down(list: &mut [u32])
 }
 
 // An empty tree: all words 0, and every table but the root free. Or refusal 1.
-pub fn format(levels: u64, base: u64, tables: u64, words: &mut [u64], list: &mut [u32]) -> Formatted
-    ensures { λ r. ⌜ formatDid r (now (words .exit)) (now (list .exit))
-        ≡ formatW four levels (areaAt base tables) (now (words .entry)) (now (list .entry)) ⌝ }
+pub fn format(
+    levels: u64,
+    base: u64,
+    tables: u64,
+    base2: u64,
+    tables2: u64,
+    words: &mut [u64],
+    second: &mut [u64],
+    list: &mut [u32],
+) -> Formatted
+    ensures { λ r. ⌜ formatDid r (now (words .exit)) (now (second .exit)) (now (list .exit))
+        ≡ formatW four levels (areaAt base tables base2 tables2) (now (words .entry) ++ now (second .entry)) (length (now (words .entry))) (now (list .entry)) ⌝ }
 {
-    if !path::good_numbers(levels, base, tables, words.len(), list.len()) {
+    if !path::good_numbers(
+        levels,
+        base,
+        tables,
+        base2,
+        tables2,
+        words.len(),
+        second.len(),
+        list.len(),
+    ) {
         let none = path::no_setup();
         return Formatted {
             answer: FormatAnswer::Refused(1),
@@ -38,8 +57,9 @@ pub fn format(levels: u64, base: u64, tables: u64, words: &mut [u64], list: &mut
         };
     }
     pool::clear(words);
+    pool::clear(second);
     count_down(list);
-    let free = tables - 1;
+    let free = tables + tables2 - 1;
     Formatted {
         answer: FormatAnswer::Done,
         setup: Setup {
@@ -47,6 +67,8 @@ pub fn format(levels: u64, base: u64, tables: u64, words: &mut [u64], list: &mut
             base,
             tables,
             free,
+            base2,
+            tables2,
         },
     }
 }

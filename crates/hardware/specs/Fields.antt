@@ -11,7 +11,7 @@ use lib.Dec.{eqb}
 use borrow.Author.Tests.{eq-eqb, ne-eqb, eqb-false, le-leb}
 use Rattle.path.specs.Geometry.{Granule, Sane, pageSize, sizeAt, physical}
 use Rattle.path.specs.Areas.{Area, areaOf, total, tableAt, GoodArea}
-use Rattle.path.specs.Laws.{page-pos}
+use Rattle.path.specs.Laws.{page-pos, table-aligned, table-fits}
 use Rattle.entry.specs.Words.{typeAt, frameWord, tableWord, Framed}
 use Rattle.entry.specs.Laws.{type-le, framed-paged, framed-below, table-low}
 use Rattle.model.specs.Answers.{mapping}
@@ -232,7 +232,7 @@ pub step-table : {G : Granule} → Sane G → (area : Area) (a h c : ℕ) → Go
 unfolding tableWord
 step-table {G} Z area a zero c al high l = absurd (omega arith)
 step-table {G} Z area a (suc h) c al high l =
-    let low = table-low Z area c al in
+    let low = table-low Z area c al l in
     rw (eq-eqb (validBit w) 1 (omega arith), eq-eqb (tableBit w) 1 (omega arith))
     (ap {B = Step} (λ (x : ℕ). next x) (output (G .page) 0 (tableAt G area c) 3 tall paged below few (omega arith)))
   where
@@ -243,10 +243,10 @@ step-table {G} Z area a (suc h) c al high l =
     tall = omega (arith, Z .space-fits)
 
     paged : (tableAt G area c) % pageSize G ≡ 0
-    paged = add-mul-mod-self-left (area .base) (pageSize G) c ∙ al .aligned
+    paged = table-aligned G area al c l
 
     below : tableAt G area c < physical
-    below = omega (arith, al .fits, page-pos G, mul-suc (pageSize G) c, mul-le-mul-left {m = suc c} {n = total area} (pageSize G) l)
+    below = omega (arith, table-fits G area al c l, page-pos G)
 
     few : 3 < pageSize G
     few = omega (arith, pow-mono {i = 12} {j = G .page} (Z .page-least))

@@ -7,24 +7,27 @@ use mathlib.Core.Option.{Option, some, none, Option·map}
 use Prim.Native.Nat.{ℕ, zero, suc, _+_, _-_, _*_, _≤_, _<_}
 use native.Mathlib.Omega.{arith}
 use lib.Dec.{ltb, leb, eqb}
-use lib.ListN.{take, replicate}
+use lib.ListN.{length, take, replicate}
 use borrow.Author.Tests.{leb-true, ltb-true}
 use Rattle.path.specs.Geometry.{Granule, Sane, four, entries}
 use Rattle.path.specs.Areas.{Area, areaOf, total, InArea}
 use Rattle.path.specs.Laws.{four-sane}
 use Rattle.path.specs.Numbers.{goodNumbers}
+use Rattle.path.specs.declared.Setup.{Setup}
 use Rattle.model.specs.Answers.{Mapping, mapping, formatted, took, gave, refused, Pool}
 use Rattle.model.specs.Writes.{Write, performAll}
 use Rattle.model.specs.Calls.{mapTests, unmapTests}
+use Rattle.model.specs.Adds.{lent}
 use Rattle.model.specs.Sound.{OffTables}
 use Rattle.model.specs.Ledger.{Ledger, ledger, withLive, anyOverlap, holdsAddress, coverOf, dropAt, tablesLacking, freeTables, Entered, entered, formatL, mapL, unmapOf, unmapL}
 use Rattle.demand.specs.Holds.{Holds}
 use Rattle.demand.specs.Sims.{holds-sim, sim-holds}
 use Rattle.demand.specs.Theorem.{after-sim, step-holds}
-use Rattle.demand.specs.Demand3.{Call, formatC, mapC, unmapC, askC, stepL, poolAfter, ledgerAfter}
-use Rattle.hardware.specs.Machine.{Translation, saysOf, told, stage2, Stands, writesOf, wordsAfter, visible, Machine}
+use Rattle.demand.specs.Demand3.{Call, formatC, addC, mapC, unmapC, askC, auditC, stepW, stepL, poolAfter, ledgerAfter}
+use Rattle.hardware.specs.Machine.{Translation, saysOf, told, stage2, Stands, writesOf, accepts, memoryOf, wordsAfter, visible, AtOnce, Machine}
 use Rattle.hardware.specs.Theorem.{promise}
-use Rattle.hardware.specs.Isolation.{Reaches, During, OffOwn, Sealed, Held, InFrame, KeptApart, OffOther, Apart, Isolation}
+use Rattle.hardware.specs.Views.{add-live}
+use Rattle.hardware.specs.Isolation.{Reaches, During, OffOwn, OffLater, Sealed, Held, InFrame, OffBoth, KeptApart, OffOther, Apart, Isolation}
 
 -- ---- what a ledger says is a byte of a frame
 
@@ -55,7 +58,20 @@ first-visible zero ws = refl
 first-visible (suc j) [] = refl
 first-visible (suc j) (w ∷ ws) = ap (λ (l : List Write). w ∷ l) (first-visible j ws)
 
--- ---- the ledger after a call has the same area, but for format's
+-- ---- the memory that a call writes to has the pool's numbers
+
+memory-numbers : (G : Granule) (p : Pool) (c : Call) → memoryOf G p c .numbers ≡ p .numbers
+memory-numbers G p (formatC levels area) = refl
+memory-numbers G p (addC q n second rest) = go (accepts (stepW G p (addC q n second rest) .answer))
+  where
+    go : (y : Bool) → cond y (lent p second rest) p .numbers ≡ p .numbers
+    go true = refl
+    go false = refl
+memory-numbers G p (mapC a b size k) = refl
+memory-numbers G p (unmapC a) = refl
+memory-numbers G p (askC q) = refl
+
+-- ---- the ledger after a call has the same area, but for format's and an add's
 
 same-area : (r : Area) (b : Bool) (x y : Entered) → x .after .area ≡ r → y .after .area ≡ r → cond b x y .after .area ≡ r
 same-area r true x y p q = p
@@ -98,11 +114,13 @@ module _ (G : Granule) (Z : Sane G) {p : Pool} {A : Ledger} (H : Holds G p A) wh
 
   after-off : (c : Call) (m : Mapping) → List·Memᴰ m (stepL G A c .after .live) → OffTables G (A .area) m
   unfolding formatL
-  after-off (formatC levels area) m i = go (goodNumbers G levels area (entries G * total (A .area)) (total (A .area))) i
+  after-off (formatC levels area) m i = go (goodNumbers G levels area (entries G * A .area .tables) (entries G * total (A .area)) (total (A .area))) i
     where
       go : (y : Bool) → List·Memᴰ m (cond y (entered formatted (ledger levels area [])) (entered (refused 1) A) .after .live) → OffTables G (A .area) m
       go true i = absurd (List·Memᴰ·not-nil i)
       go false i = off-tables G Z H m i
+  after-off (addC q n second rest) m i =
+      off-tables G Z H m (subst (λ (L : List Mapping). List·Memᴰ m L) (add-live G A q n (length second) (freeTables G A + length rest)) i)
   after-off (mapC a b size k) m i = next-off (mapC a b size k) (map-area G A a b size k) m i
   after-off (unmapC a) m i = next-off (unmapC a) (unmap-area G A a) m i
   after-off (askC q) m i = off-tables G Z H m i
@@ -110,43 +128,71 @@ module _ (G : Granule) (Z : Sane G) {p : Pool} {A : Ledger} (H : Holds G p A) wh
   held-off : (c : Call) (m : Mapping) → Held G A c m → OffTables G (A .area) m
   held-off c m = ⊎-elim (off-tables G Z H m) (after-off c m)
 
+  -- and of the tables after a call, but for format's
+  later-off : (c : Call) → AtOnce c → (m : Mapping) → List·Memᴰ m (A .live) → OffTables G (stepL G A c .after .area) m
+  later-off (formatC levels area) o m i = absurd o
+  later-off (addC q n second rest) o m i =
+      off-tables G Z (step-holds G Z H (addC q n second rest) .1) m
+      (subst (λ (L : List Mapping). List·Memᴰ m L) (sym (add-live G A q n (length second) (freeTables G A + length rest))) i)
+  later-off (mapC a b size k) o m i = subst (λ (r : Area). OffTables G r m) (sym (map-area G A a b size k)) (off-tables G Z H m i)
+  later-off (unmapC a) o m i = subst (λ (r : Area). OffTables G r m) (sym (unmap-area G A a)) (off-tables G Z H m i)
+  later-off (askC q) o m i = off-tables G Z H m i
+
+  held-later : (c : Call) → AtOnce c → (m : Mapping) → Held G A c m → OffTables G (stepL G A c .after .area) m
+  held-later c o m = ⊎-elim (later-off c o m) (off-tables G Z (step-holds G Z H c .1) m)
+
   -- ---- what the guest reaches in the middle of a call
 
+  -- a byte of a mapping that is held is no table's of an area that its frame is off
+  not-inside : (c : Call) {r s : Area} (x : ℕ) → s ≡ r → ((m : Mapping) → Held G A c m → OffTables G r m)
+      → (m : Mapping) × Held G A c m × InFrame m x → ¬ InArea G s x
+  not-inside c x e off (m, h, f) i = off m h (record { byte = x; starts = f .0; ends = f .1; inside = subst (λ (r : Area). InArea G r x) e i })
+
   module _ (c : Call) {mem : ℕ → ℕ → ℕ} (D : During G p c mem) where
+    -- a walk under way, by the numbers of the pool
+    told-either : (a : ℕ) → let t = stage2 G (p .numbers .levels) (p .numbers .base) mem a in (t ≡ told (A .live) a) ⊎ (t ≡ told (stepL G A c .after .live) a)
+    told-either = subst
+        (λ (s : Setup). ((h : ℕ) → Stands G (areaOf s) (wordsAfter G (memoryOf G p c) (visible (D .seen h) (writesOf G p c))) (mem h))
+        → (a : ℕ) → let t = stage2 G (s .levels) (s .base) mem a in (t ≡ told (A .live) a) ⊎ (t ≡ told (stepL G A c .after .live) a))
+        (memory-numbers G p c)
+        (promise G Z p A H [] c .overtaken (D .seen) mem)
+        (D .shows)
+
     reached : (x : ℕ) → Reaches G (p .numbers) mem x → (m : Mapping) × Held G A c m × InFrame m x
     reached x R = subst (λ (y : ℕ). (m : Mapping) × Held G A c m × InFrame m y) (R .to)
         (⊎-elim
         (λ e. let (m, i, f) = told-frame (A .live) (R .address) (R .translation) (sym e ∙ R .translates) in (m, inl i, f))
         (λ e. let (m, i, f) = told-frame (stepL G A c .after .live) (R .address) (R .translation) (sym e ∙ R .translates) in (m, inr i, f))
-        (promise G Z p A H [] c .overtaken (D .seen) mem (D .shows) (R .address)))
+        (told-either (R .address)))
 
     off-own : OffOwn G p mem
-    off-own x R i =
-        let (m, h, f) = reached x R in
-        held-off c m h (record { byte = x; starts = f .0; ends = f .1; inside = subst (λ (r : Area). InArea G r x) (H .area-is) i })
+    off-own x R = not-inside c x (H .area-is) (held-off c) (reached x R)
+
+    off-later : AtOnce c → OffLater G p c mem
+    off-later o x R = not-inside c x (step-holds G Z H c .1 .area-is) (held-later c o) (reached x R)
 
   seals : (c : Call) → Sealed G p c
   unfolding performAll
   seals c = record {
-    rest = λ mem S. off-own c (record { seen = λ _. []; shows = λ _. S });
+    rest = λ mem S. off-own auditC (record { seen = λ _. []; shows = λ _. S });
     each-write = λ j mem S. off-own c (record {
       seen = λ _. replicate j true;
-      shows = λ _. subst (λ (ws : List Write). Stands G (areaOf (p .numbers)) (wordsAfter G p ws) mem) (sym (first-visible j (writesOf G p c))) S;
+      shows = λ _. subst (λ (ws : List Write). Stands G (areaOf (p .numbers)) (wordsAfter G (memoryOf G p c) ws) mem) (sym (first-visible j (writesOf G p c))) S;
     });
     during = λ mem D. off-own c D;
+    later = λ o mem D. off-later c D o;
   }
 
 -- ---- two guests
 
 -- what one reaches is none of the other's
 module _ (G : Granule) (Z : Sane G) {p q : Pool} {A B : Ledger} (H : Holds G p A) (K : Holds G q B) (c d : Call) where
-  off-other : ((m : Mapping) → Held G A c m → OffTables G (B .area) m)
+  off-other : ((m : Mapping) → Held G A c m → OffBoth G B d m)
       → ((m k : Mapping) → Held G A c m → Held G B d k → (x : ℕ) → InFrame m x → ¬ InFrame k x)
       → (mem : ℕ → ℕ → ℕ) → During G p c mem → OffOther G p q B d mem
   off-other tables frames mem D = record {
-    tables = λ x R i.
-        let (m, h, f) = reached G Z H c D x R in
-        tables m h (record { byte = x; starts = f .0; ends = f .1; inside = subst (λ (r : Area). InArea G r x) (K .area-is) i });
+    tables = λ x R. not-inside G Z H c x (K .area-is) (λ m h. tables m h .0) (reached G Z H c D x R);
+    later-tables = λ x R. not-inside G Z H c x (step-holds G Z K d .1 .area-is) (λ m h. tables m h .1) (reached G Z H c D x R);
     frames = λ x R k i. let (m, h, f) = reached G Z H c D x R in frames m k h i x f;
   }
 

@@ -90,7 +90,7 @@ module _ (G : Granule) (Z : Sane G) {p : Pool} {A : Ledger} (I : Sim G Z p A) (p
 
   -- each is a zero where a zero was, or a table's word where it will be
   abbrev pub Linked : List ℕ → List ℕ → Write → Type 0
-  Linked old new (store i x) = ((x ≡ 0) × (getD old i 0 ≡ 0)) ⊎ ((c : ℕ) × (x ≡ link c) × (getD new i 0 ≡ x))
+  Linked old new (store i x) = ((x ≡ 0) × (getD old i 0 ≡ 0)) ⊎ ((c : ℕ) × (c < n G Z I) × (x ≡ link c) × (getD new i 0 ≡ x))
   Linked old new (wipe t) = ⊥
   Linked old new (give i t) = Unit {0}
 
@@ -101,7 +101,7 @@ module _ (G : Granule) (Z : Sane G) {p : Pool} {A : Ledger} (I : Sim G Z p A) (p
   links old (suc need) t f l b T m k =
       each-append (Linked old new) (zerosFrom (slot G c 0) K) _
       (each-zeros (Linked old new) (slot G c 0) K (λ j p q. inl (refl, zero-before j p q)))
-      (inr (c, refl, there), links old need c (f - 1) (omega arith) (omega arith) (taking-next (omega arith) T) m₂ k₂)
+      (inr (c, T .each (f - 1) (omega arith), refl, there), links old need c (f - 1) (omega arith) (omega arith) (taking-next (omega arith) T) m₂ k₂)
     where
       c : ℕ
       c = free (f - 1)
@@ -164,7 +164,7 @@ module _ (G : Granule) (Z : Sane G) {p : Pool} {A : Ledger} (I : Sim G Z p A) (p
   linked-sound : (old new : List ℕ) (xs : List Write) → Each (Linked old new) xs → Each (Sound old new) xs
   linked-sound old new [] e = tt
   linked-sound old new (store i x ∷ xs) e =
-      (⊎-elim (λ q. inl (q .0 ∙ sym (q .1))) (λ q. inr (sym (q .2))) (e .0), linked-sound old new xs (e .1))
+      (⊎-elim (λ q. inl (q .0 ∙ sym (q .1))) (λ q. inr (sym (q .3))) (e .0), linked-sound old new xs (e .1))
   linked-sound old new (wipe t ∷ xs) e = absurd (e .0)
   linked-sound old new (give i t ∷ xs) e = (tt, linked-sound old new xs (e .1))
 
@@ -177,13 +177,13 @@ module _ (G : Granule) (Z : Sane G) {p : Pool} {A : Ledger} (I : Sim G Z p A) (p
       (each-append S (but-last need t f) _ (linked-sound old _ (but-last need t f) (links old need t f l b T m k)) (inr (sym (N .final)), tt))
 
   -- and a place that will have no table's word is left at 0 until the last
-  pub but-last-leaves : (old new : List ℕ) (i : ℕ) → ((c : ℕ) → getD new i 0 ≡ link c → ⊥) → (xs : List Write) → Each (Linked old new) xs
+  pub but-last-leaves : (old new : List ℕ) (i : ℕ) → ((c : ℕ) → c < n G Z I → getD new i 0 ≡ link c → ⊥) → (xs : List Write) → Each (Linked old new) xs
       → Each (Leaves i 0) xs
   but-last-leaves old new i d [] e = tt
   but-last-leaves old new i d (store j x ∷ xs) e = (at (e .0), but-last-leaves old new i d xs (e .1))
     where
-      at : ((x ≡ 0) × (getD old j 0 ≡ 0)) ⊎ ((c : ℕ) × (x ≡ link c) × (getD new j 0 ≡ x)) → j ≡ i → x ≡ 0
+      at : ((x ≡ 0) × (getD old j 0 ≡ 0)) ⊎ ((c : ℕ) × (c < n G Z I) × (x ≡ link c) × (getD new j 0 ≡ x)) → j ≡ i → x ≡ 0
       at (inl z) q = z .0
-      at (inr (c, y, z)) q = absurd (d c (ap (λ (k : ℕ). getD new k 0) (sym q) ∙ z ∙ y))
+      at (inr (c, r, y, z)) q = absurd (d c r (ap (λ (k : ℕ). getD new k 0) (sym q) ∙ z ∙ y))
   but-last-leaves old new i d (wipe t ∷ xs) e = absurd (e .0)
   but-last-leaves old new i d (give j t ∷ xs) e = (tt, but-last-leaves old new i d xs (e .1))

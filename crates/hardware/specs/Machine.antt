@@ -28,7 +28,8 @@ use Rattle.model.specs.Writes.{Write, store, wipe, give, memory, performAll, ma
 use Rattle.model.specs.Calls.{walkTo}
 use Rattle.model.specs.Ledger.{Ledger, holdsAddress, coverOf}
 use Rattle.demand.specs.Holds.{Holds}
-use Rattle.demand.specs.Demand3.{Call, formatC, mapC, unmapC, askC, stepW, stepL, poolAfter, ledgerAfter}
+use Rattle.model.specs.Adds.{lent}
+use Rattle.demand.specs.Demand3.{Call, formatC, addC, mapC, unmapC, askC, stepW, stepL, poolAfter, ledgerAfter}
 
 -- ---- the hardware
 
@@ -263,6 +264,11 @@ unfoldable pub placesFrom : ℕ → ℕ → List Write
 placesFrom i zero = []
 placesFrom i (suc k) = give i k ∷ placesFrom (suc i) k
 
+-- k free-list places from place i on: n + k - 1 down to n
+unfoldable pub placesAbove : ℕ → ℕ → ℕ → List Write
+placesAbove n i zero = []
+placesAbove n i (suc k) = give i (n + k) ∷ placesAbove n (suc i) k
+
 -- a planned write as single writes: a table is filled with zeros word by word
 abbrev pub single : Granule → Write → List Write
 single G (store i x) = store i x ∷ []
@@ -291,6 +297,7 @@ tablesIn (refusal k values) = 0
 -- the single writes of an accepted call that takes or gives back t tables
 abbrev pub plan : Granule → Pool → Call → ℕ → List Write
 plan G p (formatC levels area) t = zerosFrom 0 (length (p .words)) ++ placesFrom 0 (total area)
+plan G p (addC q m second rest) t = zerosFrom (p .cut) (entries G * m) ++ placesAbove (p .numbers .tables) (p .numbers .free) m
 plan G p (mapC a b size k) t =
     let g = heightOf G size in
     let o = walkTo G p g a in
@@ -303,6 +310,17 @@ plan G p (askC q) t = []
 -- a refused call writes nothing
 abbrev pub writesOf : Granule → Pool → Call → List Write
 writesOf G p c = let answer = stepW G p c .answer in cond (accepts answer) (plan G p c (tablesIn answer)) []
+
+-- the memory that a call with this answer writes to: the pool's, and for an add that is accepted also the second run and the longer list that it is lent
+abbrev pub writtenTo : Pool → Call → Answer → Pool
+writtenTo p (formatC levels area) r = p
+writtenTo p (addC q m second rest) r = cond (accepts r) (lent p second rest) p
+writtenTo p (mapC a b size k) r = p
+writtenTo p (unmapC a) r = p
+writtenTo p (askC q) r = p
+
+abbrev pub memoryOf : Granule → Pool → Call → Pool
+memoryOf G p c = writtenTo p c (stepW G p c .answer)
 
 -- the pool's words after these writes
 abbrev pub wordsAfter : Granule → Pool → List Write → List ℕ
@@ -344,6 +362,7 @@ module _ (G : Granule) (p : Pool) (L L′ : List Mapping) (ws : List Write) wher
 -- a call whose writes change what is read at once: any but format, which clears the words one after the other, so that its addresses fault in turn
 abbrev pub AtOnce : Call → Type 0
 AtOnce (formatC levels area) = ⊥
+AtOnce (addC q m second rest) = Unit {0}
 AtOnce (mapC a b size k) = Unit {0}
 AtOnce (unmapC a) = Unit {0}
 AtOnce (askC q) = Unit {0}
@@ -353,9 +372,10 @@ abbrev pub heldBy : ℕ → Option Mapping → Bool
 heldBy x none = false
 heldBy x (some m) = holdsAddress x m
 
--- whether a call may change what an address reads: map those of its range, unmap those of the mapping that holds its address, format all
+-- whether a call may change what an address reads: map those of its range, unmap those of the mapping that holds its address, format all, add none
 abbrev pub concerns : Ledger → Call → ℕ → Bool
 concerns A (formatC levels area) x = true
+concerns A (addC q m second rest) x = false
 concerns A (mapC a b size k) x = holdsAddress x (mapping a b size k)
 concerns A (unmapC a) x = heldBy x (coverOf a (A .live))
 concerns A (askC q) x = false
@@ -365,11 +385,11 @@ pub record Machine (G : Granule) (p : Pool) (A : Ledger) (c : Call) : Type 0 whe
   -- at rest every address, past the space too, reads as the ledger says
   pub rest : (mem : ℕ → ℕ) → Stands G (areaOf (p .numbers)) (p .words) mem → Reads G (p .numbers) (λ _. mem) (A .live)
   -- the call's single writes, one after the other, are what it does to the lent memory
-  pub whole : performAll G (writesOf G p c) (memory (p .words) (p .list)) ≡ memory (stepW G p c .after .words) (stepW G p c .after .list)
+  pub whole : performAll G (writesOf G p c) (memory (memoryOf G p c .words) (memoryOf G p c .list)) ≡ memory (stepW G p c .after .words) (stepW G p c .after .list)
   -- after each of them, in whatever order they become visible, and while a walk is under way, the ledger is read, or the one after the call
-  pub each-write : AtOnce c → Switch G p (A .live) (stepL G A c .after .live) (writesOf G p c)
-  pub any-order : AtOnce c → AnyOrder G p (A .live) (stepL G A c .after .live) (writesOf G p c)
-  pub overtaken : Overtaken G p (A .live) (stepL G A c .after .live) (writesOf G p c)
+  pub each-write : AtOnce c → Switch G (memoryOf G p c) (A .live) (stepL G A c .after .live) (writesOf G p c)
+  pub any-order : AtOnce c → AnyOrder G (memoryOf G p c) (A .live) (stepL G A c .after .live) (writesOf G p c)
+  pub overtaken : Overtaken G (memoryOf G p c) (A .live) (stepL G A c .after .live) (writesOf G p c)
   -- and outside the mapping concerned the two say the same
   pub outside : (x : ℕ) → concerns A c x ≡ false → told (stepL G A c .after .live) x ≡ told (A .live) x
 

@@ -215,8 +215,8 @@ module _ (G : Granule) (Z : Sane G) {p : Pool} {B : Ledger} (I : Sim G Z p B) (a
   final : Last G Z I (pathOf G a) g (frameWord b g k) below (s - g) t f new
   final = last G Z I (pathOf G a) g (frameWord b g k) below (s - g) t f (Y .room) high W m₀ long
 
-  no-link : (c : ℕ) → readAt G new u i ≡ tableWord G (area G Z I) c → ⊥
-  no-link c e = not-both Z (area G Z I) c (al G Z I) (good-frame G Z I a b size k F) (sym framed ∙ e)
+  no-link : (c : ℕ) → c < n G Z I → readAt G new u i ≡ tableWord G (area G Z I) c → ⊥
+  no-link c r e = not-both Z (area G Z I) c (al G Z I) r (good-frame G Z I a b size k F) (sym framed ∙ e)
 
   still : (j : ℕ) → readAt G (wordsAfter G p (take j front)) u i ≡ 0
   still j =

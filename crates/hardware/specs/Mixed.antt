@@ -11,7 +11,7 @@ use native.Mathlib.Decide.{ℕ-discrete, decLt, le-ind}
 use borrow.Author.Tests.{lt-ltb, le-ltb}
 use Rattle.path.specs.Geometry.{Granule, Sane, pageSize, entries, sizeAt}
 use Rattle.path.specs.Areas.{Area, areaOf, total, tableAt, GoodArea}
-use Rattle.path.specs.Laws.{entries-pos, size-pos}
+use Rattle.path.specs.Laws.{entries-pos, size-pos, table-first}
 use Rattle.model.specs.Answers as answers
 use Rattle.model.specs.Answers.{Pool}
 use Rattle.model.specs.Ledger.{Ledger}
@@ -292,7 +292,7 @@ module _ (G : Granule) (Z : Sane G) {p : Pool} {A : Ledger} (I : Sim G Z p A) wh
         let t = R′ .root-at in
         let j = root-at G Z I in
         let u : T′ (suc k) (anc K (suc k) v) ≡ 0 = cc in
-        (cc, rw u (omega arith))
+        (cc, rw u (table-first G (area G Z I) 0 (I .good .numbers .some-table) ∙ omega arith))
 
     gives-in : (v a : ℕ) → anc K top v ≡ 0 → anc K top (pg G Z a) ≡ anc K top v → gives mem a ≡ walk G mem a k (root v)
     gives-in v a e q = rw (lt-ltb a (inputEnd G top) (space-in a (q ∙ e)), root-is v e .1)

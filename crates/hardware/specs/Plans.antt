@@ -1,5 +1,5 @@
 -- Single writes: carried out they are what the planned writes do; and after any part of them each word is as before the call or as after it.
-use mathlib.Core.Path.{_≡_, refl, ap, sym, _∙_, subst}
+use mathlib.Core.Path.{_≡_, refl, ap, ap₂, sym, _∙_, subst}
 use mathlib.Core.Logic.{_⊎_, inl, inr, ⊎-elim}
 use mathlib.Core.Bool.{Bool, true, false, not}
 use mathlib.Core.List.{List, [], _∷_, _++_, append-assoc, append-nil}
@@ -7,19 +7,20 @@ use Prim.Native.Nat.{ℕ, zero, suc, _+_, _-_, _*_, _≤_, _<_}
 use native.Mathlib.Omega.{arith}
 use native.Mathlib.Decide.{ℕ-discrete, decLt}
 use lib.Dec.{ltb}
-use lib.ListN.{length, getD, set, take, replicate, length-set}
-use lib.Seq.{ext-getD, set-out, getD-set-same, getD-set-other, take-suc-set, take-all}
+use lib.ListN.{length, getD, set, take, drop, replicate, length-set, take-append-drop}
+use lib.Seq.{ext-getD, set-out, getD-set-same, getD-set-other, take-suc-set, take-all, drop-set-lt}
 use borrow.Author.Tests.{ltb-true}
 use Rattle.laws.specs.Lists.{zeroed, down, among}
-use Rattle.laws.specs.ListLaws.{length-zeroed, getD-zeroed, getD-zeroed-before, getD-zeroed-after, getD-past}
+use Rattle.laws.specs.ListLaws.{length-zeroed, getD-zeroed, getD-zeroed-before, getD-zeroed-after, getD-past, down-suc}
 use Rattle.path.specs.Geometry.{Granule, entries}
 use Rattle.path.specs.Areas.{Area, areaOf, total, tableAt, GoodArea}
 use Rattle.model.specs.Walk.{slot}
 use Rattle.model.specs.Writes.{Write, store, wipe, give, Memory, memory, perform, performAll, mapWrites, mayTake, pruneWrites}
+use Rattle.model.specs.Adds.{appended}
 use Rattle.model.specs.LeftLaws.{perform-length}
 use Rattle.model.specs.LedgerLaws.{and-true}
 use Rattle.demand.specs.Memories.{table-ends}
-use Rattle.hardware.specs.Machine.{zerosFrom, placesFrom, single, singles, visible}
+use Rattle.hardware.specs.Machine.{zerosFrom, placesFrom, placesAbove, single, singles, visible}
 
 -- ---- lists of writes
 
@@ -136,6 +137,23 @@ unfolding placesFrom
 places-clear zero i = tt
 places-clear (suc k) i = (tt, places-clear k (suc i))
 
+-- of words from place c on alone
+abbrev pub Beyond : ℕ → Write → Type 0
+Beyond c (store i x) = c ≤ i
+Beyond c (wipe t) = ⊥
+Beyond c (give i t) = Unit {0}
+
+pub beyond-leave : (c i x : ℕ) → i < c → (xs : List Write) → Each (Beyond c) xs → Each (Leaves i x) xs
+beyond-leave c i x l [] e = tt
+beyond-leave c i x l (store j y ∷ xs) e = (λ q. absurd (omega (arith, e .0)), beyond-leave c i x l xs (e .1))
+beyond-leave c i x l (wipe t ∷ xs) e = absurd (e .0)
+beyond-leave c i x l (give j t ∷ xs) e = (tt, beyond-leave c i x l xs (e .1))
+
+pub places-beyond : (c n k i : ℕ) → Each (Beyond c) (placesAbove n i k)
+unfolding placesAbove
+places-beyond c n zero i = tt
+places-beyond c n (suc k) i = (tt, places-beyond c n k (suc i))
+
 -- ---- carried out
 
 module _ (G : Granule) where
@@ -157,6 +175,22 @@ module _ (G : Granule) where
   places-carried (suc k) i ws l e =
       places-carried k (suc i) ws (set l i k) (omega (arith, length-set l i k))
       ∙ ap (memory ws) (ap (λ (x : List ℕ). x ++ down k) (take-suc-set l i k (omega arith)) ∙ append-assoc (take i l) (k ∷ []) (down k))
+
+  -- and more of it
+  pub above-carried : (n k i : ℕ) (ws l : List ℕ) → i + k ≤ length l → performAll G (placesAbove n i k) (memory ws l) ≡ memory ws (appended n k i l)
+  unfolding performAll placesAbove appended
+  above-carried n zero i ws l e = let z : i + 0 ≡ i = omega arith in ap (memory ws) (sym (take-append-drop i l) ∙ ap (λ (x : ℕ). take i l ++ drop x l) (sym z))
+  above-carried n (suc k) i ws l e =
+      above-carried n k (suc i) ws (set l i (n + k)) (omega (arith, length-set l i (n + k)))
+      ∙ ap (memory ws) (ap₂ _++_ (take-suc-set l i (n + k) (omega arith)) (ap (λ (x : List ℕ). take k (down (n + k)) ++ x) late)
+      ∙ append-assoc (take i l) ((n + k) ∷ []) (take k (down (n + k)) ++ drop (i + suc k) l)
+      ∙ ap (λ (x : List ℕ). take i l ++ (x ++ drop (i + suc k) l)) (sym next))
+    where
+      late : drop (suc i + k) (set l i (n + k)) ≡ drop (i + suc k) l
+      late = let s : suc i + k ≡ i + suc k = omega arith in drop-set-lt (suc i + k) l i (n + k) (omega arith) ∙ ap (λ (x : ℕ). drop x l) s
+
+      next : take (suc k) (down (n + suc k)) ≡ (n + k) ∷ take k (down (n + k))
+      next = let s : n + suc k ≡ suc (n + k) = omega arith in rw (s, down-suc (n + k))
 
   -- a table to wipe lies in so many words
   abbrev pub InRange : ℕ → Write → Type 0

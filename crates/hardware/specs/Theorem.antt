@@ -3,37 +3,41 @@ use mathlib.Core.Path.{_≡_, refl, ap, sym, _∙_, subst}
 use mathlib.Core.Logic.{_≢_, inl}
 use mathlib.Core.Bool.{Bool, true, false, cond}
 use mathlib.Core.List.{List, [], _∷_, _++_, map}
-use Prim.Native.Nat.{ℕ, zero, suc, _-_, _<_}
+use Prim.Native.Nat.{ℕ, zero, suc, _+_, _-_, _*_, _<_}
 use native.Mathlib.Omega.{arith}
+use native.Mathlib.Nat.{mul-add}
 use lib.ListN.{length, take, replicate}
+use lib.Seq.{length-take-le, getD-take}
 use Rattle.laws.specs.Lists.{down}
-use Rattle.laws.specs.ListLaws.{allZero-at, allZero-replicate, getD-down}
-use Rattle.path.specs.Geometry.{Granule, Sane, four}
+use Rattle.laws.specs.ListLaws.{allZero-at, allZero-replicate, getD-down, getD-first}
+use Rattle.path.specs.Geometry.{Granule, Sane, entries, four}
 use Rattle.path.specs.Areas.{Area, areaOf, total, tableAt, GoodArea}
 use Rattle.path.specs.Laws.{four-sane}
 use Rattle.path.specs.Numbers.{GoodNumbers}
 use Rattle.model.specs.Answers.{Mapping, mapping, Answer, Pool, Done}
 use Rattle.model.specs.Walk.{slot}
 use Rattle.model.specs.Writes.{Write, Memory, memory, performAll}
-use Rattle.model.specs.Ledger.{Ledger, coverOf, dropAt}
+use Rattle.model.specs.Ledger.{Ledger, coverOf, dropAt, freeTables}
+use Rattle.model.specs.Adds.{lent, addW}
+use Rattle.model.specs.AddLaws.{AddView, add-grows, add-refuses, add-view, may-add}
 use Rattle.tree.specs.Region.{Same, same?, upd, upd-at, upd-other}
 use Rattle.tree.specs.Tree.{Ent, empty, table, table≢empty}
 use Rattle.tree.specs.Inv.{Inv}
 use Rattle.tree.specs.Fresh.{T₀, S₀, fresh}
 use Rattle.demand.specs.Shown.{shown}
-use Rattle.demand.specs.Memories.{readAt, placeAt}
+use Rattle.demand.specs.Memories.{readAt, placeAt, in-table}
 use Rattle.demand.specs.Sims.{Sim, holds-sim}
 use Rattle.demand.specs.Queries.{n, k₀, X, R, own, ledger-is, root-at}
 use Rattle.demand.specs.Maps.{own-sim}
 use Rattle.demand.specs.Theorem.{step-alike, after-sim}
-use Rattle.demand.specs.Demand3.{Call, formatC, mapC, unmapC, askC, askW, stepW, stepL}
-use Rattle.hardware.specs.Machine.{told, Stands, Reads, zerosFrom, placesFrom, accepts, tablesIn, plan, writesOf, wordsAfter, visible}
+use Rattle.demand.specs.Demand3.{Call, formatC, addC, mapC, unmapC, askC, askW, goBack, stepW, stepL}
+use Rattle.hardware.specs.Machine.{told, Stands, Reads, zerosFrom, placesFrom, placesAbove, accepts, tablesIn, plan, writesOf, writtenTo, memoryOf, wordsAfter, visible}
 use Rattle.hardware.specs.Machine.{AtOnce, concerns, Machine, Promise}
 use Rattle.hardware.specs.Trees.{Within, within-same}
-use Rattle.hardware.specs.Plans.{Each, each-append, each-zeros, Sound, Clears, clears-sound, places-clear}
+use Rattle.hardware.specs.Plans.{Each, each-append, each-take, each-visible, each-zeros, Beyond, beyond-leave, places-beyond, left, Sound, Clears, clears-sound, places-clear}
 use Rattle.hardware.specs.Views.{no-write, MapView, map-takes, map-refuses, map-view, UnmapView, unmap-gives, unmap-refuses, unmap-view}
 use Rattle.hardware.specs.Views.{FormatView, format-clears, format-refuses, format-view, format-carries}
-use Rattle.hardware.specs.Views.{writes-carried, map-live, unmap-live, format-live}
+use Rattle.hardware.specs.Views.{writes-carried, map-live, unmap-live, format-live, add-live}
 use Rattle.hardware.specs.Watch.{Seen, at-rest, overtaken-up, overtaken-down}
 use Rattle.hardware.specs.MapSeen.{map-seen}
 use Rattle.hardware.specs.UnmapSeen.{unmap-seen, unmap-outside}
@@ -41,12 +45,14 @@ use Rattle.hardware.specs.UnmapSeen.{unmap-seen, unmap-outside}
 -- the live mappings after a call, by its answer
 abbrev liveBy : List Mapping → Call → Answer → List Mapping
 liveBy L (formatC levels area) r = cond (accepts r) [] L
+liveBy L (addC q m second rest) r = L
 liveBy L (mapC a b size k) r = cond (accepts r) (mapping a b size k ∷ L) L
 liveBy L (unmapC a) r = cond (accepts r) (dropAt a L) L
 liveBy L (askC q) r = L
 
 live-by : (G : Granule) (A : Ledger) (c : Call) → stepL G A c .after .live ≡ liveBy (A .live) c (stepL G A c .answer)
 live-by G A (formatC levels area) = format-live G A levels area
+live-by G A (addC q m second rest) = add-live G A q m (length second) (freeTables G A + length rest)
 live-by G A (mapC a b size k) = map-live G A a b size k
 live-by G A (unmapC a) = unmap-live G A a
 live-by G A (askC q) = refl
@@ -79,7 +85,7 @@ module _ (G : Granule) (Z : Sane G) {p : Pool} {A : Ledger} (I : Sim G Z p A) wh
   idle-or b One = subst (λ (ws : List Write). Seen G p live live ws One) (sym (no-write b)) (idle One)
 
   -- format: the words go to 0 one after the other, and with them the tree that only its root is left of
-  module _ (levels : ℕ) (area : Area) (N : GoodNumbers G levels area (length (p .words)) (length (p .list))) where
+  module _ (levels : ℕ) (area : Area) (N : GoodNumbers G levels area (p .cut) (length (p .words)) (length (p .list))) where
     abbrev zeros : List ℕ
     zeros = replicate (length (p .words)) 0
 
@@ -87,7 +93,7 @@ module _ (G : Granule) (Z : Sane G) {p : Pool} {A : Ledger} (I : Sim G Z p A) wh
     ws = zerosFrom 0 (length (p .words)) ++ placesFrom 0 (total area)
 
     some : 0 < n G Z I
-    some = I .good .numbers .some-table
+    some = omega (arith, I .good .numbers .some-table)
 
     -- the root alone
     abbrev T₁ : ℕ → ℕ → ℕ
@@ -143,9 +149,49 @@ module _ (G : Granule) (Z : Sane G) {p : Pool} {A : Ledger} (I : Sim G Z p A) wh
       overtaken = overtaken-down G Z I zeros (bare .ren) (bare .holds) ws sound within (bare .spare tt .zeros);
     }
 
+  -- add: no walk sees what is written, which lies past the tables of the pool as it is
+  module _ (q m : ℕ) (second rest : List ℕ) where
+    abbrev p₁ : Pool
+    p₁ = lent p second rest
+
+    abbrev new : List Write
+    new = zerosFrom (p .cut) (entries G * m) ++ placesAbove (p .numbers .tables) (p .numbers .free) m
+
+    beyond : Each (Beyond (p .cut)) new
+    beyond =
+        each-append (Beyond (p .cut)) (zerosFrom (p .cut) (entries G * m)) (placesAbove (p .numbers .tables) (p .numbers .free) m)
+        (each-zeros (Beyond (p .cut)) (p .cut) (entries G * m) (λ j l _. l)) (places-beyond (p .cut) (p .numbers .tables) m (p .numbers .free))
+
+    module _ (none-yet : areaOf (p .numbers) .tables₂ ≡ 0) where
+      -- whatever part of it is visible, the pool's words stand in memory
+      unseen : (xs : List Write) → Each (Beyond (p .cut)) xs → (mem : ℕ → ℕ) → Stands G (areaOf (p .numbers)) (wordsAfter G p₁ xs) mem
+          → Stands G (areaOf (p .numbers)) (p .words) mem
+      unseen xs e mem S t i l b = S t i l b ∙ left G (slot G t i) (readAt G (p .words) t i) xs (beyond-leave (p .cut) (slot G t i) _ low xs e) (memory (p₁ .words) (p₁ .list)) before
+        where
+          low : slot G t i < p .cut
+          low = let k : t < p .numbers .tables = omega arith in omega (arith, I .good .numbers .cut-is, in-table (entries G) k b)
+
+          long : length (take (p .cut) (p .words)) ≡ p .cut
+          long = length-take-le (p .cut) (p .words) (omega (arith, I .good .numbers .cut-is, I .good .numbers .words-are, mul-add (entries G) (p .numbers .tables) (areaOf (p .numbers) .tables₂)))
+
+          before : readAt G (p₁ .words) t i ≡ readAt G (p .words) t i
+          before = getD-first (take (p .cut) (p .words)) second (slot G t i) (omega (arith, long, low)) ∙ getD-take (p .cut) (p .words) (slot G t i) 0 low
+
+      add-seen : Seen G p₁ live live new (Unit {0})
+      unfolding performAll
+      add-seen = record {
+        each-write = λ _. record {
+          at = 0;
+          old = λ j l mem S. at-rest G Z I mem (unseen (take j new) (each-take (Beyond (p .cut)) j new beyond) mem S);
+          new = λ j l mem S. at-rest G Z I mem (unseen (take j new) (each-take (Beyond (p .cut)) j new beyond) mem S);
+        };
+        any-order = λ _ seen mem S. inl (at-rest G Z I mem (unseen (visible seen new) (each-visible (Beyond (p .cut)) seen new beyond) mem S));
+        overtaken = λ seen mem S a. idle (Unit {0}) .overtaken (λ _. []) mem (λ h. unseen (visible (seen h) new) (each-visible (Beyond (p .cut)) (seen h) new beyond) (mem h) (S h)) a;
+      }
+
   -- every call, by its answer
   abbrev By : Call → Done → Type 0
-  By c d = Seen G p live (liveBy live c (d .answer)) (cond (accepts (d .answer)) (plan G p c (tablesIn (d .answer))) []) (AtOnce c)
+  By c d = Seen G (writtenTo p c (d .answer)) live (liveBy live c (d .answer)) (cond (accepts (d .answer)) (plan G p c (tablesIn (d .answer))) []) (AtOnce c)
 
   seen : (c : Call) → By c (stepW G p c)
   seen (formatC levels area) = go (stepW G p (formatC levels area)) (format-view G p levels area)
@@ -153,6 +199,11 @@ module _ (G : Granule) (Z : Sane G) {p : Pool} {A : Ledger} (I : Sim G Z p A) wh
       go : (d : Done) → FormatView G p levels area d → By (formatC levels area) d
       go d (format-clears N) = format-seen levels area N
       go d format-refuses = idle ⊥
+  seen (addC q m second rest) = go (addW G (lent p second rest) q m) (add-view G (lent p second rest) q m)
+    where
+      go : (d : Done) → AddView G (lent p second rest) q m d → By (addC q m second rest) (goBack p d (d .answer))
+      go d (add-grows a b c) = add-seen q m second rest (may-add G (lent p second rest) q m a .0 .one-yet .1)
+      go d (add-refuses k) = idle (Unit {0})
   seen (mapC a b size k) = go (stepW G p (mapC a b size k)) (map-view G p a b size k)
     where
       go : (d : Done) → MapView G p a b size k d → By (mapC a b size k) d
@@ -169,6 +220,7 @@ module _ (G : Granule) (Z : Sane G) {p : Pool} {A : Ledger} (I : Sim G Z p A) wh
   elsewhere : (c : Call) (x : ℕ) → concerns (own G Z I) c x ≡ false → told (liveBy live c (stepW G p c .answer)) x ≡ told live x
   unfolding coverOf
   elsewhere (formatC levels area) x e = let z : _≡_ {A = ℕ} 0 1 = cc in absurd (omega arith)
+  elsewhere (addC q m second rest) x e = refl
   elsewhere (mapC a b size k) x e = go (accepts (stepW G p (mapC a b size k) .answer))
     where
       go : (y : Bool) → told (cond y (mapping a b size k ∷ live) live) x ≡ told live x
@@ -195,8 +247,8 @@ module _ (G : Granule) (Z : Sane G) {p : Pool} {A : Ledger} (I : Sim G Z p A) wh
     outside = λ x e. ap (λ (L : List Mapping). told L x) (sym (after-is c)) ∙ elsewhere c x e;
   }
     where
-      S : Seen G p live (stepL G (own G Z I) c .after .live) (writesOf G p c) (AtOnce c)
-      S = subst (λ (L : List Mapping). Seen G p live L (writesOf G p c) (AtOnce c)) (after-is c) (seen c)
+      S : Seen G (memoryOf G p c) live (stepL G (own G Z I) c .after .live) (writesOf G p c) (AtOnce c)
+      S = subst (λ (L : List Mapping). Seen G (memoryOf G p c) live L (writesOf G p c) (AtOnce c)) (after-is c) (seen c)
 
   pub machine : (c : Call) → Machine G p A c
   machine c = subst (λ (B : Ledger). Machine G p B c) (sym (ledger-is G Z I)) (machine-own c)

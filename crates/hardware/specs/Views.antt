@@ -6,28 +6,32 @@ use mathlib.Core.Option.{Option, some, none}
 use Prim.Native.Nat.{ℕ, _+_, _-_, _*_, _%_, _≤_}
 use native.Mathlib.Omega.{arith}
 use lib.Dec.{ltb, eqb}
-use lib.ListN.{length, replicate, drop-of-length-le}
+use native.Mathlib.Nat.{mul-add}
+use lib.ListN.{length, take, drop, replicate, length-drop, drop-of-length-le}
 use borrow.Author.Tests.{ltb-false, eqb-true}
 use Rattle.laws.specs.Lists.{zeroed, down}
 use Rattle.laws.specs.ListLaws.{zeroed-is}
 use Rattle.path.specs.Geometry.{Granule, entries, sizeAt, heightOf}
-use Rattle.path.specs.Areas.{Area, areaOf, total, tableAt, GoodArea}
-use Rattle.path.specs.Numbers.{noSetup, setupOf, goodNumbers, GoodNumbers}
+use Rattle.path.specs.Areas.{Area, areaOf, oneRegion, withSecond, total, tableAt, GoodArea}
+use Rattle.path.specs.Numbers.{noSetup, setupOf, goodNumbers, goodAdding, GoodNumbers, GoodAdding}
 use Rattle.path.specs.Laws.{good-numbers, good-setup}
 use Rattle.path.specs.Paths.{baseAt, pathOf}
 use Rattle.entry.specs.Words.{frameWord}
 use Rattle.entry.specs.declared.Entry.{Entry}
 use Rattle.entry.specs.declared.Entry.the-variants.{Empty, Table, Frame, Damaged}
 use Rattle.model.specs.declared.Walked.{Walked}
-use Rattle.model.specs.Answers.{Mapping, mapping, formatted, took, gave, refusal, refused, Pool, pool, Done, done, refuse}
+use Rattle.model.specs.Answers.{Mapping, mapping, formatted, added, took, gave, refusal, refused, Pool, pool, Done, done, refuse}
 use Rattle.model.specs.Walk.{atHeight}
 use Rattle.model.specs.Writes.{Write, memory, performAll, mapWrites, mayTake, freed, unmapWrites}
 use Rattle.model.specs.Calls.{goodPool, written, walkTo, formatW, mapTests, mapHere, mapAt, mapW, unmapTests, unmapHere, unmapAt, unmapW}
 use Rattle.model.specs.Ledger.{Ledger, ledger, withLive, anyOverlap, coverOf, dropAt, freeTables, tablesLacking}
-use Rattle.model.specs.Ledger.{Entered, entered, formatL, mapL, unmapOf, unmapL}
-use Rattle.demand.specs.Demand3.{Call, formatC, mapC, unmapC, askC, askW, goOn, stepW}
-use Rattle.hardware.specs.Machine.{zerosFrom, placesFrom, accepts, tablesIn, plan, writesOf}
-use Rattle.hardware.specs.Plans.{Each, InRange, perform-append, zeros-carried, singles-carried, places-carried, map-range, prune-range}
+use Rattle.model.specs.Ledger.{Entered, entered, formatL, addL, mapL, unmapOf, unmapL}
+use Rattle.model.specs.Audit.{noneInside}
+use Rattle.model.specs.Adds.{lent, grown, addW}
+use Rattle.model.specs.AddLaws.{AddView, add-grows, add-refuses, add-view, may-add}
+use Rattle.demand.specs.Demand3.{Call, formatC, addC, mapC, unmapC, askC, askW, goOn, goBack, stepW}
+use Rattle.hardware.specs.Machine.{zerosFrom, placesFrom, placesAbove, accepts, tablesIn, plan, writesOf, writtenTo, memoryOf}
+use Rattle.hardware.specs.Plans.{Each, InRange, perform-append, zeros-carried, singles-carried, places-carried, above-carried, map-range, prune-range}
 
 -- the single writes of a call that came to d
 abbrev writesBy : Granule → Pool → Call → Done → List Write
@@ -191,21 +195,21 @@ module _ (G : Granule) (p : Pool) where
     zeros = replicate (length (p .words)) 0
 
     abbrev formatting : Done
-    formatting = done formatted (pool (setupOf levels area (total area - 1)) zeros (down (total area)))
+    formatting = done formatted (pool (setupOf levels area (total area - 1)) zeros (p .cut) (down (total area)))
 
     -- what a format comes to
     pub data FormatView : Done → Type 0 where
-      format-clears : GoodNumbers G levels area (length (p .words)) (length (p .list)) → FormatView formatting
+      format-clears : GoodNumbers G levels area (p .cut) (length (p .words)) (length (p .list)) → FormatView formatting
       format-refuses : FormatView (done (refused 1) p)
 
     pub format-view : FormatView (stepW G p (formatC levels area))
     unfolding formatW
-    format-view = go (goodNumbers G levels area (length (p .words)) (length (p .list))) refl
+    format-view = go (goodNumbers G levels area (p .cut) (length (p .words)) (length (p .list))) refl
       where
         came : Bool → Done
-        came y = cond y formatting (refuse 1 (pool noSetup (p .words) (p .list)))
+        came y = cond y formatting (refuse 1 (pool noSetup (p .words) (p .cut) (p .list)))
 
-        go : (y : Bool) → goodNumbers G levels area (length (p .words)) (length (p .list)) ≡ y → FormatView (goOn p (came y) (came y .answer))
+        go : (y : Bool) → goodNumbers G levels area (p .cut) (length (p .words)) (length (p .list)) ≡ y → FormatView (goOn p (came y) (came y .answer))
         go true e = format-clears (good-numbers e)
         go false e = format-refuses
 
@@ -224,11 +228,44 @@ module _ (G : Granule) (p : Pool) where
         ∙ places-carried G (total area) 0 zeros (p .list) (omega (arith, N .places-are))
     format-carries d format-refuses = refl
 
+  -- ---- add
+
+  module _ (q m : ℕ) (second rest : List ℕ) where
+    abbrev p₁ : Pool
+    p₁ = lent p second rest
+
+    add-carries : (d : Done) → AddView G p₁ q m d
+        → (let e = goBack p d (d .answer) in
+        let r = writtenTo p (addC q m second rest) (e .answer) in
+        performAll G (writesBy G p (addC q m second rest) e) (memory (r .words) (r .list)) ≡ memory (e .after .words) (e .after .list))
+    unfolding performAll
+    add-carries d (add-refuses k) = refl
+    add-carries d (add-grows a b c) = grows (may-add G p₁ q m a .0)
+      where
+        grows : GoodAdding G (p .numbers .levels) (areaOf (p .numbers)) q m (p .cut) (length (p₁ .words)) (length (p₁ .list))
+            → performAll G (zerosFrom (p .cut) (entries G * m) ++ placesAbove (p .numbers .tables) (p .numbers .free) m) (memory (p₁ .words) (p₁ .list))
+            ≡ memory (grown G p₁ q m .words) (grown G p₁ q m .list)
+        grows g =
+            let N = g .numbers in
+            let s = mul-add (entries G) (p .numbers .tables) m in
+            let w : p .cut + entries G * m ≡ length (p₁ .words) = omega (arith, N .cut-is, N .words-are) in
+            let zeroes : zeroed (p₁ .words) (p .cut) (entries G * m) ≡ grown G p₁ q m .words =
+            zeroed-is (p₁ .words) (p .cut) (entries G * m) (omega arith)
+            ∙ ap (λ (l : List ℕ). take (p .cut) (p₁ .words) ++ (replicate (entries G * m) 0 ++ l))
+            (drop-of-length-le (drop (p .cut) (p₁ .words)) {i = entries G * m} (omega (arith, length-drop (p .cut) (p₁ .words))))
+            ∙ ap (λ (l : List ℕ). take (p .cut) (p₁ .words) ++ l) (append-nil (replicate (entries G * m) 0)) in
+            perform-append G (zerosFrom (p .cut) (entries G * m)) (placesAbove (p .numbers .tables) (p .numbers .free) m) (memory (p₁ .words) (p₁ .list))
+            ∙ ap (performAll G (placesAbove (p .numbers .tables) (p .numbers .free) m))
+            (zeros-carried G (entries G * m) (p .cut) (p₁ .words) (p₁ .list) (omega arith) ∙ ap (λ (ws : List ℕ). memory ws (p₁ .list)) zeroes)
+            ∙ above-carried G (p .numbers .tables) m (p .numbers .free) (grown G p₁ q m .words) (p₁ .list)
+            (omega (arith, N .places-are, may-add G p₁ q m a .1, g .one-yet .1))
+
   -- a call's single writes are what it does to the lent memory, whatever the pool
   pub writes-carried : (c : Call)
-      → performAll G (writesOf G p c) (memory (p .words) (p .list)) ≡ memory (stepW G p c .after .words) (stepW G p c .after .list)
+      → performAll G (writesOf G p c) (memory (memoryOf G p c .words) (memoryOf G p c .list)) ≡ memory (stepW G p c .after .words) (stepW G p c .after .list)
   unfolding performAll
   writes-carried (formatC levels area) = format-carries levels area _ (format-view levels area)
+  writes-carried (addC q m second rest) = add-carries q m second rest _ (add-view G (lent p second rest) q m)
   writes-carried (mapC a b size k) = map-carries a b size k _ (map-view a b size k)
   writes-carried (unmapC a) = unmap-carries a _ (unmap-view a)
   writes-carried (askC q) = ap (λ (ws : List Write). performAll G ws (memory (p .words) (p .list))) (no-write (accepts (askW G p q)))
@@ -299,5 +336,15 @@ module _ (G : Granule) (A : Ledger) where
   pub format-live : (levels : ℕ) (area : Area) → By A [] (formatL G A levels area)
   unfolding formatL
   format-live levels area =
-      let good = goodNumbers G levels area (entries G * total (A .area)) (total (A .area)) in
+      let good = goodNumbers G levels area (entries G * A .area .tables) (entries G * total (A .area)) (total (A .area)) in
       by A [] good (entered formatted (ledger levels area [])) (entered (refused 1) A) refl refl
+
+  -- an add keeps the mappings
+  pub add-live : (q m second places : ℕ) → addL G A q m second places .after .live ≡ A .live
+  unfolding addL
+  add-live q m second places = go (goodAdding G (A .levels) (A .area) q m (entries G * A .area .tables) (entries G * A .area .tables + second) places) (noneInside G (oneRegion q m) (A .live))
+    where
+      go : (x y : Bool) → cond x (cond y (entered added (ledger (A .levels) (withSecond (A .area) q m) (A .live))) (entered (refused 11) A)) (entered (refused 1) A) .after .live ≡ A .live
+      go true true = refl
+      go true false = refl
+      go false y = refl

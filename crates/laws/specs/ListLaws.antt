@@ -1,9 +1,9 @@
 -- Laws of parts, zeros and members of lists.
 use Prim.Native.Nat.{ℕ, zero, suc, _+_, _-_, _≤_, _<_, zero-le, suc-le-suc}
-use mathlib.Core.Path.{_≡_, refl, sym, ap, _∙_, subst}
+use mathlib.Core.Path.{_≡_, refl, sym, ap, ap₂, _∙_, subst}
 use mathlib.Core.Logic.{⊎-elim}
 use mathlib.Core.Bool.{Bool, true, false, _&&_, _||_, not, true≢false, false≢true, and-eq-true-iff, and-true, or-true, or-false, and-assoc, or-assoc, or-comm}
-use mathlib.Core.List.{List, [], _∷_, _++_, List·Memᴰ, List·Memᴰ·head as here, List·Memᴰ·tail as there, List·Memᴰ·not-nil, List·Memᴰ·cases-cons, List·Memᴰ·append-cases, Memᴰ·append-left, Memᴰ·append-right}
+use mathlib.Core.List.{List, [], _∷_, _++_, List·Memᴰ, List·Memᴰ·head as here, List·Memᴰ·tail as there, List·Memᴰ·not-nil, List·Memᴰ·cases-cons, List·Memᴰ·append-cases, Memᴰ·append-left, Memᴰ·append-right, append-assoc}
 use native.Mathlib.Nat.{not-suc-le-zero, le-of-suc-le-suc, suc-sub-suc, sub-zero, zero-sub}
 use native.Mathlib.Numerals.{add-one}
 use native.Mathlib.Decide.{decLe, decLt, ℕ-discrete}
@@ -397,6 +397,10 @@ distinct-of (x ∷ xs) f =
 
 -- ---- counting down
 
+pub down-suc : (n : ℕ) → down (suc n) ≡ n ∷ down n
+unfolding down
+down-suc n = refl
+
 pub length-down : (n : ℕ) → length (down n) ≡ n
 unfolding down
 length-down zero = refl
@@ -438,3 +442,76 @@ pub down-more : (n i : ℕ) (ys : List ℕ) → i < n → i < length ys → set 
 down-more n i ys h k =
     let q : i < length (down n) = simp length-down h in
     rw (add-one, ← getD-down n i h) (copy (down n) ys i q k)
+
+-- two runs put together are told apart by the length of the first
+pub append-one : (a b c d : List ℕ) → length a ≡ length c → a ++ b ≡ c ++ d → (a ≡ c) × (b ≡ d)
+append-one [] b [] d l e = (refl, e)
+append-one [] b (y ∷ c) d l e = absurd (omega arith)
+append-one (x ∷ a) b [] d l e = absurd (omega arith)
+append-one (x ∷ a) b (y ∷ c) d l e =
+    let h : x ≡ y = cc in
+    let t : a ++ b ≡ c ++ d = cc in
+    let (p, q) = append-one a b c d (omega arith) t in
+    (ap₂ _∷_ h p, q)
+
+-- the first run of two
+pub take-first : (a b : List ℕ) (k : ℕ) → k ≡ length a → take k (a ++ b) ≡ a
+take-first a b k e = rw e (take-append-le (length a) a b (omega arith) ∙ take-all (length a) a (omega arith))
+
+-- a place of the first run, and of the second
+pub getD-first : (a b : List ℕ) (i : ℕ) → i < length a → getD (a ++ b) i 0 ≡ getD a i 0
+getD-first a b i l = sym (getD-take (length a) (a ++ b) i 0 l) ∙ ap (λ (x : List ℕ). getD x i 0) (take-first a b (length a) refl)
+
+pub getD-later : (a b : List ℕ) (i : ℕ) → length a ≤ i → getD (a ++ b) i 0 ≡ getD b (i - length a) 0
+getD-later a b i l = let e : length a + (i - length a) ≡ i = omega arith in rw e at (getD-append-add a b (i - length a) 0)
+
+-- a part of the first run, and of the second
+pub part-first : (a b : List ℕ) (at k : ℕ) → at + k ≤ length a → part (a ++ b) at k ≡ part a at k
+unfolding part
+part-first a b at k l =
+    ap (take k) (drop-append-le at a b (omega arith)) ∙ take-append-le k (drop at a) b (omega (arith, length-drop at a))
+
+drop-later : (a b : List ℕ) (i : ℕ) → length a ≤ i → drop i (a ++ b) ≡ drop (i - length a) b
+drop-later [] b i l = rw (sub-zero i)
+drop-later (x ∷ a) b zero l = absurd (omega arith)
+drop-later (x ∷ a) b (suc i) l = drop-later a b i (omega arith) ∙ ap (λ (j : ℕ). drop j b) (sym (suc-sub-suc i (length a)))
+
+pub part-later : (a b : List ℕ) (at k : ℕ) → length a ≤ at → part (a ++ b) at k ≡ part b (at - length a) k
+unfolding part
+part-later a b at k l = ap (take k) (drop-later a b at l)
+
+-- a number of the first run set, and one of the second
+pub set-first : (a b : List ℕ) (i x : ℕ) → i < length a → set (a ++ b) i x ≡ set a i x ++ b
+set-first [] b i x l = absurd (omega arith)
+set-first (y ∷ a) b zero x l = refl
+set-first (y ∷ a) b (suc i) x l = ap (λ (c : List ℕ). y ∷ c) (set-first a b i x (omega arith))
+
+pub set-later : (a b : List ℕ) (i x : ℕ) → length a ≤ i → set (a ++ b) i x ≡ a ++ set b (i - length a) x
+set-later [] b i x l = rw (sub-zero i)
+set-later (y ∷ a) b zero x l = absurd (omega arith)
+set-later (y ∷ a) b (suc i) x l =
+    ap (λ (c : List ℕ). y ∷ c) (set-later a b i x (omega arith) ∙ ap (λ (j : ℕ). a ++ set b j x) (sym (suc-sub-suc i (length a))))
+
+-- numbers of the first run set to 0, and numbers of the second
+pub zeroed-first : (a b : List ℕ) (at k : ℕ) → at + k ≤ length a → zeroed (a ++ b) at k ≡ zeroed a at k ++ b
+zeroed-first a b at k l =
+    zeroed-is (a ++ b) at k (omega (arith, length-append a b))
+    ∙ ap₂ (λ (x y : List ℕ). x ++ (replicate k 0 ++ y)) (take-append-le at a b (omega arith))
+    (ap (drop k) (drop-append-le at a b (omega arith)) ∙ drop-append-le k (drop at a) b (omega (arith, length-drop at a)))
+    ∙ ap (λ (x : List ℕ). take at a ++ x) (sym (append-assoc (replicate k 0) (drop k (drop at a)) b))
+    ∙ sym (append-assoc (take at a) (replicate k 0 ++ drop k (drop at a)) b)
+    ∙ ap (λ (x : List ℕ). x ++ b) (sym (zeroed-is a at k l))
+
+zeroed-cons : (y : ℕ) (ys : List ℕ) (at k : ℕ) → zeroed (y ∷ ys) (suc at) k ≡ y ∷ zeroed ys at k
+zeroed-cons y ys at k = go (decLe (at + k) (length ys))
+  where
+    go : Dec (at + k ≤ length ys) → zeroed (y ∷ ys) (suc at) k ≡ y ∷ zeroed ys at k
+    go (yes l) = zeroed-is (y ∷ ys) (suc at) k (omega arith) ∙ ap (λ (c : List ℕ). y ∷ c) (sym (zeroed-is ys at k l))
+    go (no d) = zeroed-none (y ∷ ys) (suc at) k (omega arith) ∙ ap (λ (c : List ℕ). y ∷ c) (sym (zeroed-none ys at k (omega arith)))
+
+pub zeroed-later : (a b : List ℕ) (at k : ℕ) → length a ≤ at → zeroed (a ++ b) at k ≡ a ++ zeroed b (at - length a) k
+zeroed-later [] b at k l = rw (sub-zero at)
+zeroed-later (y ∷ a) b zero k l = absurd (omega arith)
+zeroed-later (y ∷ a) b (suc at) k l =
+    zeroed-cons y (a ++ b) at k
+    ∙ ap (λ (c : List ℕ). y ∷ c) (zeroed-later a b at k (omega arith) ∙ ap (λ (j : ℕ). a ++ zeroed b j k) (sym (suc-sub-suc at (length a))))

@@ -22,7 +22,7 @@ unfoldable pub endOf : Granule → List ℕ → Area → ℕ → List ℕ → Wa
 endOf G ws area r way =
     cond (ltb (r / 4) (length ws)) (stop (entryAt G area (r % 4) (getD ws (r / 4) 0)) (r % 4) way) (stop Damaged (r % 4) way)
 
--- a base and a table count that a pool may have, at most four levels, a target among their heights, and the words of all tables
+-- a first base and table counts that a pool may have, at most four levels, a target among their heights, and the words of all tables
 unfoldable pub canWalk : Granule → Setup → ℕ → ℕ → Bool
 canWalk G s words target =
     leb (s .base) physical
@@ -34,4 +34,4 @@ canWalk G s words target =
 
 -- the walk by such numbers; others are damage at once
 unfoldable pub walkIf : Granule → Setup → List ℕ → ℕ → ℕ → Walked
-walkIf G s ws target a = cond (canWalk G s (length ws) target) (walkTo G (pool s ws []) target a) nowhere
+walkIf G s ws target a = cond (canWalk G s (length ws) target) (walkTo G (pool s ws (length ws) []) target a) nowhere

@@ -89,9 +89,9 @@ module _ {G : Granule} {s : Setup} {words target : ℕ} where
       go false e = refl
 
 module _ (G : Granule) (s : Setup) (ws : List ℕ) (target a : ℕ) where
-  pub walk-if : canWalk G s (length ws) target ≡ true → (list : List ℕ) → walkIf G s ws target a ≡ walkTo G (pool s ws list) target a
+  pub walk-if : canWalk G s (length ws) target ≡ true → (cut : ℕ) (list : List ℕ) → walkIf G s ws target a ≡ walkTo G (pool s ws cut list) target a
   unfolding walkIf
-  walk-if e list = rw e
+  walk-if e cut list = rw e
 
   pub walk-not : canWalk G s (length ws) target ≡ false → walkIf G s ws target a ≡ nowhere
   unfolding walkIf
@@ -99,8 +99,8 @@ module _ (G : Granule) (s : Setup) (ws : List ℕ) (target a : ℕ) where
 
   -- where the numbers are good, it is the walk of the calls
   pub reach-good :
-      {places : ℕ} → Sane G → GoodSetup G s (length ws) places → target ≤ G .large → (list : List ℕ)
-      → walkIf G s ws target a ≡ walkTo G (pool s ws list) target a
+      {k places : ℕ} → Sane G → GoodSetup G s k (length ws) places → target ≤ G .large → (cut : ℕ) (list : List ℕ)
+      → walkIf G s ws target a ≡ walkTo G (pool s ws cut list) target a
   reach-good S g l = walk-if (walk-can (record {
     low = omega (arith, g);
     short = omega (arith, S, g);

@@ -11,7 +11,7 @@ use Rattle.laws.specs.Lists.{among}
 use Rattle.path.specs.Geometry.{Granule, sizeAt}
 use Rattle.path.specs.Areas.{Area}
 use Rattle.entry.specs.Words.{baseIn, attrsIn, frameWord, childAt, frameAt, entryAt}
-use Rattle.entry.specs.Laws.{entry-zero, entry-frame, child-only, table-back}
+use Rattle.entry.specs.Laws.{entry-zero, entry-table, entry-frame}
 use Rattle.entry.specs.declared.Entry.the-variants.{Empty, Table, Frame, Damaged}
 use Rattle.model.specs.Walk.{noWay, stop}
 use Rattle.lookup.specs.WalkLaws.{isTable, wordOf, entryOf, walkAt, walk-ends, walk-again, walk-down}
@@ -62,9 +62,7 @@ module _ (G : Granule) (ws : List ℕ) (area : Area) (target : ℕ) (path : List
 
     module _ {c : ℕ} (e : c ≡ childAt G area w) (some : 1 ≤ c) (above : target < h) where
       names : Table c ≡ entryOf G ws area target path h t
-      names =
-          let (lt, z) = child-only G area w (sym e) some in
-          sym (table-back G area h c (omega arith) some lt) ∙ ap (entryAt G area h) (sym z ∙ q)
+      names = sym (entry-table G area h w (omega arith) (sym e) some) ∙ ap (entryAt G area h) q
 
       -- above the target, a table that was come to before ends it,
       pub comes-again :

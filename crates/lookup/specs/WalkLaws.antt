@@ -158,6 +158,8 @@ module _ (G : Granule) (s : Setup) (ws : List ℕ) (target a : ℕ) where
     walk-by m q = rw (le-ltb _ _ l, le-ltb _ _ m, ← q)
 
   -- where they are good, it is the walk of the calls
-  pub walk-good : {w k : ℕ} → Sane G → GoodSetup G s w k → (list : List ℕ) → walkBy G s ws target a ≡ walkTo G (pool s ws list) target a
-  walk-good S g list =
+  pub walk-good :
+      {k w places : ℕ} → Sane G → GoodSetup G s k w places → (cut : ℕ) (list : List ℕ)
+      → walkBy G s ws target a ≡ walkTo G (pool s ws cut list) target a
+  walk-good S g cut list =
       sym (walk-by (omega (arith, S, g)) (omega (arith, g)) refl) ∙ walk-root G ws (areaOf s) target (pathOf G a) (omega (arith, S, g))

@@ -3,6 +3,7 @@ use entry::Entry;
 use model::Walked;
 use path::Setup;
 ghost use mathlib.Core.Path.{_≡_};
+ghost use mathlib.Core.List.{_++_};
 ghost use Prim.Native.Nat.{_/_, _%_, _≤_, _<_};
 ghost use lib.ListN.{length};
 ghost use Rattle.path.specs.Geometry.{four};
@@ -26,8 +27,11 @@ fn ended(entry: Entry, left: usize, tables: [u32; 4]) -> Walked
 // From table t, whose entries have this height, down to the target height or to an entry that is not a table. `above` holds the tables above t.
 fn descend(
     words: &[u64],
+    second: &[u64],
     base: u64,
-    tables: u32,
+    tables: u16,
+    base2: u64,
+    tables2: u16,
     target: usize,
     path: [u16; 4],
     height: usize,
@@ -35,14 +39,18 @@ fn descend(
     t: u32,
 ) -> Walked
     requires { ⌜ height ≤ 3 ⌝ }
-    ensures { λ r. ⌜ r ≡ walkFrom four (now (words .entry)) (areaAt base tables) target path height above t ⌝ }
+    ensures { λ r. ⌜ r ≡ walkFrom four (now (words .entry) ++ now (second .entry)) (areaAt base tables base2 tables2) target path height above t ⌝ }
 {
     let at = 3 - height;
     let i = path[at];
     let mut way = above;
     way[at] = t;
-    let w = pool::word(words, (path::ENTRIES * (t as u64) + (i as u64)) as usize);
-    let e = entry::read_word(w, height, base, tables);
+    let w = pool::word(
+        words,
+        second,
+        (path::ENTRIES * (t as u64) + (i as u64)) as usize,
+    );
+    let e = entry::read_word(w, height, base, tables, base2, tables2);
     match e {
         Entry::Table(c) => {
             if height <= target {
@@ -52,7 +60,19 @@ fn descend(
             if pool::among_four(way, c) {
                 return ended(Entry::Damaged, below, way);
             }
-            descend(words, base, tables, target, path, below, way, c)
+            descend(
+                words,
+                second,
+                base,
+                tables,
+                base2,
+                tables2,
+                target,
+                path,
+                below,
+                way,
+                c,
+            )
         }
         Entry::Empty => ended(e, height, way),
         Entry::Frame { .. } => ended(e, height, way),
@@ -61,22 +81,45 @@ fn descend(
 }
 
 // From the root, whose entries have the height `top`, down to the target height or to an entry that is not a table. No tree is higher than 3.
-fn walk(words: &[u64], base: u64, tables: u32, target: usize, path: [u16; 4], top: usize) -> Walked
-    ensures { λ r. ⌜ r ≡ walkOf four (now (words .entry)) (areaAt base tables) target path top ⌝ }
+fn walk(
+    words: &[u64],
+    second: &[u64],
+    base: u64,
+    tables: u16,
+    base2: u64,
+    tables2: u16,
+    target: usize,
+    path: [u16; 4],
+    top: usize,
+) -> Walked
+    ensures { λ r. ⌜ r ≡ walkOf four (now (words .entry) ++ now (second .entry)) (areaAt base tables base2 tables2) target path top ⌝ }
 {
     let none = [0u32; 4];
     if top > 3 {
         return ended(Entry::Damaged, top, none);
     }
-    descend(words, base, tables, target, path, top, none, 0)
+    descend(
+        words,
+        second,
+        base,
+        tables,
+        base2,
+        tables2,
+        target,
+        path,
+        top,
+        none,
+        0,
+    )
 }
 
 // The walk to a height for an address. Setup numbers that no pool has are damage.
-pub fn walk_to(s: Setup, words: &[u64], target: usize, address: u64) -> Walked
-    ensures { λ r. ⌜ r ≡ walkBy four s (now (words .entry)) target address ⌝ }
+pub fn walk_to(s: Setup, words: &[u64], second: &[u64], target: usize, address: u64) -> Walked
+    ensures { λ r. ⌜ r ≡ walkBy four s (now (words .entry) ++ now (second .entry)) target address ⌝ }
 {
     let levels = s.levels;
     let tables = s.tables;
+    let tables2 = s.tables2;
     let none = [0u32; 4];
     if levels < 1 {
         return ended(Entry::Damaged, 0, none);
@@ -84,11 +127,17 @@ pub fn walk_to(s: Setup, words: &[u64], target: usize, address: u64) -> Walked
     if tables > path::MOST_TABLES {
         return ended(Entry::Damaged, 0, none);
     }
+    if tables2 > path::MOST_TABLES - tables {
+        return ended(Entry::Damaged, 0, none);
+    }
     let top = (levels - 1) as usize;
     walk(
         words,
+        second,
         s.base,
-        tables as u32,
+        tables as u16,
+        s.base2,
+        tables2 as u16,
         target,
         path::path_of(address),
         top,
@@ -96,7 +145,7 @@ pub fn walk_to(s: Setup, words: &[u64], target: usize, address: u64) -> Walked
 }
 
 // Whether `reach` walks by these numbers.
-fn walkable(s: Setup, words: usize, target: usize) -> bool
+fn walkable(s: Setup, words: u64, target: usize) -> bool
     ensures { λ r. ⌜ r ≡ canWalk four s words target ⌝ }
 {
     if s.base > path::PHYSICAL {
@@ -108,27 +157,39 @@ fn walkable(s: Setup, words: usize, target: usize) -> bool
     if target as u64 >= s.levels {
         return false;
     }
-    if s.tables < 1 {
-        return false;
-    }
     if s.tables > path::MOST_TABLES {
         return false;
     }
-    words as u64 == path::ENTRIES * s.tables
+    if s.tables2 > path::MOST_TABLES - s.tables {
+        return false;
+    }
+    let tables = s.tables + s.tables2;
+    if tables < 1 {
+        return false;
+    }
+    words == path::ENTRIES * tables
 }
 
 // The same walk as a loop over the heights, for the calls whose speed shows. Answers four times the place of the last entry among the words, plus the entry's
 // height; where a table is come to again, the place is past the end. The tables on the way go into `way`. The loop begins above every tree, so that its turns
 // are as many for each; a turn above this tree's root does nothing.
-pub fn reach(s: Setup, words: &[u64], target: usize, address: u64, way: &mut [u32; 4]) -> u64
-    ensures end { λ r. ⌜ endOf four (now (words .entry)) (areaOf s) r (now (way .exit))
-        ≡ walkIf four s (now (words .entry)) target address ⌝ }
-    ensures place { λ r. ⌜ (r / 4 < length (now (words .entry))
+pub fn reach(
+    s: Setup,
+    words: &[u64],
+    second: &[u64],
+    target: usize,
+    address: u64,
+    way: &mut [u32; 4],
+) -> u64
+    ensures end { λ r. ⌜ endOf four (now (words .entry) ++ now (second .entry)) (areaOf s) r (now (way .exit))
+        ≡ walkIf four s (now (words .entry) ++ now (second .entry)) target address ⌝ }
+    ensures place { λ r. ⌜ (r / 4 < length (now (words .entry) ++ now (second .entry))
         → r / 4 ≡ slot four (atHeight (now (way .exit)) (r % 4)) (atHeight (pathOf four address) (r % 4))) ⌝ }
 {
-    let past = 4 * (words.len() as u64);
+    let all = (words.len() + second.len()) as u64;
+    let past = 4 * all;
     *way = [0, 0, 0, 0];
-    if !walkable(s, words.len(), target) {
+    if !walkable(s, all, target) {
         return past;
     }
     let mut t: u32 = 0;
@@ -144,8 +205,8 @@ pub fn reach(s: Setup, words: &[u64], target: usize, address: u64, way: &mut [u3
             if h == target {
                 return end;
             }
-            let at = place as usize;
-            let child = entry::child_in(words[at], s.base, s.tables as u32);
+            let w = pool::word(words, second, place as usize);
+            let child = entry::child_in(w, s.base, s.tables as u16, s.base2, s.tables2 as u16);
             if child == 0 {
                 return end;
             }

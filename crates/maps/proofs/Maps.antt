@@ -52,7 +52,7 @@ word-is b h k l e = rw (le-leb b physical l) at e
 -- where no table is missing, the frame's word is the only write
 one-here :
     (G : Granule) (p : Pool) (a b h k : ℕ) (way : List ℕ)
-    → mapHere G p a b h k (stop Empty h way) 0 ≡ done (took 0) (pool (p .numbers) (set (p .words) (slot G (atHeight way h) (atHeight (pathOf G a) h)) (frameWord b h k)) (p .list))
+    → mapHere G p a b h k (stop Empty h way) 0 ≡ done (took 0) (pool (p .numbers) (set (p .words) (slot G (atHeight way h) (atHeight (pathOf G a) h)) (frameWord b h k)) (p .cut) (p .list))
 unfolding mapHere mayTake mapWrites performAll
 one-here G p a b h k way =
     let same : p .numbers .free - 0 ≡ p .numbers .free = omega arith in
@@ -96,10 +96,12 @@ module _ {G : Granule} {p : Pool} {a h r : ℕ} {way : List ℕ} (C : Came G p h
         (walk-above G (p .words) (areaOf (p .numbers)) h (pathOf G a) (p .numbers .levels - 1) noWay 0 low)
 
     -- at an empty entry of that height the frame's word is the only write
-    pub came-here : {w word : ℕ} → w ≡ getD (p .words) (r / 4) 0 → w ≡ 0 → r % 4 ≡ h → word ≡ frameWord b h k
-        → done (took 0) (pool (p .numbers) (set (p .words) (r / 4) word) (p .list)) ≡ mapFrom G p a b h k
-    came-here {w} {word} e z d f =
-        (λ i. done (took 0) (pool (p .numbers) (set (p .words) (put i) (f i)) (p .list)))
+    pub came-here : {w word cut : ℕ} {ws : List ℕ} → w ≡ getD (p .words) (r / 4) 0 → w ≡ 0 → r % 4 ≡ h → word ≡ frameWord b h k
+        → ws ≡ set (p .words) (r / 4) word → cut ≡ p .cut
+        → done (took 0) (pool (p .numbers) ws cut (p .list)) ≡ mapFrom G p a b h k
+    came-here {w} {word} e z d f u v =
+        (λ i. done (took 0) (pool (p .numbers) (u i) (v i) (p .list)))
+        ∙ (λ i. done (took 0) (pool (p .numbers) (set (p .words) (put i) (f i)) (p .cut) (p .list)))
         ∙ sym (one-here G p a b h k way)
         ∙ (λ i. mapHere G p a b h k (stop Empty (sym d i) way) (none i))
         ∙ came-empty e z
@@ -112,33 +114,33 @@ module _ {G : Granule} {p : Pool} {a h r : ℕ} {way : List ℕ} (C : Came G p h
 
 -- ---- at an empty entry
 
-module _ (G : Granule) (s : Setup) (ws list : List ℕ) (a b h k left : ℕ) (way : List ℕ) where
+module _ (G : Granule) (s : Setup) (ws : List ℕ) (cut : ℕ) (list : List ℕ) (a b h k left : ℕ) (way : List ℕ) where
   abbrev hereAt : Done
-  hereAt = mapHere G (pool s ws list) a b h k (stop Empty left way) (left - h)
+  hereAt = mapHere G (pool s ws cut list) a b h k (stop Empty left way) (left - h)
 
   abbrev all : List Write
   all = mapWrites G (areaOf s) (pathOf G a) list h (frameWord b h k) (getD way (3 - left) 0) (s .free) (left - h)
 
-  pub here-short : s .free < left - h → refuse 7 (pool s ws list) ≡ hereAt
+  pub here-short : s .free < left - h → refuse 7 (pool s ws cut list) ≡ hereAt
   unfolding mapHere
   here-short l = rw (lt-ltb _ _ l)
 
   module _ (l : left - h ≤ s .free) {r : Bool} (e : r ≡ mayTake list (total (areaOf s)) way (s .free) (left - h)) where
-    pub here-unfit : not r ≡ true → refuse 8 (pool s ws list) ≡ hereAt
+    pub here-unfit : not r ≡ true → refuse 8 (pool s ws cut list) ≡ hereAt
     unfolding mapHere
     here-unfit n = rw (le-ltb _ _ l, sym e ∙ not-true _ n)
 
     pub here-done :
         not r ≡ false
-        → (plan : List Step) {path : List ℕ} {word : ℕ} {w : List ℕ} {t : Setup}
+        → (plan : List Step) {path : List ℕ} {word : ℕ} {w : List ℕ} {own : ℕ} {t : Setup}
         → path ≡ pathOf G a → word ≡ frameWord b h k
         → planned plan ≡ mapWrites G (areaOf s) path list h word (getD way (3 - left) 0) (s .free) (left - h)
         → ((x : List ℕ) → w ≡ performAll G (planned plan) (memory ws x) .words)
-        → t ≡ withFree s (s .free - (left - h))
-        → done (took (left - h)) (pool t w list) ≡ hereAt
+        → own ≡ cut → t ≡ withFree s (s .free - (left - h))
+        → done (took (left - h)) (pool t w own list) ≡ hereAt
     unfolding mapHere
-    here-done n plan {path} {word} {w} {t} q m d v f =
-        rw (le-ltb _ _ l, passed e n) (λ i. done (took (left - h)) (pool (f i) (new i) (same i)))
+    here-done n plan {path} {word} {w} {own} {t} q m d v u f =
+        rw (le-ltb _ _ l, passed e n) (λ i. done (took (left - h)) (pool (f i) (new i) (u i) (same i)))
       where
         plan-all : planned plan ≡ all
         plan-all = d ∙ (λ i. mapWrites G (areaOf s) (q i) list h (m i) (getD way (3 - left) 0) (s .free) (left - h))

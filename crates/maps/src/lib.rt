@@ -6,6 +6,7 @@ use path::Setup;
 use plans::Step;
 ghost use mathlib.Core.Path.{_≡_};
 ghost use mathlib.Core.Bool.{true};
+ghost use mathlib.Core.List.{_++_};
 ghost use Prim.Native.Nat.{ℕ, _+_, _-_, _≤_};
 ghost use lib.ListN.{length};
 ghost use Rattle.path.specs.Geometry.{four, physical, heightOf};
@@ -39,7 +40,7 @@ fn map_tests(s: Setup, address: u64, frame: u64, size: u64, height: usize, attri
         return 4;
     }
     let rest = path::rest_at(address, height) + path::rest_at(frame, height);
-    let met = path::meets_area(s.base, s.tables, frame, size);
+    let met = path::meets_area(s.base, s.tables, s.base2, s.tables2, frame, size);
     if rest != 0 {
         return 5;
     }
@@ -80,6 +81,8 @@ fn may_take(list: &[u32], tables: u32, way: [u32; 4], free: usize, need: usize) 
 // last.
 fn map_plan(
     base: u64,
+    tables: u16,
+    base2: u64,
     path: [u16; 4],
     list: &[u32],
     height: usize,
@@ -88,8 +91,8 @@ fn map_plan(
     free: usize,
     need: usize,
 ) -> [Step; plans::STEPS]
-    requires { ⌜ (base ≤ physical) × ((height + need ≤ 3) × (need ≤ free)) ⌝ }
-    ensures { λ r. ⌜ ((n : ℕ) → planned r ≡ mapWrites four (areaAt base n) path (now (list .entry)) height word table free need) ⌝ }
+    requires { ⌜ ((base ≤ physical) × (base2 ≤ physical)) × ((height + need ≤ 3) × (need ≤ free)) ⌝ }
+    ensures { λ r. ⌜ ((m : ℕ) → planned r ≡ mapWrites four (areaAt base tables base2 m) path (now (list .entry)) height word table free need) ⌝ }
 {
     let mut plan = [Step::Nothing; plans::STEPS];
     let mut t = table;
@@ -98,7 +101,7 @@ fn map_plan(
         let c = pool::place(list, free - 1 - i);
         let at = 3 - (height + need - i);
         let place = plans::entry_place(t, path[at]);
-        let value = entry::table_word(base, c);
+        let value = entry::table_word(base, tables, base2, c);
         plan[2 * i] = Step::Wipe { table: c };
         plan[2 * i + 1] = Step::Store { place, value };
         t = c;
@@ -124,6 +127,7 @@ fn map_refused(no: u64, s: Setup) -> Mapped
 fn map_empty(
     s: Setup,
     words: &mut [u64],
+    second: &mut [u64],
     list: &[u32],
     address: u64,
     height: usize,
@@ -131,23 +135,34 @@ fn map_empty(
     way: [u32; 4],
     left: usize,
 ) -> Mapped
-    requires { ⌜ (goodSetup four s (length (now words)) (length (now list)) ≡ true) × ((height ≤ left) × (left ≤ 3)) ⌝ }
+    requires { ⌜ (goodSetup four s (length (now words)) (length (now words ++ now second)) (length (now list)) ≡ true) × ((height ≤ left) × (left ≤ 3)) ⌝ }
     ensures { λ r. ⌜ ((b k : ℕ) → word ≡ frameWord b height k
-        → mapDid r (now (words .exit)) (now (list .entry))
-        ≡ mapHere four (pool s (now (words .entry)) (now (list .entry))) address b height k (stop Empty left way) (left - height)) ⌝ }
+        → mapDid r (now (words .exit)) (now (second .exit)) (now (list .entry))
+        ≡ mapHere four (pool s (now (words .entry) ++ now (second .entry)) (length (now (words .entry))) (now (list .entry))) address b height k (stop Empty left way) (left - height)) ⌝ }
 {
     let need = left - height;
     let free = s.free as usize;
     if free < need {
         return map_refused(7, s);
     }
-    if !may_take(list, s.tables as u32, way, free, need) {
+    if !may_take(list, (s.tables + s.tables2) as u32, way, free, need) {
         return map_refused(8, s);
     }
     let path = path::path_of(address);
     let at = 3 - left;
-    let plan = map_plan(s.base, path, list, height, word, way[at], free, need);
-    plans::write_words(words, plan);
+    let plan = map_plan(
+        s.base,
+        s.tables as u16,
+        s.base2,
+        path,
+        list,
+        height,
+        word,
+        way[at],
+        free,
+        need,
+    );
+    plans::write_words(words, second, plan);
     let rest = (free - need) as u64;
     Mapped {
         answer: MapAnswer::Taken(need as u64),
@@ -156,10 +171,10 @@ fn map_empty(
 }
 
 // The refusal of a map whose walk does not end at an empty entry: 8 for damage, 6 for a table or a frame.
-fn met(s: Setup, words: &[u64], height: usize, address: u64) -> u64
-    ensures { λ r. ⌜ r ≡ metBy (walkBy four s (now (words .entry)) height address .entry) ⌝ }
+fn met(s: Setup, words: &[u64], second: &[u64], height: usize, address: u64) -> u64
+    ensures { λ r. ⌜ r ≡ metBy (walkBy four s (now (words .entry) ++ now (second .entry)) height address .entry) ⌝ }
 {
-    let o = lookup::walk_to(s, words, height, address);
+    let o = lookup::walk_to(s, words, second, height, address);
     let e = o.entry;
     match e {
         Entry::Damaged => 8,
@@ -173,31 +188,32 @@ fn met(s: Setup, words: &[u64], height: usize, address: u64) -> u64
 fn map_walk(
     s: Setup,
     words: &mut [u64],
+    second: &mut [u64],
     list: &[u32],
     address: u64,
     height: usize,
     word: u64,
 ) -> Mapped
-    requires { ⌜ (goodSetup four s (length (now words)) (length (now list)) ≡ true) × (height ≤ 2) ⌝ }
+    requires { ⌜ (goodSetup four s (length (now words)) (length (now words ++ now second)) (length (now list)) ≡ true) × (height ≤ 2) ⌝ }
     ensures { λ r. ⌜ ((b k : ℕ) → word ≡ frameWord b height k
-        → mapDid r (now (words .exit)) (now (list .entry))
-        ≡ mapFrom four (pool s (now (words .entry)) (now (list .entry))) address b height k) ⌝ }
+        → mapDid r (now (words .exit)) (now (second .exit)) (now (list .entry))
+        ≡ mapFrom four (pool s (now (words .entry) ++ now (second .entry)) (length (now (words .entry))) (now (list .entry))) address b height k) ⌝ }
 {
     let mut way = [0u32; 4];
-    let end = lookup::reach(s, &words[..], height, address, &mut way);
+    let end = lookup::reach(s, &words[..], &second[..], height, address, &mut way);
     let left = (end % 4) as usize;
     let place = (end / 4) as usize;
-    if place >= words.len() {
+    if place >= words.len() + second.len() {
         return map_refused(8, s);
     }
-    let w = words[place];
+    let w = pool::word(&words[..], &second[..], place);
     if w != 0 {
-        return map_refused(met(s, &words[..], height, address), s);
+        return map_refused(met(s, &words[..], &second[..], height, address), s);
     }
     if left != height {
-        return map_empty(s, words, list, address, height, word, way, left);
+        return map_empty(s, words, second, list, address, height, word, way, left);
     }
-    words[place] = word;
+    pool::put(words, second, place, word);
     Mapped {
         answer: MapAnswer::Taken(0),
         setup: s,
@@ -208,16 +224,17 @@ fn map_walk(
 pub fn map(
     s: Setup,
     words: &mut [u64],
+    second: &mut [u64],
     list: &[u32],
     address: u64,
     frame: u64,
     size: u64,
     attributes: u64,
 ) -> Mapped
-    ensures { λ r. ⌜ mapDid r (now (words .exit)) (now (list .entry))
-        ≡ mapW four (pool s (now (words .entry)) (now (list .entry))) address frame size attributes ⌝ }
+    ensures { λ r. ⌜ mapDid r (now (words .exit)) (now (second .exit)) (now (list .entry))
+        ≡ mapW four (pool s (now (words .entry) ++ now (second .entry)) (length (now (words .entry))) (now (list .entry))) address frame size attributes ⌝ }
 {
-    if !path::good_setup(s, words.len(), list.len()) {
+    if !path::good_setup(s, words.len(), second.len(), list.len()) {
         return map_refused(1, s);
     }
     let height = path::height_of(size);
@@ -226,5 +243,5 @@ pub fn map(
         return map_refused(no, s);
     }
     let word = entry::word_of(frame, height, attributes);
-    map_walk(s, words, list, address, height, word)
+    map_walk(s, words, second, list, address, height, word)
 }

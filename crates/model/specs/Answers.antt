@@ -1,10 +1,14 @@
 -- Pools, answers, and the paper's number and values for each case of an answer.
 use Prim.Native.Nat.{ℕ}
-use mathlib.Core.List.{List, [], _∷_}
+use mathlib.Core.List.{List, [], _∷_, _++_}
+use lib.ListN.{length}
 use Rattle.path.specs.declared.Setup.{Setup}
 use Rattle.model.specs.declared.FormatAnswer.{FormatAnswer}
 use Rattle.model.specs.declared.FormatAnswer.the-variants as F
 use Rattle.model.specs.declared.Formatted.{Formatted}
+use Rattle.model.specs.declared.AddAnswer.{AddAnswer}
+use Rattle.model.specs.declared.AddAnswer.the-variants as D
+use Rattle.model.specs.declared.Added.{Added}
 use Rattle.model.specs.declared.Mapped.{Mapped}
 use Rattle.model.specs.declared.Unmapped.{Unmapped}
 use Rattle.model.specs.declared.MapAnswer.{MapAnswer}
@@ -33,6 +37,10 @@ pub data Answer : Type 0 where
 
 abbrev pub formatted : Answer
 formatted = answered []
+
+-- the adding call
+abbrev pub added : Answer
+added = answered []
 
 -- map: the tables taken
 abbrev pub took : ℕ → Answer
@@ -63,6 +71,10 @@ abbrev pub saysFormat : FormatAnswer → Answer
 saysFormat F.Done = formatted
 saysFormat (F.Refused k) = refused k
 
+abbrev pub saysAdd : AddAnswer → Answer
+saysAdd D.Done = added
+saysAdd (D.Refused k) = refused k
+
 abbrev pub saysMap : MapAnswer → Answer
 saysMap (M.Taken t) = took t
 saysMap (M.Refused k) = refused k
@@ -81,14 +93,16 @@ abbrev pub saysAudit : AuditAnswer → Answer
 saysAudit (A.Sound t m) = audited t m
 saysAudit (A.Refused k) = refused k
 
--- setup numbers, table words and free list
+-- Setup numbers, table words and free list. The words are the two lent runs put together, the first and then the second, so that table t's stand from
+-- place 512 × t on whichever region it is in; `cut` is how many of them are the first run's.
 pub record Pool : Type 0 where
   pub numbers : Setup
   pub words : List ℕ
+  pub cut : ℕ
   pub list : List ℕ
 
-abbrev pub pool : Setup → List ℕ → List ℕ → Pool
-pool s w l = record { numbers = s; words = w; list = l }
+abbrev pub pool : Setup → List ℕ → ℕ → List ℕ → Pool
+pool s w c l = record { numbers = s; words = w; cut = c; list = l }
 
 -- what a call answers, and the pool that it leaves
 pub record Done : Type 0 where
@@ -98,15 +112,21 @@ pub record Done : Type 0 where
 abbrev pub done : Answer → Pool → Done
 done a p = record { answer = a; after = p }
 
--- what format, map and unmap did, by the record that the code hands back and the lent memory at its end
-abbrev pub formatDid : Formatted → List ℕ → List ℕ → Done
-formatDid r words list = done (saysFormat (r .answer)) (pool (r .setup) words list)
+-- what format, the adding call, map and unmap did, by the record that the code hands back and the lent memory at its end: the two runs, and the list
+abbrev pub left : Answer → Setup → List ℕ → List ℕ → List ℕ → Done
+left a s first second list = done a (pool s (first ++ second) (length first) list)
 
-abbrev pub mapDid : Mapped → List ℕ → List ℕ → Done
-mapDid r words list = done (saysMap (r .answer)) (pool (r .setup) words list)
+abbrev pub formatDid : Formatted → List ℕ → List ℕ → List ℕ → Done
+formatDid r first second list = left (saysFormat (r .answer)) (r .setup) first second list
 
-abbrev pub unmapDid : Unmapped → List ℕ → List ℕ → Done
-unmapDid r words list = done (saysUnmap (r .answer)) (pool (r .setup) words list)
+abbrev pub addDid : Added → List ℕ → List ℕ → List ℕ → Done
+addDid r first second list = left (saysAdd (r .answer)) (r .setup) first second list
+
+abbrev pub mapDid : Mapped → List ℕ → List ℕ → List ℕ → Done
+mapDid r first second list = left (saysMap (r .answer)) (r .setup) first second list
+
+abbrev pub unmapDid : Unmapped → List ℕ → List ℕ → List ℕ → Done
+unmapDid r first second list = left (saysUnmap (r .answer)) (r .setup) first second list
 
 -- a refusal leaves everything as it was
 abbrev pub refuse : ℕ → Pool → Done

@@ -134,7 +134,7 @@ reached-low {G} S ws area (suc h) = low-node S ws area (suc h) (λ c u. ofTable 
 -- the tables reached are in a pool with good numbers
 pub pool-reached-low : {G : Granule} → Sane G → (p : Pool) → goodPool G p ≡ true → Each (λ t. t < total (areaOf (p .numbers))) (reachedOf G p)
 pool-reached-low S p g =
-    reached-low S (p .words) (areaOf (p .numbers)) (p .numbers .levels - 1) 0 0 (good-setup g .numbers .some-table)
+    reached-low S (p .words) (areaOf (p .numbers)) (p .numbers .levels - 1) 0 0 (omega (arith, good-setup g .numbers .some-table))
 
 -- a table of the tree is not empty, unless it is the root
 abbrev Used : Granule → List ℕ → ℕ → Type 0
@@ -272,14 +272,14 @@ module _ (G : Granule) (ws : List ℕ) (n : ℕ) where
 -- ---- frames and the tables
 
 module _ (G : Granule) (area : Area) where
-  inside-back : (l : List Mapping) → noneInside G area l ≡ true → Each (OffTables G area) l
+  pub inside-back : (l : List Mapping) → noneInside G area l ≡ true → Each (OffTables G area) l
   unfolding noneInside
   inside-back [] e = each-nil (OffTables G area)
   inside-back (m ∷ l) e =
       let (a, b) = and-eq-true-iff (not (meetsArea G area (m .frame) (m .size))) _ .0 e in
       each-cons (OffTables G area) m l (meets-apart (not-true (meetsArea G area (m .frame) (m .size)) a)) (inside-back l b)
 
-  inside-some : (l : List Mapping) → Each (OffTables G area) l → noneInside G area l ≡ true
+  pub inside-some : (l : List Mapping) → Each (OffTables G area) l → noneInside G area l ≡ true
   unfolding noneInside
   inside-some [] f = refl
   inside-some (m ∷ l) f = rw (apart-meets (f m (here refl))) (inside-some l (λ k i. f k (there i)))
@@ -387,9 +387,9 @@ down-front zero = each-nil (λ t. (0 < t) × (t < 1))
 down-front (suc n) =
     each-cons (λ t. (0 < t) × (t < suc (suc n))) (suc n) _ (omega arith) (λ t m. let (a, b) = down-front n t m in (a, omega arith))
 
-module _ (G : Granule) (levels : ℕ) (area : Area) (n k : ℕ) (is : total area ≡ suc n) where
+module _ (G : Granule) (levels : ℕ) (area : Area) (n k c : ℕ) (is : total area ≡ suc n) where
   abbrev fresh : Pool
-  fresh = pool (setupOf levels area n) (replicate k 0) (down (suc n))
+  fresh = pool (setupOf levels area n) (replicate k 0) c (down (suc n))
 
   all-empty : (t : ℕ) → EmptyTable G (replicate k 0) t
   all-empty t i l = allZero-at (replicate k 0) (allZero-replicate k) (slot G t i)
@@ -409,7 +409,7 @@ module _ (G : Granule) (levels : ℕ) (area : Area) (n k : ℕ) (is : total area
   unfolding auditW
   fresh-audit g = rw (g, fresh-sound, only-root)
 
-  fresh-good : {places : ℕ} → GoodNumbers G levels area k places → goodPool G fresh ≡ true
+  fresh-good : {places : ℕ} → GoodNumbers G levels area c k places → goodPool G fresh ≡ true
   fresh-good {places} N =
       let w : length (blanks k) ≡ k = length-replicate k 0 in
       let l : length (down (suc n)) ≡ places = length-down (suc n) ∙ sym is ∙ sym (N .places-are) in
@@ -419,24 +419,24 @@ module _ (G : Granule) (levels : ℕ) (area : Area) (n k : ℕ) (is : total area
       blanks k = replicate k 0
 
 -- the audit accepts what format leaves, and finds the root and no mapping
-pub format-audit : (G : Granule) (levels : ℕ) (area : Area) (ws list : List ℕ)
-    → formatW G levels area ws list .answer ≡ formatted
-    → auditW G (formatW G levels area ws list .after) ≡ audited 1 0
+pub format-audit : (G : Granule) (levels : ℕ) (area : Area) (ws : List ℕ) (cut : ℕ) (list : List ℕ)
+    → formatW G levels area ws cut list .answer ≡ formatted
+    → auditW G (formatW G levels area ws cut list .after) ≡ audited 1 0
 unfolding formatW
-format-audit G levels area ws list = go (goodNumbers G levels area (length ws) (length list)) refl
+format-audit G levels area ws cut list = go (goodNumbers G levels area cut (length ws) (length list)) refl
   where
-    left : (n : ℕ) → total area ≡ n → GoodNumbers G levels area (length ws) (length list)
-        → auditW G (pool (setupOf levels area (n - 1)) (replicate (length ws) 0) (down n)) ≡ audited 1 0
+    left : (n : ℕ) → total area ≡ n → GoodNumbers G levels area cut (length ws) (length list)
+        → auditW G (pool (setupOf levels area (n - 1)) (replicate (length ws) 0) cut (down n)) ≡ audited 1 0
     left zero e N = absurd (omega (arith, e, N .some-table))
-    left (suc n) e N = rw (sub-one (suc n)) (fresh-audit G levels area n (length ws) e (fresh-good G levels area n (length ws) e N))
+    left (suc n) e N = rw (sub-one (suc n)) (fresh-audit G levels area n (length ws) cut e (fresh-good G levels area n (length ws) cut e N))
 
     answered : Bool → Done
     answered b =
         cond b
-        (done formatted (pool (setupOf levels area (total area - 1)) (replicate (length ws) 0) (down (total area))))
-        (refuse 1 (pool noSetup ws list))
+        (done formatted (pool (setupOf levels area (total area - 1)) (replicate (length ws) 0) cut (down (total area))))
+        (refuse 1 (pool noSetup ws cut list))
 
-    go : (b : Bool) → goodNumbers G levels area (length ws) (length list) ≡ b
+    go : (b : Bool) → goodNumbers G levels area cut (length ws) (length list) ≡ b
         → answered b .answer ≡ formatted → auditW G (answered b .after) ≡ audited 1 0
     go true g e = left (total area) refl (good-numbers g)
     go false g e = absurd (let z : _≡_ {A = ℕ} 0 1 = cc in omega arith)

@@ -20,24 +20,24 @@ use Rattle.model.specs.Writes.{Memory, memory, Write, performAll, mapWri
 
 -- refusal 1
 abbrev pub goodPool : Granule → Pool → Bool
-goodPool G p = goodSetup G (p .numbers) (length (p .words)) (length (p .list))
+goodPool G p = goodSetup G (p .numbers) (p .cut) (length (p .words)) (length (p .list))
 
 -- the lent memory after these writes, and the new free count
 abbrev pub written : Granule → Pool → List Write → ℕ → Pool
 written G p ws f =
-    let m = performAll G ws (memory (p .words) (p .list)) in pool (withFree (p .numbers) f) (m .words) (m .list)
+    let m = performAll G ws (memory (p .words) (p .list)) in pool (withFree (p .numbers) f) (m .words) (p .cut) (m .list)
 
 -- a walk to a height, for an address, from the root
 abbrev pub walkTo : Granule → Pool → ℕ → ℕ → Walked
 walkTo G p target a =
     walkFrom G (p .words) (areaOf (p .numbers)) target (pathOf G a) (p .numbers .levels - 1) noWay 0
 
--- Format: all words 0, place i of the free list n - 1 - i, n - 1 tables free
-unfoldable pub formatW : Granule → ℕ → Area → List ℕ → List ℕ → Done
-formatW G levels area ws list =
-    cond (goodNumbers G levels area (length ws) (length list))
-    (done formatted (pool (setupOf levels area (total area - 1)) (replicate (length ws) 0) (down (total area))))
-    (refuse 1 (pool noSetup ws list))
+-- Format: all words of both runs 0, place i of the free list n + m - 1 - i, n + m - 1 tables free
+unfoldable pub formatW : Granule → ℕ → Area → List ℕ → ℕ → List ℕ → Done
+formatW G levels area ws cut list =
+    cond (goodNumbers G levels area cut (length ws) (length list))
+    (done formatted (pool (setupOf levels area (total area - 1)) (replicate (length ws) 0) cut (down (total area))))
+    (refuse 1 (pool noSetup ws cut list))
 
 -- Query: the entry where the walk to the last level ends; an empty one is a hole of its region
 unfoldable pub foundAt : Granule → ℕ → Entry → ℕ → Answer

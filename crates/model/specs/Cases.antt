@@ -1,21 +1,23 @@
 -- Document 01's eleven cases, as one statement over the definitions: the calls over a pool and over a ledger, each on what the last one left. The holes of
--- request 2 stand beside them.
-use Prim.Native.Nat.{ℕ}
+-- request 2 stand beside them, and the story of request 6.
+use Prim.Native.Nat.{ℕ, _+_, _-_, _*_}
 use mathlib.Core.Path.{_≡_, refl}
 use mathlib.Core.Bool.{true}
 use mathlib.Core.List.{[], _∷_}
-use lib.ListN.{getD, replicate}
-use Rattle.laws.specs.Lists.{down, part, zeroed, allZero, among}
+use lib.ListN.{getD, set, replicate}
+use Rattle.laws.specs.Lists.{down, part, zeroed, allZero, among, distinct}
 use Rattle.path.specs.Geometry.{four, sizeAt, goodLevels, spaceOf, seek, heightOf}
-use Rattle.path.specs.Areas.{areaAt, meetsArea}
-use Rattle.path.specs.Numbers.{goodNumbers, goodSetup}
+use Rattle.path.specs.Areas.{oneRegion, tableAt, meetsRegion, meetsArea}
+use Rattle.path.specs.Numbers.{goodArea, goodNumbers, goodSetup, goodAdding}
 use Rattle.path.specs.Paths.{indexAt, baseAt, indices, pathOf}
-use Rattle.entry.specs.Words.{typeAt, frameWord, tableWord, childAt, frameAt, entryAt}
-use Rattle.model.specs.Answers.{Mapping, mapping, Answer, formatted, took, gave, found, refused, hole, Done, done, refuse}
+use Rattle.entry.specs.Words.{typeAt, frameWord, tableWord, namedIn, childAt, frameAt, entryAt}
+use Rattle.model.specs.Answers.{Mapping, mapping, Answer, formatted, added, took, gave, found, refused, hole, pool, Done, done, refuse}
 use Rattle.model.specs.Walk.{onward, walkFrom}
 use Rattle.model.specs.Writes.{performAll, mapWrites, mayTake, onlyEntry, freed, pruneWrites}
 use Rattle.model.specs.Calls.{formatW, foundAt, queryW, mapTests, mapHere, mapAt, mapW, unmapTests, unmapHere, unmapAt, unmapW}
-use Rattle.model.specs.Ledger.{Entered, entered, ledger, anyOverlap, coverOf, dropAt, regionsOf, hasRegion, newRegions, regionsNeeded, tablesNeeded, tablesLacking, freeTables, holeFrom, holeOf, formatL, mapL, unmapOf, unmapL, queryL}
+use Rattle.model.specs.Audit.{ofEntries, ofTable, noneInside}
+use Rattle.model.specs.Adds.{lent, appended, addW}
+use Rattle.model.specs.Ledger.{Entered, entered, ledger, anyOverlap, coverOf, dropAt, regionsOf, hasRegion, newRegions, regionsNeeded, tablesNeeded, tablesLacking, freeTables, holeFrom, holeOf, formatL, addL, mapL, unmapOf, unmapL, queryL}
 
 -- a call's answer and the pool after it, and the same by the ledger
 pub record Both : Type 0 where
@@ -24,21 +26,30 @@ pub record Both : Type 0 where
 
 -- a format, P = 0x40000000, n = 4, of memory and of a ledger that hold anything
 unfoldable pub format : ℕ → Both
-unfolding goodLevels goodNumbers down formatW formatL
+unfolding goodLevels goodArea goodNumbers down formatW formatL
 format levels =
     record {
-      pool = formatW four levels (areaAt 0x40000000 4) (replicate 2048 7) (replicate 4 9);
-      ledger = formatL four (ledger 9 (areaAt 9 4) (mapping 1 2 3 4 ∷ [])) levels (areaAt 0x40000000 4);
+      pool = formatW four levels (oneRegion 0x40000000 4) (replicate 2048 7) 2048 (replicate 4 9);
+      ledger = formatL four (ledger 9 (oneRegion 9 4) (mapping 1 2 3 4 ∷ [])) levels (oneRegion 0x40000000 4);
     }
 
 -- a map, and an unmap, of what a call left
 unfoldable pub map : Both → ℕ → ℕ → ℕ → ℕ → Both
-unfolding goodSetup sizeAt spaceOf seek heightOf meetsArea mapTests indexAt indices pathOf typeAt frameWord tableWord childAt frameAt entryAt among onward walkFrom zeroed performAll mapWrites mayTake mapHere mapAt mapW baseAt anyOverlap regionsOf hasRegion newRegions regionsNeeded tablesNeeded tablesLacking freeTables mapL
+unfolding goodSetup sizeAt spaceOf seek heightOf meetsRegion meetsArea mapTests indexAt indices pathOf typeAt frameWord tableAt tableWord namedIn childAt frameAt entryAt among onward walkFrom zeroed performAll mapWrites mayTake mapHere mapAt mapW baseAt anyOverlap regionsOf hasRegion newRegions regionsNeeded tablesNeeded tablesLacking freeTables mapL
 map B a b size k = record { pool = mapW four (B .pool .after) a b size k; ledger = mapL four (B .ledger .after) a b size k }
 
 unfoldable pub unmap : Both → ℕ → Both
 unfolding unmapTests part allZero onlyEntry freed pruneWrites unmapHere unmapAt unmapW coverOf dropAt holeFrom holeOf unmapOf unmapL
 unmap B a = record { pool = unmapW four (B .pool .after) a; ledger = unmapL four (B .ledger .after) a }
+
+-- an add, with a second run and a longer list that hold anything
+unfoldable pub add : Both → ℕ → ℕ → Both
+unfolding goodAdding distinct noneInside ofEntries ofTable appended addW addL
+add B q m =
+    record {
+      pool = addW four (lent (B .pool .after) (replicate (512 * m) 5) (replicate (2 + m - B .pool .after .numbers .free) 8)) q m;
+      ledger = addL four (B .ledger .after) q m (512 * m) (2 + m);
+    }
 
 -- The calls, numbered as the cases are.
 abbrev case1 : Both
@@ -82,6 +93,40 @@ case11 = map case10 0x7FFFFFF000 0x80000000 4096 3
 
 abbrev case11b : Both
 case11b = map case11 0x8000000000 0x80000000 4096 3
+
+-- The customer's story of request 6: a pool of two tables is one short; a second region of two comes, and the map succeeds. n = 2 at 0x40000000, m = 2 at
+-- 0x50000000.
+abbrev short1 : Both
+short1 = record {
+  pool = formatW four 3 (oneRegion 0x40000000 2) (replicate 1024 7) 1024 (replicate 2 9);
+  ledger = formatL four (ledger 9 (oneRegion 9 2) []) 3 (oneRegion 0x40000000 2);
+}
+
+abbrev short2 : Both
+short2 = map short1 0 0x80000000 4096 3
+
+abbrev more1 : Both
+more1 = add short2 0x50000000 2
+
+abbrev more2 : Both
+more2 = map more1 0 0x80000000 4096 3
+
+abbrev more3 : Both
+more3 = unmap more2 0
+
+-- a second add
+abbrev again : Both
+again = add more2 0x60000000 2
+
+-- a pool whose root names a table of the region that is to come: its words are read under the setup from before
+abbrev early : Done
+early =
+    let p = short1 .pool .after in
+    addW four (lent (pool (p .numbers) (set (p .words) 0 0x50000003) (p .cut) (p .list)) (replicate 1024 5) (replicate 3 8)) 0x50000000 2
+
+-- a frame of 1 GiB, which needs no table, under a region
+abbrev big : Both
+big = map short1 0 0x80000000 0x40000000 3
 
 -- both answer so
 abbrev Answers : Both → Answer → Type 0
@@ -167,9 +212,41 @@ pub record Cases : Type 0 where
   pub free-11 : Free case11 1
   pub hole-11 : Finds case11 0x7FFFFFE000 (hole 0x7FFFFFE000 4096)
   pub refuses-11b : Refuses case11 case11b 4
+  -- request 6: one table short, then the second region
+  pub short-7 : Refuses short1 short2 7
+  pub adds : Answers more1 added
+  pub list-more : more1 .pool .after .list ≡ 1 ∷ 3 ∷ 2 ∷ 8 ∷ []
+  pub free-more : Free more1 3
+  pub zeros-more : allZero (part (more1 .pool .after .words) 1024 1024) ≡ true
+  pub takes-more : Answers more2 (took 2)
+  pub word-more-0 : word more2 0 ≡ 0x50000003
+  pub word-more-1024 : word more2 1024 ≡ 0x50001003
+  pub word-more-1536 : word more2 1536 ≡ 0x00400000800007FF
+  pub finds-more : Finds more2 0x123 (found (mapping 0 0x80000000 4096 3))
+  pub gives-more : Answers more3 (gave 0x80000000 4096 3 2)
+  pub list-given : more3 .pool .after .list ≡ 1 ∷ 3 ∷ 2 ∷ 8 ∷ []
+  pub free-given : Free more3 3
+  -- no frame in either region
+  pub first-11 : Refuses more1 (map more1 0 0x40001000 4096 3) 11
+  pub second-11 : Refuses more1 (map more1 0 0x50001000 4096 3) 11
+  pub past-second : Answers (map more1 0 0x50002000 4096 3) (took 2)
+  -- a region is there already; none comes; it is not aligned; it overlaps, from below and from above
+  pub again-1 : Answers again (refused 1)
+  pub none-1 : Answers (add short2 0 0) (refused 1)
+  pub unaligned-1 : Answers (add short2 0x50000800 2) (refused 1)
+  pub below-1 : Answers (add short2 0x3FFFF000 2) (refused 1)
+  pub above-1 : Answers (add short2 0x40001000 2) (refused 1)
+  -- regions that touch, either way round
+  pub touches-below : Answers (add short2 0x3FFFE000 2) added
+  pub touches-above : Answers (add short2 0x40002000 2) added
+  -- a damaged word
+  pub early-8 : early .answer ≡ refused 8
+  -- a live frame under the new region; a region right after it
+  pub under-11 : Answers (add big 0xBFFFF000 2) (refused 11)
+  pub after-frame : Answers (add big 0xC0000000 2) added
 
 pub cases : Cases
-unfolding format map unmap foundAt queryW queryL
+unfolding format map unmap add foundAt queryW queryL
 cases =
     record {
       formats = (refl, refl);
@@ -215,4 +292,30 @@ cases =
       free-11 = (refl, refl);
       hole-11 = (refl, refl);
       refuses-11b = (refl, refl);
+      short-7 = (refl, refl);
+      adds = (refl, refl);
+      list-more = refl;
+      free-more = (refl, refl);
+      zeros-more = refl;
+      takes-more = (refl, refl);
+      word-more-0 = refl;
+      word-more-1024 = refl;
+      word-more-1536 = refl;
+      finds-more = (refl, refl);
+      gives-more = (refl, refl);
+      list-given = refl;
+      free-given = (refl, refl);
+      first-11 = (refl, refl);
+      second-11 = (refl, refl);
+      past-second = (refl, refl);
+      again-1 = (refl, refl);
+      none-1 = (refl, refl);
+      unaligned-1 = (refl, refl);
+      below-1 = (refl, refl);
+      above-1 = (refl, refl);
+      touches-below = (refl, refl);
+      touches-above = (refl, refl);
+      early-8 = refl;
+      under-11 = (refl, refl);
+      after-frame = (refl, refl);
     }

@@ -6,11 +6,12 @@ use mathlib.Core.Option.{Option, some, none}
 use lib.Dec.{ltb, leb, eqb}
 use lib.ListN.{length}
 use Rattle.path.specs.Geometry.{Granule, pageSize, entries, sizeAt, spaceOf}
-use Rattle.path.specs.Areas.{Area, total}
-use Rattle.path.specs.Numbers.{goodNumbers}
+use Rattle.path.specs.Areas.{Area, oneRegion, withSecond, total}
+use Rattle.path.specs.Numbers.{goodNumbers, goodAdding}
 use Rattle.path.specs.Paths.{baseAt}
-use Rattle.model.specs.Answers.{Mapping, mapping, Answer, formatted, took, gave, found, audited, refused, hole}
+use Rattle.model.specs.Answers.{Mapping, mapping, Answer, formatted, added, took, gave, found, audited, refused, hole}
 use Rattle.model.specs.Calls.{mapTests, unmapTests}
+use Rattle.model.specs.Audit.{noneInside}
 
 -- the pool's numbers, and the live mappings
 pub record Ledger : Type 0 where
@@ -112,8 +113,16 @@ entered a L = record { answer = a; after = L }
 -- Format empties the ledger; the lent memory is that of the pool's tables. Refused, it leaves the ledger as it was.
 unfoldable pub formatL : Granule → Ledger → ℕ → Area → Entered
 formatL G A levels area =
-    cond (goodNumbers G levels area (entries G * total (A .area)) (total (A .area)))
+    cond (goodNumbers G levels area (entries G * A .area .tables) (entries G * total (A .area)) (total (A .area)))
     (entered formatted (ledger levels area []))
+    (entered (refused 1) A)
+
+-- Add: 11 exactly where the frame of a live mapping shares a byte with the new region. The first run is that of the pool's tables; the second run that is
+-- lent has so many words, and the longer list so many places. The mappings stay.
+unfoldable pub addL : Granule → Ledger → ℕ → ℕ → ℕ → ℕ → Entered
+addL G A q m second places =
+    cond (goodAdding G (A .levels) (A .area) q m (entries G * A .area .tables) (entries G * A .area .tables + second) places)
+    (cond (noneInside G (oneRegion q m) (A .live)) (entered added (ledger (A .levels) (withSecond (A .area) q m) (A .live))) (entered (refused 11) A))
     (entered (refused 1) A)
 
 -- Map: 6 exactly where the range overlaps a live mapping, 7 exactly where more new tables are needed than are free

@@ -50,7 +50,7 @@ module _ (G : Granule) where
 -- the pool as it was, or after single writes and with a free count that stays below the table count
 pub data Leaves (G : Granule) (p : Pool) : Pool → Type 0 where
   as-it-was : Leaves G p p
-  after-writes : (ws : List Write) (f : ℕ) → (p .numbers .free < p .numbers .tables → f < p .numbers .tables) → Leaves G p (written G p ws f)
+  after-writes : (ws : List Write) (f : ℕ) → (p .numbers .free < total (areaOf (p .numbers)) → f < total (areaOf (p .numbers))) → Leaves G p (written G p ws f)
 
 module _ (G : Granule) (p : Pool) where
   -- a test chooses between two
@@ -63,7 +63,7 @@ module _ (G : Granule) (p : Pool) where
     unfolding mapHere
     map-here g o need =
         chosen (ltb (p .numbers .free) need) (refuse 7 p) _ as-it-was (λ _.
-        chosen (mayTake (p .list) (p .numbers .tables) (o .tables) (p .numbers .free) need) _ (refuse 8 p) (after-writes _ _ (λ l. omega arith)) (λ _. as-it-was))
+        chosen (mayTake (p .list) (total (areaOf (p .numbers))) (o .tables) (p .numbers .free) need) _ (refuse 8 p) (after-writes _ _ (λ l. omega arith)) (λ _. as-it-was))
 
     map-at : (g : ℕ) (o : Walked) (e : Entry) → Leaves G p (mapAt G p a b g k o e .after)
     unfolding mapAt
@@ -85,8 +85,8 @@ module _ (G : Granule) (p : Pool) where
     unmap-here : (b k : ℕ) (o : Walked) (given : ℕ) → Leaves G p (unmapHere G p a b k o given .after)
     unfolding unmapHere
     unmap-here b k o given =
-        chosen (ltb (p .numbers .tables - 1) (p .numbers .free + given)) (refuse 8 p) _ as-it-was
-        (λ e. after-writes _ _ (λ l. omega (arith, ltb-false (p .numbers .tables - 1) (p .numbers .free + given) e)))
+        chosen (ltb (total (areaOf (p .numbers)) - 1) (p .numbers .free + given)) (refuse 8 p) _ as-it-was
+        (λ e. after-writes _ _ (λ l. omega (arith, ltb-false (total (areaOf (p .numbers)) - 1) (p .numbers .free + given) e)))
 
     unmap-at : (o : Walked) (e : Entry) → Leaves G p (unmapAt G p a o e .after)
     unfolding unmapAt
@@ -108,38 +108,38 @@ module _ (G : Granule) (p : Pool) where
 
 -- ---- what all that keeps
 
--- the setup numbers but the free count, and the lengths of the lent memory
+-- the setup numbers but the free count, the cut, and the lengths of the lent memory
 pub record Kept (p q : Pool) : Type 0 where
   pub levels : q .numbers .levels ≡ p .numbers .levels
-  pub base : q .numbers .base ≡ p .numbers .base
-  pub tables : q .numbers .tables ≡ p .numbers .tables
+  pub area : areaOf (q .numbers) ≡ areaOf (p .numbers)
+  pub cut : q .cut ≡ p .cut
   pub words : length (q .words) ≡ length (p .words)
   pub places : length (q .list) ≡ length (p .list)
 
 pub leaves-kept : {G : Granule} {p q : Pool} → Leaves G p q → Kept p q
-leaves-kept as-it-was = record { levels = refl; base = refl; tables = refl; words = refl; places = refl }
+leaves-kept as-it-was = record { levels = refl; area = refl; cut = refl; words = refl; places = refl }
 leaves-kept {G} {p} (after-writes ws f room) = record {
   levels = refl;
-  base = refl;
-  tables = refl;
+  area = refl;
+  cut = refl;
   words = performed-length G ws (memory (p .words) (p .list));
   places = performed-places G ws (memory (p .words) (p .list));
 }
 
 -- a free count below the table count stays so
-pub leaves-room : {G : Granule} {p q : Pool} → Leaves G p q → p .numbers .free < p .numbers .tables → q .numbers .free < q .numbers .tables
+pub leaves-room : {G : Granule} {p q : Pool} → Leaves G p q → p .numbers .free < total (areaOf (p .numbers)) → q .numbers .free < total (areaOf (q .numbers))
 leaves-room as-it-was l = l
 leaves-room (after-writes ws f room) l = room l
 
 -- so a pool whose numbers and lengths are good is left so
 pub leaves-good : {G : Granule} {p q : Pool} → Leaves G p q → goodPool G p ≡ true → goodPool G q ≡ true
 leaves-good {G} {p} {q} L e = setup-good (record {
-  numbers = rw (K .levels, K .base, K .tables, K .words, K .places) (S .numbers);
+  numbers = rw (K .levels, K .area, K .cut, K .words, K .places) (S .numbers);
   room = leaves-room L (S .room);
 })
   where
     K : Kept p q
     K = leaves-kept L
 
-    S : GoodSetup G (p .numbers) (length (p .words)) (length (p .list))
+    S : GoodSetup G (p .numbers) (p .cut) (length (p .words)) (length (p .list))
     S = good-setup e

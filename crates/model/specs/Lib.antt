@@ -3,6 +3,7 @@ pub mod Walk
 pub mod Writes
 pub mod Calls
 pub mod Audit
+pub mod Adds
 pub mod Ledger
 pub mod Holes
 pub mod LedgerLaws
@@ -12,6 +13,8 @@ pub mod Unique
 pub mod Cases
 pub mod Sound
 pub mod AuditLaws
+pub mod AddLaws
+pub mod RunLaws
 pub mod MappingLaws
 pub mod Descent
 pub mod DescentLaws

@@ -145,7 +145,7 @@ module _ {G : Granule} (S : Sane G) (p : Pool) (g : goodPool G p ≡ true) where
   pub pool-rises : Rising 0 (spaceOf G (p .numbers .levels)) (mappingsOf G p)
   pool-rises = subst (λ (x : ℕ). Rising 0 x (mappingsOf G p)) space (table-rises G (p .words) (areaOf (p .numbers)) (p .numbers .levels - 1) 0 0)
     where
-      N : GoodNumbers G (p .numbers .levels) (areaOf (p .numbers)) (length (p .words)) (length (p .list))
+      N : GoodNumbers G (p .numbers .levels) (areaOf (p .numbers)) (p .cut) (length (p .words)) (length (p .list))
       N = good-setup g .numbers
 
       top : suc (p .numbers .levels - 1) ≡ p .numbers .levels

@@ -2,7 +2,7 @@
 use Prim.Native.Nat.{ℕ, zero, suc, _+_, _-_, _*_, _%_, _^_, _≤_, _<_}
 use mathlib.Core.Path.{_≡_, refl, sym, ap, subst, _∙_}
 use mathlib.Core.Logic.{_≢_, _⊎_, inl, inr, ⊎-elim, _↔_, Iff·trans}
-use mathlib.Core.Bool.{Bool, true, false, cond, _&&_, not, true≢false, false≢true, and-eq-true-iff}
+use mathlib.Core.Bool.{Bool, true, false, cond, _&&_, _||_, not, true≢false, false≢true, and-eq-true-iff}
 use mathlib.Core.List.{List, [], _∷_, List·Memᴰ, List·Memᴰ·head as here, List·Memᴰ·tail as there, List·Memᴰ·cases-cons}
 use native.Mathlib.Decide.{decLt, ℕ-discrete}
 use native.Mathlib.Omega.{arith}
@@ -13,29 +13,33 @@ use borrow.Author.Tests.{ltb-true, ltb-false, leb-true, leb-false, eqb-true, eqb
 use Rattle.laws.specs.Lists.{part, among}
 use Rattle.laws.specs.ListLaws.{length-part-le, getD-part, allZero-at, allZero-of, among-mem, not-among}
 use Rattle.path.specs.Geometry.{four, sizeAt, goodLevels, spaceOf, seek, heightOf, physical}
-use Rattle.path.specs.Areas.{Area, areaAt, areaOf, total, GoodArea, meetsArea}
-use Rattle.path.specs.Numbers.{noSetup, goodNumbers, goodSetup, GoodNumbers}
+use Rattle.path.specs.Areas.{Area, areaAt, areaOf, oneRegion, total, GoodArea, Shares, meetsRegion, meetsArea}
+use Rattle.path.specs.Numbers.{noSetup, goodArea, goodNumbers, goodSetup, goodAdding, GoodNumbers}
 use Rattle.path.specs.Paths.{baseAt, pathOf}
-use Rattle.path.specs.Laws.{four-sane, no-frame, height-most, height-size, good-numbers, good-setup, meets-shares, meets-apart}
+use Rattle.path.specs.Laws.{four-sane, no-frame, height-most, height-size, good-numbers, good-setup, good-adding, meets-shares, meets-apart, meets-byte, byte-meets, only-region}
 use Rattle.entry.specs.Words.{entryAt}
 use Rattle.entry.specs.Laws.{table-only}
 use Rattle.entry.specs.declared.Entry.{Entry}
 use Rattle.entry.specs.declared.Entry.the-variants.{Empty, Table, Frame, Damaged}
 use Rattle.model.specs.declared.Walked.{Walked}
-use Rattle.model.specs.Answers.{Answer, formatted, took, gave, found, audited, refusal, refused, hole, Mapping, mapping, Pool, pool, Done, done, refuse}
+use Rattle.model.specs.Answers.{Answer, formatted, added, took, gave, found, audited, refusal, refused, hole, Mapping, mapping, Pool, pool, Done, done, refuse}
 use Rattle.model.specs.Walk.{slot, atHeight, stop, onward, walkFrom, noWay}
 use Rattle.model.specs.Writes.{mayTake, onlyEntry, freed}
 use Rattle.model.specs.Unique.{found-same}
 use Rattle.model.specs.Calls.{goodPool, formatW, foundAt, queryW, mapTests, mapHere, mapAt, mapW, unmapTests, unmapHere, unmapAt, unmapW}
-use Rattle.model.specs.Audit.{soundPool, auditW}
-use Rattle.model.specs.AuditLaws.{sound-only, sound-all, audit-counts}
-use Rattle.model.specs.Sound.{wordAt, reachedOf, mappingsOf, SoundPool}
+use Rattle.model.specs.Audit.{ofPool, noneInside, soundPool, auditW}
+use Rattle.model.specs.Adds.{goodAdd, soundTree, addW}
+use Rattle.model.specs.AddLaws.{tree-wf, wf-tree}
+use Rattle.model.specs.AuditLaws.{inside-back, sound-only, sound-all, audit-counts}
+use Rattle.model.specs.Sound.{wordAt, reachedOf, mappingsOf, WfTree, SoundPool}
 use Rattle.model.specs.DescentLaws.{clash}
-use Rattle.model.specs.Refusals.{Broken, Breaks, NoSize, NoAttributes, NotBelow, Above, Outside, Misplaced, InPool, Occupied, Damage, Vacant}
+use Rattle.model.specs.Refusals.{Broken, areaIn, tableCount, Breaks, NoSize, NoAttributes, NotBelow, Above, Outside, Misplaced, InRegion, InPool, Occupied, Damage, Vacant}
 use Rattle.model.specs.Refusals.{mapWalk, needed, taken, BadTaken, BadList, lastWalk, OffPage, OffStart, Starts, Emptied, GivesBack, FullList}
-use Rattle.model.specs.Refusals.{Row, row, First, None, mapTable, unmapTable, queryTable, auditTable, formatTable}
-use Rattle.model.specs.Refusals.{bare, withHole, ByTable, FormatNumbers, WellFormedMap, MapNumbers, UnmapNumbers, QueryNumbers, AuditNumbers}
-use Rattle.model.specs.Refusals.Broken.{bad-levels, no-table, many-tables, base-unaligned, base-high, bad-words, bad-places}
+use Rattle.model.specs.Refusals.{Row, row, First, None, mapTable, unmapTable, queryTable, auditTable, formatTable, addTable}
+use Rattle.model.specs.Refusals.{bare, withHole, ByTable, FormatNumbers, AddNumbers, WellFormedMap, MapNumbers, UnmapNumbers, QueryNumbers, AuditNumbers}
+use Rattle.model.specs.Refusals.Broken.{bad-levels, no-table, many-tables, base-unaligned, base-high, second-unaligned, second-high, regions-overlap, second-nowhere, bad-words, bad-second, bad-places}
+use Rattle.model.specs.Refusals.{CannotAdd, NewUnder}
+use Rattle.model.specs.Refusals.CannotAdd.{region-there, second-base-there, no-new-table, broken-with-it, free-high}
 use Rattle.model.specs.Refusals.Outside.{starts-outside, ends-outside, frame-outside}
 use Rattle.model.specs.Refusals.BadTaken.{root-taken, beyond-taken, taken-twice, taken-on-path}
 
@@ -178,41 +182,65 @@ broke : {A : Type 0} {x y : Bool} → (x && y) ≡ false → (x ≡ false → A)
 broke {x = true} e f g = g e
 broke {x = false} e f g = f refl
 
-module _ {levels base tables words places : ℕ} where
-  three-four : goodLevels four levels ≡ false → Broken levels base tables words places
+-- where neither of two tests holds
+neither : (x y : Bool) → (x || y) ≡ false → (x ≡ false) × (y ≡ false)
+neither true y e = absurd (true≢false e)
+neither false y e = (refl, e)
+
+module _ {levels : ℕ} {r : Area} {first all places : ℕ} where
+  three-four : goodLevels four levels ≡ false → Broken levels r first all places
   unfolding goodLevels
   three-four e = bad-levels (λ z. true≢false (sym (ap (λ (l : ℕ). leb 3 l && leb l 4) z) ∙ e)) (λ z. true≢false (sym (ap (λ (l : ℕ). leb 3 l && leb l 4) z) ∙ e))
 
-  pub bad-broken : goodNumbers four levels (areaAt base tables) words places ≡ false → Broken levels base tables words places
+  area-broken : goodArea four r ≡ false → Broken levels r first all places
+  unfolding goodArea
+  area-broken e =
+      broke e (λ q. base-unaligned (eqb-false (r .base % 4096) 0 q)) (λ e.
+      broke e (λ q. base-high (leb-false (r .base + 4096 * r .tables) (2 ^ 48) q)) (λ e.
+      broke e (λ q. second-unaligned (eqb-false (r .base₂ % 4096) 0 q)) (λ e.
+      broke e (λ q. second-high (leb-false (r .base₂ + 4096 * r .tables₂) (2 ^ 48) q)) (λ e.
+      broke e
+      (λ q. let (x, y) = neither (leb (r .base + 4096 * r .tables) (r .base₂)) (leb (r .base₂ + 4096 * r .tables₂) (r .base)) q in
+      regions-overlap (leb-false (r .base + 4096 * r .tables) (r .base₂) x) (leb-false (r .base₂ + 4096 * r .tables₂) (r .base) y))
+      (λ q. let (x, y) = neither (ltb 0 (r .tables₂)) (eqb (r .base₂) 0) q in
+      let l = ltb-false 0 (r .tables₂) x in
+      second-nowhere (omega arith) (eqb-false (r .base₂) 0 y))))))
+
+  pub bad-broken : goodNumbers four levels r first all places ≡ false → Broken levels r first all places
   unfolding goodNumbers
   bad-broken e =
       broke e three-four (λ e.
-      broke e (λ q. no-table (leb-false 1 tables q)) (λ e.
-      broke e (λ q. many-tables (leb-false tables 512 q)) (λ e.
-      broke e (λ q. base-unaligned (eqb-false (base % 4096) 0 q)) (λ e.
-      broke e (λ q. base-high (leb-false (base + 4096 * tables) (2 ^ 48) q)) (λ e.
-      broke e (λ q. bad-words (eqb-false words (512 * tables) q)) (λ q. bad-places (eqb-false places tables q)))))))
+      broke e (λ q. no-table (leb-false 1 (r .tables) q)) (λ e.
+      broke e (λ q. many-tables (leb-false (r .tables + r .tables₂) 512 q)) (λ e.
+      broke e area-broken (λ e.
+      broke e (λ q. bad-words (eqb-false first (512 * r .tables) q)) (λ e.
+      broke e (λ q. bad-second (eqb-false all (512 * (r .tables + r .tables₂)) q)) (λ q. bad-places (eqb-false places (r .tables + r .tables₂) q)))))))
 
-  levels-are : GoodNumbers four levels (areaAt base tables) words places → (levels ≡ 3) ⊎ (levels ≡ 4)
+  levels-are : GoodNumbers four levels r first all places → (levels ≡ 3) ⊎ (levels ≡ 4)
   levels-are N = go (ℕ-discrete levels 3)
     where
       go : Dec (levels ≡ 3) → (levels ≡ 3) ⊎ (levels ≡ 4)
       go (yes e) = inl e
       go (no d) = inr (omega (arith, N .enough, N .not-more))
 
-  pub good-unbroken : GoodNumbers four levels (areaAt base tables) words places → Broken levels base tables words places → ⊥
+  pub good-unbroken : GoodNumbers four levels r first all places → Broken levels r first all places → ⊥
   good-unbroken N (bad-levels x y) = ⊎-elim x y (levels-are N)
   good-unbroken N (no-table l) = omega (arith, N .some-table)
   good-unbroken N (many-tables l) = omega (arith, N .few)
   good-unbroken N (base-unaligned d) = d (N .placed .aligned)
   good-unbroken N (base-high l) = omega (arith, N .placed .fits)
-  good-unbroken N (bad-words d) = d (N .words-are)
+  good-unbroken N (second-unaligned d) = d (N .placed .aligned₂)
+  good-unbroken N (second-high l) = omega (arith, N .placed .fits₂)
+  good-unbroken N (regions-overlap x y) = ⊎-elim (λ l. omega arith) (λ l. omega arith) (N .placed .apart)
+  good-unbroken N (second-nowhere z d) = d (N .placed .no-second z)
+  good-unbroken N (bad-words d) = d (N .cut-is)
+  good-unbroken N (bad-second d) = d (N .words-are)
   good-unbroken N (bad-places d) = d (N .places-are)
 
 module _ (p : Pool) where
   pub bad-breaks : goodPool four p ≡ false → Breaks p
   unfolding goodSetup
-  bad-breaks e = broke e (λ q. inl (bad-broken q)) (λ q. inr (ltb-false (p .numbers .free) (p .numbers .tables) q))
+  bad-breaks e = broke e (λ q. inl (bad-broken q)) (λ q. inr (ltb-false (p .numbers .free) (tableCount p) q))
 
   pub good-keeps : goodPool four p ≡ true → Breaks p → ⊥
   good-keeps e (inl x) = good-unbroken (good-setup e .numbers) x
@@ -455,18 +483,85 @@ no-table-last p a c = no-table-here (p .words) (areaOf (p .numbers)) (pathOf fou
 
 -- ---- format
 
-module _ (levels base tables : ℕ) (ws list : List ℕ) where
+module _ (levels : ℕ) (r : Area) (ws : List ℕ) (cut : ℕ) (list : List ℕ) where
   abbrev lent : Pool
-  lent = pool noSetup ws list
+  lent = pool noSetup ws cut list
 
-  format-told : Told (formatTable levels base tables ws list) bare lent (λ d. d .answer ≡ formatted) (formatW four levels (areaAt base tables) ws list)
+  format-told : Told (formatTable levels r ws cut list) bare lent (λ d. d .answer ≡ formatted) (formatW four levels r ws cut list)
   unfolding formatW
-  format-told = go (goodNumbers four levels (areaAt base tables) (length ws) (length list)) refl (done formatted _) refl
+  format-told = go (goodNumbers four levels r cut (length ws) (length list)) refl (done formatted _) refl
     where
-      go : (x : Bool) → goodNumbers four levels (areaAt base tables) (length ws) (length list) ≡ x → (d : Done) → d .answer ≡ formatted
-          → Told (formatTable levels base tables ws list) bare lent (λ d. d .answer ≡ formatted) (cond x d (refuse 1 lent))
+      go : (x : Bool) → goodNumbers four levels r cut (length ws) (length list) ≡ x → (d : Done) → d .answer ≡ formatted
+          → Told (formatTable levels r ws cut list) bare lent (λ d. d .answer ≡ formatted) (cond x d (refuse 1 lent))
       go true e d q = miss (good-unbroken (good-numbers e)) (accepted-by tt q)
       go false e d q = hit (bad-broken e)
+
+-- ---- add
+
+-- bytes shared with one region, or with either
+in-region : (base tables b size : ℕ) → meetsRegion four base tables b size ≡ true → InRegion base tables b size
+in-region base tables b size e =
+    let (x, s, t, i) = meets-byte four base tables b size e in
+    record { byte = x; frame-starts = s; frame-ends = t; pool-starts = i .0; pool-ends = i .1 }
+
+region-in : (base tables b size : ℕ) → InRegion base tables b size → meetsRegion four base tables b size ≡ true
+region-in base tables b size i = byte-meets four base tables b size (i .byte) (i .frame-starts) (i .frame-ends) (i .pool-starts, i .pool-ends)
+
+module _ (p : Pool) (q m : ℕ) where
+  abbrev maps : List Mapping
+  maps = mappingsOf four p
+
+  -- a frame under the new region is found by the test
+  under : (L : List Mapping) → noneInside four (oneRegion q m) L ≡ false → (k : Mapping) × List·Memᴰ k L × InRegion q m (k .frame) (k .size)
+  unfolding noneInside
+  under [] e = absurd (true≢false e)
+  under (k ∷ L) e =
+      broke e
+      (λ x. (k, here refl, in-region q m (k .frame) (k .size) (one-meets (k .frame) (k .size) ∙ not-false (meetsArea four (oneRegion q m) (k .frame) (k .size)) x)))
+      (λ x. let (j, i, b) = under L x in (j, there i, b))
+    where
+      one-meets : (b size : ℕ) → meetsRegion four q m b size ≡ meetsArea four (oneRegion q m) b size
+      one-meets b size = sym (only-region four q m b size)
+
+  clear : noneInside four (oneRegion q m) maps ≡ true → NewUnder p q m → ⊥
+  clear e (k, i, b) =
+      inside-back four (oneRegion q m) maps e k i (meets-shares (only-region four q m (k .frame) (k .size) ∙ region-in q m (k .frame) (k .size) b))
+
+  can-add : goodAdd four p q m ≡ true → CannotAdd p q m → ⊥
+  can-add e x = go (and-eq-true-iff (goodAdding four (p .numbers .levels) (areaIn p) q m (p .cut) (length (p .words)) (length (p .list))) _ .0 e) x
+    where
+      go : (goodAdding four (p .numbers .levels) (areaIn p) q m (p .cut) (length (p .words)) (length (p .list)) ≡ true) × (ltb (p .numbers .free) (tableCount p) ≡ true)
+          → CannotAdd p q m → ⊥
+      go (a, b) (region-there d) = d (good-adding a .one-yet .1)
+      go (a, b) (second-base-there d) = d (good-adding a .one-yet .0)
+      go (a, b) (no-new-table z) = omega (arith, good-adding a .some-new)
+      go (a, b) (broken-with-it x) = good-unbroken (good-adding a .numbers) x
+      go (a, b) (free-high l) = omega (arith, ltb-true (p .numbers .free) (tableCount p) b, good-adding a .one-yet .1)
+
+  cannot-add : goodAdd four p q m ≡ false → CannotAdd p q m
+  unfolding goodAdding
+  cannot-add e = go (ℕ-discrete (p .numbers .tables2) 0)
+    where
+      go : Dec (p .numbers .tables2 ≡ 0) → CannotAdd p q m
+      go (no d) = region-there d
+      go (yes z) =
+          broke e
+          (λ e. broke e
+          (λ e. broke e (λ x. second-base-there (eqb-false (p .numbers .base2) 0 x)) (λ x. region-there (eqb-false (p .numbers .tables2) 0 x)))
+          (λ e. broke e (λ x. let l = ltb-false 0 m x in no-new-table (omega arith)) (λ x. broken-with-it (bad-broken x))))
+          (λ x. let l = ltb-false (p .numbers .free) (tableCount p) x in free-high (omega arith))
+
+  add-told : Told (addTable p q m) bare p (λ d. d .answer ≡ added) (addW four p q m)
+  unfolding addW
+  add-told = go (goodAdd four p q m) (soundTree (ofPool four p)) (noneInside four (oneRegion q m) maps) refl refl refl (done added _) refl
+    where
+      go : (x y z : Bool) → goodAdd four p q m ≡ x → soundTree (ofPool four p) ≡ y → noneInside four (oneRegion q m) maps ≡ z
+          → (d : Done) → d .answer ≡ added
+          → Told (addTable p q m) bare p (λ d. d .answer ≡ added) (cond x (cond y (cond z d (refuse 11 p)) (refuse 8 p)) (refuse 1 p))
+      go false y z a b c d e = hit (cannot-add a)
+      go true false z a b c d e = miss (can-add a) (hit (λ w. true≢false (sym (wf-tree four p w) ∙ b)))
+      go true true false a b c d e = miss (can-add a) (miss (λ f. f (tree-wf four p b)) (hit (under maps c)))
+      go true true true a b c d e = miss (can-add a) (miss (λ f. f (tree-wf four p b)) (miss (clear c) (accepted-by tt e)))
 
 -- ---- map
 
@@ -488,18 +583,18 @@ module _ (p : Pool) (a b size k : ℕ) where
 
   here-told : Told Empties bare p Took (mapHere four p a b g k o (needed p a size))
   unfolding mapHere
-  here-told = go (ltb (p .numbers .free) (needed p a size)) (mayTake (p .list) (p .numbers .tables) (o .tables) (p .numbers .free) (needed p a size)) refl refl (done (took (needed p a size)) _) refl
+  here-told = go (ltb (p .numbers .free) (needed p a size)) (mayTake (p .list) (tableCount p) (o .tables) (p .numbers .free) (needed p a size)) refl refl (done (took (needed p a size)) _) refl
     where
       go : (x y : Bool) → ltb (p .numbers .free) (needed p a size) ≡ x
-          → mayTake (p .list) (p .numbers .tables) (o .tables) (p .numbers .free) (needed p a size) ≡ y
+          → mayTake (p .list) (tableCount p) (o .tables) (p .numbers .free) (needed p a size) ≡ y
           → (d : Done) → Took d → Told Empties bare p Took (cond x (refuse 7 p) (cond y d (refuse 8 p)))
       go true y e t d q = hit (ltb-true (p .numbers .free) (needed p a size) e)
       go false y e t d q = miss (λ l. omega (arith, ltb-false (p .numbers .free) (needed p a size) e)) (last y t)
         where
-          last : (y : Bool) → mayTake (p .list) (p .numbers .tables) (o .tables) (p .numbers .free) (needed p a size) ≡ y
+          last : (y : Bool) → mayTake (p .list) (tableCount p) (o .tables) (p .numbers .free) (needed p a size) ≡ y
               → Told (row 8 (BadList p a size) ∷ []) bare p Took (cond y d (refuse 8 p))
-          last true t = miss (may-not-bad (p .list) (p .numbers .tables) (o .tables) (p .numbers .free) (needed p a size) t) (accepted-by tt q)
-          last false t = hit (cannot-take (p .list) (p .numbers .tables) (o .tables) (p .numbers .free) (needed p a size) t)
+          last true t = miss (may-not-bad (p .list) (tableCount p) (o .tables) (p .numbers .free) (needed p a size) t) (accepted-by tt q)
+          last false t = hit (cannot-take (p .list) (tableCount p) (o .tables) (p .numbers .free) (needed p a size) t)
 
   walk-told : (e : Entry) → o .entry ≡ e → Told Walks bare p Took (mapAt four p a b g k o e)
   unfolding mapAt
@@ -512,18 +607,25 @@ module _ (p : Pool) (a b size k : ℕ) where
   abbrev inPool : Bool
   inPool = meetsArea four (areaOf (p .numbers)) b size
 
-  pub in-pool : inPool ≡ true → InPool (p .numbers .base) (p .numbers .tables) b size
-  in-pool e = let S = meets-shares e in record { byte = S .byte; frame-starts = S .starts; frame-ends = S .ends; pool-starts = S .inside .0; pool-ends = S .inside .1 }
+  pub in-pool : inPool ≡ true → InPool (areaIn p) b size
+  in-pool e = go (meets-shares e)
+    where
+      go : Shares four (areaIn p) b size → InPool (areaIn p) b size
+      go S = ⊎-elim
+          (λ i. inl (record { byte = S .byte; frame-starts = S .starts; frame-ends = S .ends; pool-starts = i .0; pool-ends = i .1 }))
+          (λ i. inr (record { byte = S .byte; frame-starts = S .starts; frame-ends = S .ends; pool-starts = i .0; pool-ends = i .1 }))
+          (S .inside)
 
-  pub off-pool : inPool ≡ false → InPool (p .numbers .base) (p .numbers .tables) b size → ⊥
-  off-pool e i = meets-apart e (record { byte = i .byte; starts = i .frame-starts; ends = i .frame-ends; inside = (i .pool-starts, i .pool-ends) })
+  pub off-pool : inPool ≡ false → InPool (areaIn p) b size → ⊥
+  off-pool e (inl i) = meets-apart e (record { byte = i .byte; starts = i .frame-starts; ends = i .frame-ends; inside = inl (i .pool-starts, i .pool-ends) })
+  off-pool e (inr i) = meets-apart e (record { byte = i .byte; starts = i .frame-starts; ends = i .frame-ends; inside = inr (i .pool-starts, i .pool-ends) })
 
   -- the tests from 4 on
   abbrev number : Bool → Bool → Bool → Bool → Bool → Bool → ℕ
   number x₃ x₄ x₅ x₆ x₇ x₈ = cond x₃ 4 (cond x₄ 4 (cond x₅ 4 (cond x₆ (cond x₇ (cond x₈ 11 0) 5) 5)))
 
   abbrev Places : List Row
-  Places = row 5 (Misplaced a b size) ∷ row 11 (InPool (p .numbers .base) (p .numbers .tables) b size) ∷ Walks
+  Places = row 5 (Misplaced a b size) ∷ row 11 (InPool (areaIn p) b size) ∷ Walks
 
   abbrev Arguments : List Row
   Arguments = row 2 (NoSize size) ∷ row 3 (NoAttributes k) ∷ row 4 (Outside (p .numbers .levels) a b size) ∷ Places
@@ -631,15 +733,15 @@ module _ (p : Pool) (a : ℕ) where
 
   give-told : (b k : ℕ) → w .entry ≡ Frame b k → Told (row 8 (FullList p a) ∷ []) (withHole a w) p (AtFrame givesUp) (unmapHere four p a b k w (given p a w))
   unfolding unmapHere
-  give-told b k q = go (ltb (p .numbers .tables - 1) (p .numbers .free + given p a w)) refl (done (givesUp b k) _) refl
+  give-told b k q = go (ltb (tableCount p - 1) (p .numbers .free + given p a w)) refl (done (givesUp b k) _) refl
     where
-      go : (x : Bool) → ltb (p .numbers .tables - 1) (p .numbers .free + given p a w) ≡ x → (d : Done) → d .answer ≡ givesUp b k
+      go : (x : Bool) → ltb (tableCount p - 1) (p .numbers .free + given p a w) ≡ x → (d : Done) → d .answer ≡ givesUp b k
           → Told (row 8 (FullList p a) ∷ []) (withHole a w) p (AtFrame givesUp) (cond x (refuse 8 p) d)
-      go true e d z = hit (given p a w, gives-back p a w, ltb-true (p .numbers .tables - 1) (p .numbers .free + given p a w) e)
+      go true e d z = hit (given p a w, gives-back p a w, ltb-true (tableCount p - 1) (p .numbers .free + given p a w) e)
       go false e d z = miss full (accepted-by tt (b, k, q, z))
         where
           full : FullList p a → ⊥
-          full (n, B, l) = omega (arith, gives-one p a w B (gives-back p a w), ltb-false (p .numbers .tables - 1) (p .numbers .free + given p a w) e)
+          full (n, B, l) = omega (arith, gives-one p a w B (gives-back p a w), ltb-false (tableCount p - 1) (p .numbers .free + given p a w) e)
 
   end-told : (e : Entry) → w .entry ≡ e → Told Ends (withHole a w) p (AtFrame givesUp) (unmapAt four p a w e)
   unfolding unmapAt baseAt
@@ -694,8 +796,12 @@ module _ (p : Pool) where
 
 -- ---- each call keeps its table
 
-pub format-table : (levels base tables : ℕ) (ws list : List ℕ) → ByTable (formatTable levels base tables ws list) bare (pool noSetup ws list) (formatW four levels (areaAt base tables) ws list)
-format-table levels base tables ws list = by-table (format-told levels base tables ws list) (λ n v q e. clash (cc))
+pub format-table : (levels : ℕ) (r : Area) (ws : List ℕ) (cut : ℕ) (list : List ℕ)
+    → ByTable (formatTable levels r ws cut list) bare (pool noSetup ws cut list) (formatW four levels r ws cut list)
+format-table levels r ws cut list = by-table (format-told levels r ws cut list) (λ n v q e. clash (cc))
+
+pub add-table : (p : Pool) (q m : ℕ) → ByTable (addTable p q m) bare p (addW four p q m)
+add-table p q m = by-table (add-told p q m) (λ n v z e. clash (cc))
 
 pub map-table : (p : Pool) (a b size k : ℕ) → ByTable (mapTable p a b size k) bare p (mapW four p a b size k)
 map-table p a b size k = by-table (map-told p a b size k) (λ n v q e. clash (cc))
@@ -726,14 +832,36 @@ module _ {rows : List Row} {more : ℕ → List ℕ} {p : Pool} {d : Done} (T : 
     λ (x, c). row-of i n t .1 x ∙ ap (refusal n) (sym c),
   )
 
-pub format-numbers : (levels base tables : ℕ) (ws list : List ℕ) → FormatNumbers levels base tables ws list
-format-numbers levels base tables ws list = record {
-  no-1 = row-of (format-table levels base tables ws list) 0 1 refl;
+pub format-numbers : (levels : ℕ) (r : Area) (ws : List ℕ) (cut : ℕ) (list : List ℕ) → FormatNumbers levels r ws cut list
+format-numbers levels r ws cut list = record {
+  no-1 = row-of (format-table levels r ws cut list) 0 1 refl;
   accepted = (λ e. by-none told formatted (λ n v z. clash (cc)) e .0 .0, λ x. none-by told (x, tt));
 }
   where
-    told : Told (formatTable levels base tables ws list) bare (pool noSetup ws list) (λ d. d .answer ≡ formatted) (formatW four levels (areaAt base tables) ws list)
-    told = format-told levels base tables ws list
+    told : Told (formatTable levels r ws cut list) bare (pool noSetup ws cut list) (λ d. d .answer ≡ formatted) (formatW four levels r ws cut list)
+    told = format-told levels r ws cut list
+
+-- whether a tree is well-formed is tested, so what is not otherwise is so
+is-wf : (p : Pool) → (¬ ¬ WfTree four p) → WfTree four p
+is-wf p f = go (soundTree (ofPool four p)) refl
+  where
+    go : (x : Bool) → soundTree (ofPool four p) ≡ x → WfTree four p
+    go true e = tree-wf four p e
+    go false e = absurd (f (λ w. true≢false (sym (wf-tree four p w) ∙ e)))
+
+pub add-numbers : (p : Pool) (q m : ℕ) → AddNumbers p q m
+add-numbers p q m = record {
+  no-1 = row-of (add-table p q m) 0 1 refl;
+  no-8 = row-of (add-table p q m) 1 8 refl;
+  no-11 = Iff·trans (row-of (add-table p q m) 2 11 refl) ((λ (x, (y, z)). (x, is-wf p y, z)), (λ (x, y, z). (x, ((λ f. f y), z))));
+  accepted = (
+    λ e. let n = by-none told added (λ n v z. clash (cc)) e .0 in (n .0, is-wf p (n .1 .0), n .1 .1 .0),
+    λ (x, y, z). none-by told (x, ((λ f. f y), (z, tt))),
+  );
+}
+  where
+    told : Told (addTable p q m) bare p (λ d. d .answer ≡ added) (addW four p q m)
+    told = add-told p q m
 
 pub audit-numbers : (p : Pool) → AuditNumbers p
 audit-numbers p = record {
@@ -869,7 +997,7 @@ module _ (p : Pool) (a : ℕ) where
           × (W .entry ≡ Frame b k)
           × (size ≡ sizeAt four (W .left))
           × GivesBack p a W t
-          × (p .numbers .free + t ≤ p .numbers .tables - 1)
+          × (p .numbers .free + t ≤ tableCount p - 1)
 
       same : {b s k t b′ s′ k′ t′ : ℕ} → gave b s k t ≡ gave b′ s′ k′ t′ → (b ≡ b′) × (s ≡ s′) × (k ≡ k′) × (t ≡ t′)
       same e = (cc, cc, cc, cc)
@@ -880,7 +1008,7 @@ module _ (p : Pool) (a : ℕ) where
           let G = subst (GivesBack p a W) et (gives-back p a W) in
           (x, y, z, o, f ∙ (λ i. Frame (eb i) (ek i)), sym es, G, room t G (λ m. l (t, G, m)))
         where
-          room : (t : ℕ) → GivesBack p a W t → ((p .numbers .tables - 1 < p .numbers .free + t) → ⊥) → p .numbers .free + t ≤ p .numbers .tables - 1
+          room : (t : ℕ) → GivesBack p a W t → ((tableCount p - 1 < p .numbers .free + t) → ⊥) → p .numbers .free + t ≤ tableCount p - 1
           room t G n = omega arith
 
       given-back : (b size k t : ℕ) → Gives b size k t → unmapW four p a .answer ≡ gave b size k t

@@ -7,34 +7,48 @@ use mathlib.Core.List.{List, [], _∷_, List·Memᴰ}
 use lib.Dec.{eqb}
 use lib.ListN.{length, getD}
 use Rattle.path.specs.Geometry.{four, sizeAt, heightOf}
-use Rattle.path.specs.Areas.{Area, areaAt, areaOf, total, GoodArea}
+use Rattle.path.specs.Areas.{Area, areaAt, areaOf}
 use Rattle.path.specs.Paths.{pathOf}
 use Rattle.entry.specs.declared.Entry.the-variants.{Empty, Table, Frame, Damaged}
 use Rattle.model.specs.declared.Walked.{Walked}
-use Rattle.model.specs.Answers.{formatted, took, gave, found, audited, refusal, refused, hole, mapping, Pool, Done}
+use Rattle.model.specs.Answers.{Mapping, formatted, added, took, gave, found, audited, refusal, refused, hole, mapping, Pool, Done}
 use Rattle.model.specs.Walk.{atHeight}
 use Rattle.model.specs.Calls.{walkTo, formatW, queryW, mapW, unmapW}
 use Rattle.model.specs.Audit.{auditW}
-use Rattle.model.specs.Sound.{wordAt, reachedOf, mappingsOf, SoundPool}
+use Rattle.model.specs.Adds.{addW}
+use Rattle.model.specs.Sound.{wordAt, reachedOf, mappingsOf, WfTree, SoundPool}
 
 -- ---- when a number applies
 
--- 1: a setup number or a length breaks one of the rules: levels 3 or 4, tables 1 to 512, a base that is a multiple of 4096 with base + 4096 × tables at most
--- 2^48, 512 × tables words, and as many free-list places as tables
-pub data Broken (levels base tables words places : ℕ) : Type 0 where
-  bad-levels : levels ≢ 3 → levels ≢ 4 → Broken levels base tables words places
-  no-table : tables < 1 → Broken levels base tables words places
-  many-tables : 512 < tables → Broken levels base tables words places
-  base-unaligned : base % 4096 ≢ 0 → Broken levels base tables words places
-  base-high : 2 ^ 48 < base + 4096 * tables → Broken levels base tables words places
-  bad-words : words ≢ 512 * tables → Broken levels base tables words places
-  bad-places : places ≢ tables → Broken levels base tables words places
+-- 1: a setup number or a length breaks one of the rules: levels 3 or 4; tables at least 1, of both regions at most 512; for each region a base that is a
+-- multiple of 4096 with base + 4096 × tables at most 2^48; regions that do not overlap; a second base of 0 where there is no second region; 512 × tables
+-- words in each run, the first of `first` and both of `all`; and as many free-list places as tables
+pub data Broken (levels : ℕ) (r : Area) (first all places : ℕ) : Type 0 where
+  bad-levels : levels ≢ 3 → levels ≢ 4 → Broken levels r first all places
+  no-table : r .tables < 1 → Broken levels r first all places
+  many-tables : 512 < r .tables + r .tables₂ → Broken levels r first all places
+  base-unaligned : r .base % 4096 ≢ 0 → Broken levels r first all places
+  base-high : 2 ^ 48 < r .base + 4096 * r .tables → Broken levels r first all places
+  second-unaligned : r .base₂ % 4096 ≢ 0 → Broken levels r first all places
+  second-high : 2 ^ 48 < r .base₂ + 4096 * r .tables₂ → Broken levels r first all places
+  regions-overlap : r .base₂ < r .base + 4096 * r .tables → r .base < r .base₂ + 4096 * r .tables₂ → Broken levels r first all places
+  second-nowhere : r .tables₂ ≡ 0 → r .base₂ ≢ 0 → Broken levels r first all places
+  bad-words : first ≢ 512 * r .tables → Broken levels r first all places
+  bad-second : all ≢ 512 * (r .tables + r .tables₂) → Broken levels r first all places
+  bad-places : places ≢ r .tables + r .tables₂ → Broken levels r first all places
+
+-- the tables of a pool, in one region or two
+abbrev pub areaIn : Pool → Area
+areaIn p = areaOf (p .numbers)
+
+abbrev pub tableCount : Pool → ℕ
+tableCount p = p .numbers .tables + p .numbers .tables2
 
 -- or the free count is not at most the table count less 1
 abbrev pub Breaks : Pool → Type 0
 Breaks p =
-    Broken (p .numbers .levels) (p .numbers .base) (p .numbers .tables) (length (p .words)) (length (p .list))
-    ⊎ (p .numbers .tables ≤ p .numbers .free)
+    Broken (p .numbers .levels) (areaIn p) (p .cut) (length (p .words)) (length (p .list))
+    ⊎ (tableCount p ≤ p .numbers .free)
 
 -- 2: the size is none of the three
 abbrev pub NoSize : ℕ → Type 0
@@ -61,13 +75,17 @@ pub data Outside (levels a b size : ℕ) : Type 0 where
 abbrev pub Misplaced : ℕ → ℕ → ℕ → Type 0
 Misplaced a b size = (a % size ≢ 0) ⊎ (b % size ≢ 0)
 
--- 11: the frame shares a byte with base to base + 4096 × tables
-pub record InPool (base tables b size : ℕ) : Type 0 where
+-- 11: the frame shares a byte with base to base + 4096 × tables, of one region
+pub record InRegion (base tables b size : ℕ) : Type 0 where
   pub byte : ℕ
   pub frame-starts : b ≤ byte
   pub frame-ends : byte < b + size
   pub pool-starts : base ≤ byte
   pub pool-ends : byte < base + 4096 * tables
+
+-- or of either
+abbrev pub InPool : Area → ℕ → ℕ → Type 0
+InPool r b size = InRegion (r .base) (r .tables) b size ⊎ InRegion (r .base₂) (r .tables₂) b size
 
 -- Where a walk ends is in Descent, in the paper's words; DescentLaws says that `walkTo` ends there.
 -- 6: the walk meets a frame, or the target entry is a table or a frame
@@ -102,7 +120,7 @@ pub data BadTaken (list : List ℕ) (n free need : ℕ) (way : List ℕ) : Type 
   taken-on-path : (j : ℕ) → j < need → List·Memᴰ (taken list free j) way → BadTaken list n free need way
 
 abbrev pub BadList : Pool → ℕ → ℕ → Type 0
-BadList p a size = BadTaken (p .list) (p .numbers .tables) (p .numbers .free) (needed p a size) (mapWalk p a size .tables)
+BadList p a size = BadTaken (p .list) (tableCount p) (p .numbers .free) (needed p a size) (mapWalk p a size .tables)
 
 -- the walk of query and unmap, to the last level
 abbrev pub lastWalk : Pool → ℕ → Walked
@@ -132,7 +150,7 @@ pub record GivesBack (p : Pool) (a : ℕ) (o : Walked) (given : ℕ) : Type 0 wh
 
 -- 8, unmap's free list: giving back would make the free count exceed the table count less 1
 abbrev pub FullList : Pool → ℕ → Type 0
-FullList p a = (given : ℕ) × GivesBack p a (lastWalk p a) given × (p .numbers .tables - 1 < p .numbers .free + given)
+FullList p a = (given : ℕ) × GivesBack p a (lastWalk p a) given × (tableCount p - 1 < p .numbers .free + given)
 
 -- ---- the tables, in the order of the tests
 
@@ -161,7 +179,7 @@ mapTable p a b size k =
     ∷ row 3 (NoAttributes k)
     ∷ row 4 (Outside (p .numbers .levels) a b size)
     ∷ row 5 (Misplaced a b size)
-    ∷ row 11 (InPool (p .numbers .base) (p .numbers .tables) b size)
+    ∷ row 11 (InPool (areaIn p) b size)
     ∷ row 6 (Occupied (mapWalk p a size))
     ∷ row 8 (Damage (mapWalk p a size))
     ∷ row 7 (p .numbers .free < needed p a size)
@@ -190,8 +208,23 @@ queryTable p a =
 abbrev pub auditTable : Pool → List Row
 auditTable p = row 1 (Breaks p) ∷ row 8 (¬ SoundPool four p) ∷ []
 
-abbrev pub formatTable : ℕ → ℕ → ℕ → List ℕ → List ℕ → List Row
-formatTable levels base tables ws list = row 1 (Broken levels base tables (length ws) (length list)) ∷ []
+abbrev pub formatTable : ℕ → Area → List ℕ → ℕ → List ℕ → List Row
+formatTable levels r ws cut list = row 1 (Broken levels r cut (length ws) (length list)) ∷ []
+
+-- 1, add: a region is there already, the new one has no table, a number or a length breaks a rule with it, or the free count is above the old limit
+pub data CannotAdd (p : Pool) (q m : ℕ) : Type 0 where
+  region-there : p .numbers .tables2 ≢ 0 → CannotAdd p q m
+  second-base-there : p .numbers .base2 ≢ 0 → CannotAdd p q m
+  no-new-table : m ≡ 0 → CannotAdd p q m
+  broken-with-it : Broken (p .numbers .levels) (areaAt (p .numbers .base) (p .numbers .tables) q m) (p .cut) (length (p .words)) (length (p .list)) → CannotAdd p q m
+  free-high : p .numbers .tables ≤ p .numbers .free → CannotAdd p q m
+
+-- 11, add: the frame of a mapping that is found in the words shares a byte with the new region
+abbrev pub NewUnder : Pool → ℕ → ℕ → Type 0
+NewUnder p q m = (k : Mapping) × List·Memᴰ k (mappingsOf four p) × InRegion q m (k .frame) (k .size)
+
+abbrev pub addTable : Pool → ℕ → ℕ → List Row
+addTable p q m = row 1 (CannotAdd p q m) ∷ row 8 (¬ WfTree four p) ∷ row 11 (NewUnder p q m) ∷ []
 
 -- ---- what is promised
 
@@ -211,9 +244,15 @@ pub record ByTable (rows : List Row) (more : ℕ → List ℕ) (p : Pool) (d : D
 
 -- Number by number.
 
-pub record FormatNumbers (levels base tables : ℕ) (ws list : List ℕ) : Type 0 where
-  pub no-1 : (formatW four levels (areaAt base tables) ws list .answer ≡ refused 1) ↔ Broken levels base tables (length ws) (length list)
-  pub accepted : (formatW four levels (areaAt base tables) ws list .answer ≡ formatted) ↔ (¬ Broken levels base tables (length ws) (length list))
+pub record FormatNumbers (levels : ℕ) (r : Area) (ws : List ℕ) (cut : ℕ) (list : List ℕ) : Type 0 where
+  pub no-1 : (formatW four levels r ws cut list .answer ≡ refused 1) ↔ Broken levels r cut (length ws) (length list)
+  pub accepted : (formatW four levels r ws cut list .answer ≡ formatted) ↔ (¬ Broken levels r cut (length ws) (length list))
+
+pub record AddNumbers (p : Pool) (q m : ℕ) : Type 0 where
+  pub no-1 : (addW four p q m .answer ≡ refused 1) ↔ CannotAdd p q m
+  pub no-8 : (addW four p q m .answer ≡ refused 8) ↔ ((¬ CannotAdd p q m) × (¬ WfTree four p))
+  pub no-11 : (addW four p q m .answer ≡ refused 11) ↔ ((¬ CannotAdd p q m) × WfTree four p × NewUnder p q m)
+  pub accepted : (addW four p q m .answer ≡ added) ↔ ((¬ CannotAdd p q m) × WfTree four p × (¬ NewUnder p q m))
 
 -- a map is well-formed when none of 1 to 5 and 11 applies
 abbrev pub WellFormedMap : Pool → ℕ → ℕ → ℕ → ℕ → Type 0
@@ -223,7 +262,7 @@ WellFormedMap p a b size k =
     × (¬ NoAttributes k)
     × (¬ Outside (p .numbers .levels) a b size)
     × (¬ Misplaced a b size)
-    × (¬ InPool (p .numbers .base) (p .numbers .tables) b size)
+    × (¬ InPool (areaIn p) b size)
 
 pub record MapNumbers (p : Pool) (a b size k : ℕ) : Type 0 where
   pub no-1 : (mapW four p a b size k .answer ≡ refused 1) ↔ Breaks p
@@ -242,7 +281,7 @@ pub record MapNumbers (p : Pool) (a b size k : ℕ) : Type 0 where
       × (¬ NoAttributes k)
       × (¬ Outside (p .numbers .levels) a b size)
       × (¬ Misplaced a b size)
-      × InPool (p .numbers .base) (p .numbers .tables) b size)
+      × InPool (areaIn p) b size)
   -- then the walk
   pub no-6 : (mapW four p a b size k .answer ≡ refused 6) ↔ (WellFormedMap p a b size k × Occupied (mapWalk p a size))
   -- then the free count, at an empty entry
@@ -294,7 +333,7 @@ pub record UnmapNumbers (p : Pool) (a : ℕ) : Type 0 where
       × (lastWalk p a .entry ≡ Frame b k)
       × (size ≡ sizeAt four (lastWalk p a .left))
       × GivesBack p a (lastWalk p a) t
-      × (p .numbers .free + t ≤ p .numbers .tables - 1))
+      × (p .numbers .free + t ≤ tableCount p - 1))
 
 pub record QueryNumbers (p : Pool) (a : ℕ) : Type 0 where
   pub no-1 : (queryW four p a ≡ refused 1) ↔ Breaks p

@@ -51,6 +51,12 @@ mappingsOf G p = ofPool G p .mappings
 abbrev pub OffTables : Granule → Area → Mapping → Type 0
 OffTables G area m = ¬ Shares G area (m .frame) (m .size)
 
+-- the tree is well-formed: every table and every entry that is reached is sound, and no table is reached twice. Tables may be empty, and of the free
+-- list nothing is asked.
+pub record WfTree (G : Granule) (p : Pool) : Type 0 where
+  pub tree : SoundTable G (p .words) (areaOf (p .numbers)) (p .numbers .levels - 1) 0
+  pub once : Distinct (reachedOf G p)
+
 pub record SoundPool (G : Granule) (p : Pool) : Type 0 where
   -- every table and every entry that is reached is sound
   pub tree : SoundTable G (p .words) (areaOf (p .numbers)) (p .numbers .levels - 1) 0

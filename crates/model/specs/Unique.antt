@@ -2,10 +2,14 @@
 use Prim.Native.Nat.{ℕ}
 use mathlib.Core.Path.{_≡_, refl, ap, ap₂}
 use mathlib.Core.List.{List}
+use Rattle.laws.specs.ListLaws.{append-one}
 use Rattle.path.specs.declared.Setup.{Setup}
 use Rattle.model.specs.declared.FormatAnswer.{FormatAnswer}
 use Rattle.model.specs.declared.FormatAnswer.the-variants as F
 use Rattle.model.specs.declared.Formatted.{Formatted}
+use Rattle.model.specs.declared.AddAnswer.{AddAnswer}
+use Rattle.model.specs.declared.AddAnswer.the-variants as D
+use Rattle.model.specs.declared.Added.{Added}
 use Rattle.model.specs.declared.MapAnswer.{MapAnswer}
 use Rattle.model.specs.declared.MapAnswer.the-variants as M
 use Rattle.model.specs.declared.Mapped.{Mapped}
@@ -16,7 +20,7 @@ use Rattle.model.specs.declared.QueryAnswer.{QueryAnswer}
 use Rattle.model.specs.declared.QueryAnswer.the-variants as Q
 use Rattle.model.specs.declared.AuditAnswer.{AuditAnswer}
 use Rattle.model.specs.declared.AuditAnswer.the-variants as A
-use Rattle.model.specs.Answers.{Mapping, mapping, Answer, found, saysFormat, saysMap, saysUnmap, saysQuery, saysAudit, Pool, pool, Done, done}
+use Rattle.model.specs.Answers.{Mapping, mapping, Answer, found, saysFormat, saysAdd, saysMap, saysUnmap, saysQuery, saysAudit, Pool, Done, left, formatDid, addDid, mapDid, unmapDid}
 
 pub format-unique : (a b : FormatAnswer) → saysFormat a ≡ saysFormat b → a ≡ b
 format-unique F.Done F.Done e = refl
@@ -67,30 +71,33 @@ audit-unique (A.Sound t m) (A.Refused j) e = cc
 audit-unique (A.Refused j) (A.Sound t m) e = cc
 audit-unique (A.Refused j) (A.Refused k) e = cc
 
--- Format, map and unmap hand back an answer with a setup, and change the lent memory: equal promises give equal records and equal memory.
+pub add-unique : (a b : AddAnswer) → saysAdd a ≡ saysAdd b → a ≡ b
+add-unique D.Done D.Done e = refl
+add-unique D.Done (D.Refused k) e = cc
+add-unique (D.Refused j) D.Done e = cc
+add-unique (D.Refused j) (D.Refused k) e = cc
+
+-- Format, the adding call, map and unmap hand back an answer with a setup, and change the lent memory: equal promises give equal records and equal
+-- memory, run by run.
 told :
     {A B : Type 0} (says : A → Answer) → ((x y : A) → says x ≡ says y → x ≡ y) → (both : A → Setup → B)
-    → {x y : A} {s t : Setup} {w v l m : List ℕ} → done (says x) (pool s w l) ≡ done (says y) (pool t v m)
-    → (both x s ≡ both y t) × ((w ≡ v) × (l ≡ m))
-told says unique both {x} {y} e = (
-  ap₂ both (unique x y (ap (λ (d : Done). d .answer) e)) (ap (λ (d : Done). d .after .numbers) e),
-  (ap (λ (d : Done). d .after .words) e, ap (λ (d : Done). d .after .list) e),
-)
+    → {x y : A} {s t : Setup} {a b c d l m : List ℕ} → left (says x) s a b l ≡ left (says y) t c d m
+    → (both x s ≡ both y t) × ((a ≡ c) × (b ≡ d) × (l ≡ m))
+told says unique both {x} {y} {a = a} {b} {c} {d} e =
+    let (p, q) = append-one a b c d (ap (λ (d : Done). d .after .cut) e) (ap (λ (d : Done). d .after .words) e) in (
+      ap₂ both (unique x y (ap (λ (d : Done). d .answer) e)) (ap (λ (d : Done). d .after .numbers) e),
+      (p, q, ap (λ (d : Done). d .after .list) e),
+    )
 
-pub formatted-unique :
-    (x y : Formatted) (w v l m : List ℕ)
-    → done (saysFormat (x .answer)) (pool (x .setup) w l) ≡ done (saysFormat (y .answer)) (pool (y .setup) v m)
-    → (x ≡ y) × ((w ≡ v) × (l ≡ m))
-formatted-unique x y w v l m = told saysFormat format-unique (λ a s. record { answer = a; setup = s })
+module _ (a b c d l m : List ℕ) where
+  pub formatted-unique : (x y : Formatted) → formatDid x a b l ≡ formatDid y c d m → (x ≡ y) × ((a ≡ c) × (b ≡ d) × (l ≡ m))
+  formatted-unique x y = told saysFormat format-unique (λ a s. record { answer = a; setup = s })
 
-pub mapped-unique :
-    (x y : Mapped) (w v l m : List ℕ)
-    → done (saysMap (x .answer)) (pool (x .setup) w l) ≡ done (saysMap (y .answer)) (pool (y .setup) v m)
-    → (x ≡ y) × ((w ≡ v) × (l ≡ m))
-mapped-unique x y w v l m = told saysMap map-unique (λ a s. record { answer = a; setup = s })
+  pub added-unique : (x y : Added) → addDid x a b l ≡ addDid y c d m → (x ≡ y) × ((a ≡ c) × (b ≡ d) × (l ≡ m))
+  added-unique x y = told saysAdd add-unique (λ a s. record { answer = a; setup = s })
 
-pub unmapped-unique :
-    (x y : Unmapped) (w v l m : List ℕ)
-    → done (saysUnmap (x .answer)) (pool (x .setup) w l) ≡ done (saysUnmap (y .answer)) (pool (y .setup) v m)
-    → (x ≡ y) × ((w ≡ v) × (l ≡ m))
-unmapped-unique x y w v l m = told saysUnmap unmap-unique (λ a s. record { answer = a; setup = s })
+  pub mapped-unique : (x y : Mapped) → mapDid x a b l ≡ mapDid y c d m → (x ≡ y) × ((a ≡ c) × (b ≡ d) × (l ≡ m))
+  mapped-unique x y = told saysMap map-unique (λ a s. record { answer = a; setup = s })
+
+  pub unmapped-unique : (x y : Unmapped) → unmapDid x a b l ≡ unmapDid y c d m → (x ≡ y) × ((a ≡ c) × (b ≡ d) × (l ≡ m))
+  unmapped-unique x y = told saysUnmap unmap-unique (λ a s. record { answer = a; setup = s })

@@ -21,6 +21,17 @@ pub struct Formatted {
     pub setup: Setup,
 }
 
+// The adding call's answer.
+pub enum AddAnswer {
+    Done,
+    Refused(u64),
+}
+
+pub struct Added {
+    pub answer: AddAnswer,
+    pub setup: Setup,
+}
+
 // Map's answer: the tables taken.
 pub enum MapAnswer {
     Taken(u64),

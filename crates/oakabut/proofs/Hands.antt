@@ -3,7 +3,7 @@ use Prim.Native.Nat.{ℕ}
 use mathlib.Core.List.{List}
 use mathlib.Core.Path.{_≡_, sym, ap, _∙_}
 use Rattle.path.specs.declared.Setup.{Setup}
-use Rattle.model.specs.Answers.{Answer, Done}
+use Rattle.model.specs.Answers.{Answer, Done, left}
 use Rattle.oakabut.specs.Surface.{numberOf, Told, Left}
 
 -- an answer of the code's that is known by its case
@@ -18,12 +18,13 @@ pub hears : {placesOf : Answer → List ℕ} {a b : Answer} {n : ℕ} {p : List 
 hears {placesOf} e t = record { number-is = t .number-is ∙ ap numberOf e; places-are = t .places-are ∙ ap placesOf e }
 
 -- and what the call leaves
-pub leaves : {placesOf : Setup → Answer → List ℕ} {d e : Done} {n : ℕ} {p : List ℕ} → d ≡ e → Told (d .answer) (placesOf (d .after .numbers)) n p → Left e placesOf n p (d .after .words) (d .after .list)
-leaves {placesOf} q t = record {
+pub leaves : (placesOf : Setup → Answer → List ℕ) {x : Answer} {s : Setup} {w u l : List ℕ} {e : Done} {n : ℕ} {p : List ℕ} → left x s w u l ≡ e → Told x (placesOf s) n p → Left e placesOf n p w u l
+leaves placesOf q t = record {
   told = record {
     number-is = t .number-is ∙ ap (λ (d : Done). numberOf (d .answer)) q;
     places-are = t .places-are ∙ ap (λ (d : Done). placesOf (d .after .numbers) (d .answer)) q;
   };
   words-are = ap (λ (d : Done). d .after .words) q;
+  cut-is = ap (λ (d : Done). d .after .cut) q;
   list-is = ap (λ (d : Done). d .after .list) q;
 }

@@ -1,9 +1,10 @@
 -- The calls' answers in plain numbers, as a caller in C finds them: the returned number, and the places behind the pointer `answer`.
 use Prim.Native.Nat.{ℕ}
 use mathlib.Core.List.{List, [], _∷_, _++_}
-use lib.ListN.{getD}
+use lib.ListN.{length, getD}
 use mathlib.Core.Path.{_≡_}
-use Rattle.path.specs.Numbers.{setup}
+use Rattle.path.specs.Areas.{areaAt}
+use Rattle.path.specs.Numbers.{setupOf}
 use Rattle.path.specs.declared.Setup.{Setup}
 use Rattle.model.specs.Answers.{Answer, answered, refusal, Pool, pool, Done}
 
@@ -26,22 +27,23 @@ abbrev pub holedOf : (zeros : List ℕ) → Answer → List ℕ
 holedOf zeros (answered values) = values ++ (0 ∷ 0 ∷ [])
 holedOf zeros (refusal k values) = zeros ++ carriedOf values
 
--- the setup numbers in four places
+-- the setup numbers in six places
 abbrev pub setupAt : List ℕ → Setup
-setupAt l = setup (getD l 0 0) (getD l 1 0) (getD l 2 0) (getD l 3 0)
+setupAt l = setupOf (getD l 0 0) (areaAt (getD l 1 0) (getD l 2 0) (getD l 4 0) (getD l 5 0)) (getD l 3 0)
 
--- the pool that a caller hands over: its setup numbers, words and list
-abbrev pub poolAt : (numbers words list : List ℕ) → Pool
-poolAt s w l = pool (setupAt s) w l
+-- the pool that a caller hands over: its setup numbers, the words of both runs, how many of them are the first's, and the list
+abbrev pub poolAt : (numbers words : List ℕ) (cut : ℕ) (list : List ℕ) → Pool
+poolAt s w c l = pool (setupAt s) w c l
 
 -- places that begin with a setup
 abbrev pub after : Setup → List ℕ → List ℕ
-after s l = s .levels ∷ s .base ∷ s .tables ∷ s .free ∷ l
+after s l = s .levels ∷ s .base ∷ s .tables ∷ s .free ∷ s .base2 ∷ s .tables2 ∷ l
 
--- the places of each call's answer
-abbrev pub formatPlaces : Setup → Answer → List ℕ
-formatPlaces s a = after s (toldOf [] a)
+-- the places of each call's answer: of format and of an add,
+abbrev pub setupPlaces : Setup → Answer → List ℕ
+setupPlaces s a = after s (toldOf [] a)
 
+-- and of the others
 abbrev pub mapPlaces : Setup → Answer → List ℕ
 mapPlaces s a = after s (toldOf (0 ∷ []) a)
 
@@ -59,8 +61,9 @@ pub record Told (a : Answer) (placesOf : Answer → List ℕ) (number : ℕ) (pl
   pub number-is : number ≡ numberOf a
   pub places-are : places ≡ placesOf a
 
--- the same of a call that changes the pool, with the lent words and list after it
-pub record Left (d : Done) (placesOf : Setup → Answer → List ℕ) (number : ℕ) (places words list : List ℕ) : Type 0 where
+-- the same of a call that changes the pool, with the two lent runs of words and the list after it
+pub record Left (d : Done) (placesOf : Setup → Answer → List ℕ) (number : ℕ) (places words second list : List ℕ) : Type 0 where
   pub told : Told (d .answer) (placesOf (d .after .numbers)) number places
-  pub words-are : words ≡ d .after .words
+  pub words-are : words ++ second ≡ d .after .words
+  pub cut-is : length words ≡ d .after .cut
   pub list-is : list ≡ d .after .list

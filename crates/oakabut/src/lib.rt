@@ -1,4 +1,5 @@
 // The C surface: every call on plain numbers and pointers. include/oakabut.h declares it.
+use model::AddAnswer;
 use model::AuditAnswer;
 use model::FormatAnswer;
 use model::MapAnswer;
@@ -6,13 +7,16 @@ use model::QueryAnswer;
 use model::UnmapAnswer;
 use path::Setup;
 ghost use mathlib.Core.Path.{_≡_};
+ghost use mathlib.Core.List.{[], _++_};
+ghost use lib.ListN.{length};
 ghost use Rattle.path.specs.Geometry.{four};
 ghost use Rattle.path.specs.Areas.{areaAt};
 ghost use Rattle.entry.specs.Host.{hostWord, hostMeaning};
-ghost use Rattle.model.specs.Answers.{saysFormat, saysMap, saysUnmap, saysQuery, saysAudit};
+ghost use Rattle.model.specs.Answers.{saysFormat, saysAdd, saysMap, saysUnmap, saysQuery, saysAudit};
 ghost use Rattle.model.specs.Calls.{formatW, mapW, unmapW, queryW};
+ghost use Rattle.model.specs.Adds.{addW};
 ghost use Rattle.model.specs.Audit.{auditW};
-ghost use Rattle.oakabut.specs.Surface.{setupAt, poolAt, formatPlaces, mapPlaces, unmapPlaces, queryPlaces, auditPlaces, Told, Left};
+ghost use Rattle.oakabut.specs.Surface.{setupAt, poolAt, after, setupPlaces, mapPlaces, unmapPlaces, queryPlaces, auditPlaces, Told, Left};
 
 // The entry word of a frame, or a refusal: 2, 3, 4 or 5.
 #[no_mangle]
@@ -30,8 +34,8 @@ pub extern "C" fn oak_word_meaning(word: u64, size: u64) -> u64
     entry::word_meaning(word, size)
 }
 
-// The setup numbers in four places.
-fn setup_at(s: &[u64; 4]) -> Setup
+// The setup numbers in six places.
+fn setup_at(s: &[u64; 6]) -> Setup
     ensures { λ r. ⌜ r ≡ setupAt (now (s .entry)) ⌝ }
 {
     Setup {
@@ -39,37 +43,69 @@ fn setup_at(s: &[u64; 4]) -> Setup
         base: s[1],
         tables: s[2],
         free: s[3],
+        base2: s[4],
+        tables2: s[5],
     }
 }
 
-// Each answer of the page table becomes the returned number, which is 0 or the refusal, and the places of `answer`.
-fn formatted(a: FormatAnswer, s: Setup, answer: &mut [u64; 4]) -> u64
-    ensures { λ r. ⌜ Told (saysFormat a) (formatPlaces s) r (now (answer .exit)) ⌝ }
+// And back.
+fn setup_places(s: Setup) -> [u64; 6]
+    ensures { λ r. ⌜ r ≡ after s [] ⌝ }
 {
-    *answer = [s.levels, s.base, s.tables, s.free];
+    [s.levels, s.base, s.tables, s.free, s.base2, s.tables2]
+}
+
+// Each answer of the page table becomes the returned number, which is 0 or the refusal, and the places of `answer`.
+fn formatted(a: FormatAnswer, s: Setup, answer: &mut [u64; 6]) -> u64
+    ensures { λ r. ⌜ Told (saysFormat a) (setupPlaces s) r (now (answer .exit)) ⌝ }
+{
+    *answer = setup_places(s);
     match a {
         FormatAnswer::Done => 0,
         FormatAnswer::Refused(k) => k,
     }
 }
 
-fn mapped(a: MapAnswer, s: Setup, answer: &mut [u64; 5]) -> u64
+fn added(a: AddAnswer, s: Setup, answer: &mut [u64; 6]) -> u64
+    ensures { λ r. ⌜ Told (saysAdd a) (setupPlaces s) r (now (answer .exit)) ⌝ }
+{
+    *answer = setup_places(s);
+    match a {
+        AddAnswer::Done => 0,
+        AddAnswer::Refused(k) => k,
+    }
+}
+
+fn mapped(a: MapAnswer, s: Setup, answer: &mut [u64; 7]) -> u64
     ensures { λ r. ⌜ Told (saysMap a) (mapPlaces s) r (now (answer .exit)) ⌝ }
 {
-    *answer = [s.levels, s.base, s.tables, s.free, 0];
+    *answer = [s.levels, s.base, s.tables, s.free, s.base2, s.tables2, 0];
     match a {
         MapAnswer::Taken(tables) => {
-            answer[4] = tables;
+            answer[6] = tables;
             0
         }
         MapAnswer::Refused(k) => k,
     }
 }
 
-fn unmapped(a: UnmapAnswer, s: Setup, answer: &mut [u64; 10]) -> u64
+fn unmapped(a: UnmapAnswer, s: Setup, answer: &mut [u64; 12]) -> u64
     ensures { λ r. ⌜ Told (saysUnmap a) (unmapPlaces s) r (now (answer .exit)) ⌝ }
 {
-    *answer = [s.levels, s.base, s.tables, s.free, 0, 0, 0, 0, 0, 0];
+    *answer = [
+        s.levels,
+        s.base,
+        s.tables,
+        s.free,
+        s.base2,
+        s.tables2,
+        0,
+        0,
+        0,
+        0,
+        0,
+        0,
+    ];
     match a {
         UnmapAnswer::Given {
             frame,
@@ -77,15 +113,15 @@ fn unmapped(a: UnmapAnswer, s: Setup, answer: &mut [u64; 10]) -> u64
             attributes,
             tables,
         } => {
-            answer[4] = frame;
-            answer[5] = size;
-            answer[6] = attributes;
-            answer[7] = tables;
+            answer[6] = frame;
+            answer[7] = size;
+            answer[8] = attributes;
+            answer[9] = tables;
             0
         }
         UnmapAnswer::Hole { base, size } => {
-            answer[8] = base;
-            answer[9] = size;
+            answer[10] = base;
+            answer[11] = size;
             9
         }
         UnmapAnswer::Refused(k) => k,
@@ -137,34 +173,58 @@ pub extern "C" fn oak_format(
     levels: u64,
     base: u64,
     tables: u64,
+    base2: u64,
+    tables2: u64,
     words: &mut [u64],
+    second: &mut [u64],
     list: &mut [u32],
-    answer: &mut [u64; 4],
+    answer: &mut [u64; 6],
 ) -> u64
-    ensures { λ r. ⌜ Left (formatW four levels (areaAt base tables) (now (words .entry)) (now (list .entry)))
-        formatPlaces r (now (answer .exit)) (now (words .exit)) (now (list .exit)) ⌝ }
+    ensures { λ r. ⌜ Left (formatW four levels (areaAt base tables base2 tables2) (now (words .entry) ++ now (second .entry)) (length (now (words .entry))) (now (list .entry)))
+        setupPlaces r (now (answer .exit)) (now (words .exit)) (now (second .exit)) (now (list .exit)) ⌝ }
 {
-    let d = pagetable::format(levels, base, tables, words, list);
+    let d = pagetable::format(levels, base, tables, base2, tables2, words, second, list);
     let a = d.answer;
     formatted(a, d.setup, answer)
+}
+
+// Gives the pool a second region of tables, and answers its setup.
+#[no_mangle]
+pub extern "C" fn oak_add(
+    s: &[u64; 6],
+    words: &[u64],
+    second: &mut [u64],
+    list: &mut [u32],
+    base2: u64,
+    tables2: u64,
+    answer: &mut [u64; 6],
+) -> u64
+    ensures { λ r. ⌜ Left (addW four (poolAt (now (s .entry)) (now (words .entry) ++ now (second .entry)) (length (now (words .entry))) (now (list .entry))) base2 tables2)
+        setupPlaces r (now (answer .exit)) (now (words .entry)) (now (second .exit)) (now (list .exit)) ⌝ }
+{
+    let d = pagetable::add(setup_at(s), words, second, list, base2, tables2);
+    let a = d.answer;
+    added(a, d.setup, answer)
 }
 
 // Maps a frame at an address, and answers the setup and how many tables it took.
 #[no_mangle]
 pub extern "C" fn oak_map(
-    s: &[u64; 4],
+    s: &[u64; 6],
     words: &mut [u64],
+    second: &mut [u64],
     list: &[u32],
     address: u64,
     frame: u64,
     size: u64,
     attributes: u64,
-    answer: &mut [u64; 5],
+    answer: &mut [u64; 7],
 ) -> u64
-    ensures { λ r. ⌜ Left (mapW four (poolAt (now (s .entry)) (now (words .entry)) (now (list .entry))) address frame size attributes)
-        mapPlaces r (now (answer .exit)) (now (words .exit)) (now (list .entry)) ⌝ }
+    ensures { λ r. ⌜ Left (mapW four (poolAt (now (s .entry)) (now (words .entry) ++ now (second .entry)) (length (now (words .entry))) (now (list .entry))) address frame size attributes)
+        mapPlaces r (now (answer .exit)) (now (words .exit)) (now (second .exit)) (now (list .entry)) ⌝ }
 {
-    let d = pagetable::map(setup_at(s), words, list, address, frame, size, attributes);
+    let p = setup_at(s);
+    let d = pagetable::map(p, words, second, list, address, frame, size, attributes);
     let a = d.answer;
     mapped(a, d.setup, answer)
 }
@@ -172,16 +232,17 @@ pub extern "C" fn oak_map(
 // Removes the mapping that starts at an address, and answers the setup, its frame and how many tables came back; with 9 the hole.
 #[no_mangle]
 pub extern "C" fn oak_unmap(
-    s: &[u64; 4],
+    s: &[u64; 6],
     words: &mut [u64],
+    second: &mut [u64],
     list: &mut [u32],
     address: u64,
-    answer: &mut [u64; 10],
+    answer: &mut [u64; 12],
 ) -> u64
-    ensures { λ r. ⌜ Left (unmapW four (poolAt (now (s .entry)) (now (words .entry)) (now (list .entry))) address)
-        unmapPlaces r (now (answer .exit)) (now (words .exit)) (now (list .exit)) ⌝ }
+    ensures { λ r. ⌜ Left (unmapW four (poolAt (now (s .entry)) (now (words .entry) ++ now (second .entry)) (length (now (words .entry))) (now (list .entry))) address)
+        unmapPlaces r (now (answer .exit)) (now (words .exit)) (now (second .exit)) (now (list .exit)) ⌝ }
 {
-    let d = pagetable::unmap(setup_at(s), words, list, address);
+    let d = pagetable::unmap(setup_at(s), words, second, list, address);
     let a = d.answer;
     unmapped(a, d.setup, answer)
 }
@@ -189,25 +250,32 @@ pub extern "C" fn oak_unmap(
 // Answers the mapping that holds an address; with 9 the hole.
 #[no_mangle]
 pub extern "C" fn oak_query(
-    s: &[u64; 4],
+    s: &[u64; 6],
     words: &[u64],
+    second: &[u64],
     list: &[u32],
     address: u64,
     answer: &mut [u64; 6],
 ) -> u64
-    ensures { λ r. ⌜ Told (queryW four (poolAt (now (s .entry)) (now (words .entry)) (now (list .entry))) address)
+    ensures { λ r. ⌜ Told (queryW four (poolAt (now (s .entry)) (now (words .entry) ++ now (second .entry)) (length (now (words .entry))) (now (list .entry))) address)
         queryPlaces r (now (answer .exit)) ⌝ }
 {
-    let a = pagetable::query(setup_at(s), words, list, address);
+    let a = pagetable::query(setup_at(s), words, second, list, address);
     found(a, answer)
 }
 
 // Answers whether the pool keeps every rule, with the counts of its tables and mappings.
 #[no_mangle]
-pub extern "C" fn oak_audit(s: &[u64; 4], words: &[u64], list: &[u32], answer: &mut [u64; 2]) -> u64
-    ensures { λ r. ⌜ Told (auditW four (poolAt (now (s .entry)) (now (words .entry)) (now (list .entry))))
+pub extern "C" fn oak_audit<'a>(
+    s: &[u64; 6],
+    words: &'a [u64],
+    second: &'a [u64],
+    list: &[u32],
+    answer: &mut [u64; 2],
+) -> u64
+    ensures { λ r. ⌜ Told (auditW four (poolAt (now (s .entry)) (now (words .entry) ++ now (second .entry)) (length (now (words .entry))) (now (list .entry))))
         auditPlaces r (now (answer .exit)) ⌝ }
 {
-    let a = pagetable::audit(setup_at(s), words, list);
+    let a = pagetable::audit(setup_at(s), words, second, list);
     audited(a, answer)
 }

@@ -1,5 +1,6 @@
-// The page table: format, query, map, unmap and audit of one pool of tables in lent memory. Each contract says the whole answer and all lent memory
-// after the call, for every input (`whole`), and what both are by any ledger that the pool holds (`ledger`).
+// The page table: format, add, query, map, unmap and audit of one pool of tables in lent memory, of one region or two. Each contract says the whole answer and
+// all lent memory after the call, for every input (`whole`), and what both are by any ledger that the pool holds (`ledger`).
+use model::Added;
 use model::AuditAnswer;
 use model::Formatted;
 use model::Mapped;
@@ -7,66 +8,103 @@ use model::QueryAnswer;
 use model::Unmapped;
 use path::Setup;
 ghost use mathlib.Core.Path.{_≡_};
+ghost use mathlib.Core.List.{_++_};
+ghost use lib.ListN.{length};
 ghost use Rattle.path.specs.Geometry.{four};
 ghost use Rattle.path.specs.Areas.{areaAt};
-ghost use Rattle.model.specs.Answers.{pool, formatDid, mapDid, unmapDid, saysQuery, saysAudit};
+ghost use Rattle.model.specs.Answers.{pool, formatDid, addDid, mapDid, unmapDid, saysQuery, saysAudit};
 ghost use Rattle.model.specs.Calls.{formatW, mapW, unmapW, queryW};
+ghost use Rattle.model.specs.Adds.{addW};
 ghost use Rattle.model.specs.Audit.{auditW};
 ghost use Rattle.demand.specs.Demand3.{mapC, unmapC};
 ghost use Rattle.demand.specs.Demand3 as question;
-ghost use Rattle.demand.specs.Clauses.{ByLedger, FormatByLedger, AskedByLedger};
+ghost use Rattle.demand.specs.Clauses.{ByLedger, FormatByLedger, AddByLedger, AskedByLedger};
 
-// Empties the pool: all words 0, every table but the root free. Refused, it answers 1 and four zero setup numbers, and changes nothing.
-pub fn format(levels: u64, base: u64, tables: u64, words: &mut [u64], list: &mut [u32]) -> Formatted
-    ensures whole { λ r. ⌜ formatDid r (now (words .exit)) (now (list .exit))
-        ≡ formatW four levels (areaAt base tables) (now (words .entry)) (now (list .entry)) ⌝ }
-    ensures ledger { λ r. ⌜ FormatByLedger four (now (words .entry)) (now (list .entry)) levels (areaAt base tables)
-        (formatDid r (now (words .exit)) (now (list .exit))) ⌝ }
+// Empties the pool: all words 0, every table but the root free. Refused, it answers 1 and zero setup numbers, and changes nothing.
+pub fn format(
+    levels: u64,
+    base: u64,
+    tables: u64,
+    base2: u64,
+    tables2: u64,
+    words: &mut [u64],
+    second: &mut [u64],
+    list: &mut [u32],
+) -> Formatted
+    ensures whole { λ r. ⌜ formatDid r (now (words .exit)) (now (second .exit)) (now (list .exit))
+        ≡ formatW four levels (areaAt base tables base2 tables2) (now (words .entry) ++ now (second .entry)) (length (now (words .entry))) (now (list .entry)) ⌝ }
+    ensures ledger { λ r. ⌜ FormatByLedger four (now (words .entry) ++ now (second .entry)) (length (now (words .entry))) (now (list .entry)) levels (areaAt base tables base2 tables2)
+        (formatDid r (now (words .exit)) (now (second .exit)) (now (list .exit))) ⌝ }
 {
-    formats::format(levels, base, tables, words, list)
+    formats::format(levels, base, tables, base2, tables2, words, second, list)
+}
+
+// Gives a pool of one region a second one, whose tables go to the end of the free numbers; the list that is lent has places for all tables. Refused, it changes
+// nothing and hands the setup back.
+pub fn add(
+    s: Setup,
+    words: &[u64],
+    second: &mut [u64],
+    list: &mut [u32],
+    base2: u64,
+    tables2: u64,
+) -> Added
+    ensures whole { λ r. ⌜ addDid r (now (words .entry)) (now (second .exit)) (now (list .exit))
+        ≡ addW four (pool s (now (words .entry) ++ now (second .entry)) (length (now (words .entry))) (now (list .entry))) base2 tables2 ⌝ }
+    ensures ledger { λ r. ⌜ AddByLedger four (pool s (now (words .entry) ++ now (second .entry)) (length (now (words .entry))) (now (list .entry))) base2 tables2
+        (addDid r (now (words .entry)) (now (second .exit)) (now (list .exit))) ⌝ }
+{
+    adds::add(s, words, second, list, base2, tables2)
 }
 
 // Maps a frame at an address, and answers how many tables it took. Refused, it changes nothing and hands the setup back.
 pub fn map(
     s: Setup,
     words: &mut [u64],
+    second: &mut [u64],
     list: &[u32],
     address: u64,
     frame: u64,
     size: u64,
     attributes: u64,
 ) -> Mapped
-    ensures whole { λ r. ⌜ mapDid r (now (words .exit)) (now (list .entry))
-        ≡ mapW four (pool s (now (words .entry)) (now (list .entry))) address frame size attributes ⌝ }
-    ensures ledger { λ r. ⌜ ByLedger four (pool s (now (words .entry)) (now (list .entry))) (mapC address frame size attributes)
-        (mapDid r (now (words .exit)) (now (list .entry))) ⌝ }
+    ensures whole { λ r. ⌜ mapDid r (now (words .exit)) (now (second .exit)) (now (list .entry))
+        ≡ mapW four (pool s (now (words .entry) ++ now (second .entry)) (length (now (words .entry))) (now (list .entry))) address frame size attributes ⌝ }
+    ensures ledger { λ r. ⌜ ByLedger four (pool s (now (words .entry) ++ now (second .entry)) (length (now (words .entry))) (now (list .entry))) (mapC address frame size attributes)
+        (mapDid r (now (words .exit)) (now (second .exit)) (now (list .entry))) ⌝ }
 {
-    maps::map(s, words, list, address, frame, size, attributes)
+    maps::map(s, words, second, list, address, frame, size, attributes)
 }
 
 // Removes the mapping that starts at an address, and answers its frame and how many tables came back. Refused, it changes nothing and hands the
 // setup back; 9 comes with the hole, the largest empty region around the address.
-pub fn unmap(s: Setup, words: &mut [u64], list: &mut [u32], address: u64) -> Unmapped
-    ensures whole { λ r. ⌜ unmapDid r (now (words .exit)) (now (list .exit))
-        ≡ unmapW four (pool s (now (words .entry)) (now (list .entry))) address ⌝ }
-    ensures ledger { λ r. ⌜ ByLedger four (pool s (now (words .entry)) (now (list .entry))) (unmapC address)
-        (unmapDid r (now (words .exit)) (now (list .exit))) ⌝ }
+pub fn unmap(
+    s: Setup,
+    words: &mut [u64],
+    second: &mut [u64],
+    list: &mut [u32],
+    address: u64,
+) -> Unmapped
+    ensures whole { λ r. ⌜ unmapDid r (now (words .exit)) (now (second .exit)) (now (list .exit))
+        ≡ unmapW four (pool s (now (words .entry) ++ now (second .entry)) (length (now (words .entry))) (now (list .entry))) address ⌝ }
+    ensures ledger { λ r. ⌜ ByLedger four (pool s (now (words .entry) ++ now (second .entry)) (length (now (words .entry))) (now (list .entry))) (unmapC address)
+        (unmapDid r (now (words .exit)) (now (second .exit)) (now (list .exit))) ⌝ }
 {
-    unmaps::unmap(s, words, list, address)
+    unmaps::unmap(s, words, second, list, address)
 }
 
 // Answers the mapping that holds an address, or 9 and the hole around it.
-pub fn query(s: Setup, words: &[u64], list: &[u32], address: u64) -> QueryAnswer
-    ensures whole { λ r. ⌜ saysQuery r ≡ queryW four (pool s (now (words .entry)) (now (list .entry))) address ⌝ }
-    ensures ledger { λ r. ⌜ AskedByLedger four (pool s (now (words .entry)) (now (list .entry))) (question.query address) (saysQuery r) ⌝ }
+pub fn query(s: Setup, words: &[u64], second: &[u64], list: &[u32], address: u64) -> QueryAnswer
+    ensures whole { λ r. ⌜ saysQuery r ≡ queryW four (pool s (now (words .entry) ++ now (second .entry)) (length (now (words .entry))) (now (list .entry))) address ⌝ }
+    ensures ledger { λ r. ⌜ AskedByLedger four (pool s (now (words .entry) ++ now (second .entry)) (length (now (words .entry))) (now (list .entry))) (question.query address) (saysQuery r) ⌝ }
 {
-    query::query(s, words, list, address)
+    query::query(s, words, second, list, address)
 }
 
 // Answers whether the pool keeps every rule, with the counts of its tables and mappings.
-pub fn audit(s: Setup, words: &[u64], list: &[u32]) -> AuditAnswer
-    ensures whole { λ r. ⌜ saysAudit r ≡ auditW four (pool s (now (words .entry)) (now (list .entry))) ⌝ }
-    ensures ledger { λ r. ⌜ AskedByLedger four (pool s (now (words .entry)) (now (list .entry))) question.audit (saysAudit r) ⌝ }
+pub fn audit<'a>(s: Setup, words: &'a [u64], second: &'a [u64], list: &[u32]) -> AuditAnswer
+    ensures whole { λ r. ⌜ saysAudit r ≡ auditW four (pool s (now (words .entry) ++ now (second .entry)) (length (now (words .entry))) (now (list .entry))) ⌝ }
+    ensures ledger { λ r. ⌜ AskedByLedger four (pool s (now (words .entry) ++ now (second .entry)) (length (now (words .entry))) (now (list .entry))) question.audit (saysAudit r) ⌝ }
 {
-    audit::audit(s, words, list)
+    audit::audit(s, words, second, list)
 }

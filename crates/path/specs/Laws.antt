@@ -1,17 +1,17 @@
 -- Laws of sizes, heights and setup numbers, over any granule.
-use Prim.Native.Nat.{ℕ, zero, suc, _+_, _*_, _%_, _^_, _≤_, _<_, zero-le}
+use Prim.Native.Nat.{ℕ, zero, suc, _+_, _-_, _*_, _%_, _^_, _≤_, _<_, zero-le}
 use mathlib.Core.Path.{_≡_, refl, sym, ap, _∙_}
-use mathlib.Core.Logic.{_≢_}
-use mathlib.Core.Bool.{Bool, true, false, cond, _&&_, false≢true}
-use native.Mathlib.Nat.{mul-comm, mul-le-mul-left, mul-lt-mul-of-pos-left, mul-mod-right, le-dest}
+use mathlib.Core.Logic.{_≢_, _⊎_, inl, inr, ⊎-elim}
+use mathlib.Core.Bool.{Bool, true, false, cond, _&&_, _||_, false≢true}
+use native.Mathlib.Nat.{mul-comm, mul-suc, mul-le-mul-left, mul-lt-mul-of-pos-left, mul-mod-right, add-mul-mod-self-left, le-dest}
 use native.Mathlib.Decide.{decLt, ℕ-discrete}
 use native.Mathlib.Omega.{arith}
 use lib.Dec.{ltb, leb, eqb}
 use lib.Pow.{pow-pos, pow-mono, pow-lt, pow-add}
 use borrow.Author.Tests.{ltb-true, leb-true, leb-false, eqb-true, eqb-false, lt-ltb, le-ltb, le-leb, eq-eqb}
 use Rattle.path.specs.Geometry.{Granule, Sane, four, pageSize, entries, sizeAt, physical, atLevel, goodLevels, spaceOf, seek, heightOf}
-use Rattle.path.specs.Areas.{Area, areaOf, total, Shares, meetsArea}
-use Rattle.path.specs.Numbers.{mostTables, goodNumbers, goodSetup, GoodNumbers, GoodSetup}
+use Rattle.path.specs.Areas.{Area, areaOf, oneRegion, withSecond, total, tableAt, GoodArea, InRegion, Shares, meetsRegion, meetsArea}
+use Rattle.path.specs.Numbers.{mostTables, goodArea, goodNumbers, goodSetup, goodAdding, GoodNumbers, GoodSetup, GoodAdding}
 use Rattle.path.specs.declared.Setup.{Setup}
 
 pub four-sane : Sane four
@@ -176,7 +176,7 @@ module _ (G : Granule) where
 
 -- ---- setup numbers
 
-both : (a b : Bool) → (a && b) ≡ true → (a ≡ true) × (b ≡ true)
+pub both : (a b : Bool) → (a && b) ≡ true → (a ≡ true) × (b ≡ true)
 both true b e = (refl, e)
 both false b e = absurd (false≢true e)
 
@@ -223,30 +223,76 @@ space-physical {G} S levels = go (goodLevels G levels) refl
     go true e = size-fits G S (good-levels G levels e .1)
     go false e = zero-le
 
-module _ {G : Granule} {levels : ℕ} {area : Area} {words places : ℕ} where
-  pub good-numbers : goodNumbers G levels area words places ≡ true → GoodNumbers G levels area words places
+-- one of two tests that is true
+either : (a b : Bool) → (a || b) ≡ true → (a ≡ true) ⊎ (b ≡ true)
+either true b e = inl refl
+either false b e = inr e
+
+left-true : (a b : Bool) → a ≡ true → (a || b) ≡ true
+left-true true b e = refl
+left-true false b e = absurd (false≢true e)
+
+right-true : (a b : Bool) → b ≡ true → (a || b) ≡ true
+right-true true b e = refl
+right-true false b e = e
+
+module _ {G : Granule} {area : Area} where
+  pub good-area : goodArea G area ≡ true → GoodArea G area
+  unfolding goodArea
+  good-area e =
+      let (a, e₁) = both (eqb (area .base % pageSize G) 0) _ e in
+      let (b, e₂) = both (leb (area .base + pageSize G * area .tables) physical) _ e₁ in
+      let (c, e₃) = both (eqb (area .base₂ % pageSize G) 0) _ e₂ in
+      let (d, e₄) = both (leb (area .base₂ + pageSize G * area .tables₂) physical) _ e₃ in
+      let (f, g) = both (leb (area .base + pageSize G * area .tables) (area .base₂) || leb (area .base₂ + pageSize G * area .tables₂) (area .base)) _ e₄ in
+      record {
+        aligned = eqb-true _ _ a;
+        fits = leb-true _ _ b;
+        aligned₂ = eqb-true _ _ c;
+        fits₂ = leb-true _ _ d;
+        apart = ⊎-elim (λ l. inl (leb-true _ _ l)) (λ l. inr (leb-true _ _ l)) (either _ _ f);
+        no-second = λ z. ⊎-elim (λ l. let k = ltb-true 0 (area .tables₂) l in absurd (omega arith)) (λ q. eqb-true (area .base₂) 0 q)
+            (either (ltb 0 (area .tables₂)) (eqb (area .base₂) 0) g);
+      }
+
+  pub area-good : GoodArea G area → goodArea G area ≡ true
+  unfolding goodArea
+  area-good g =
+      simp (
+        eq-eqb _ _ (g .aligned),
+        le-leb _ _ (g .fits),
+        eq-eqb _ _ (g .aligned₂),
+        le-leb _ _ (g .fits₂),
+        ⊎-elim (λ l. left-true _ (leb (area .base₂ + pageSize G * area .tables₂) (area .base)) (le-leb _ _ l)) (λ l. right-true (leb (area .base + pageSize G * area .tables) (area .base₂)) _ (le-leb _ _ l)) (g .apart),
+        second (ℕ-discrete (area .tables₂) 0),
+      )
+    where
+      second : Dec (area .tables₂ ≡ 0) → (ltb 0 (area .tables₂) || eqb (area .base₂) 0) ≡ true
+      second (yes z) = right-true (ltb 0 (area .tables₂)) _ (eq-eqb (area .base₂) 0 (g .no-second z))
+      second (no d) = left-true _ (eqb (area .base₂) 0) (lt-ltb 0 (area .tables₂) (omega arith))
+
+module _ {G : Granule} {levels : ℕ} {area : Area} {cut words places : ℕ} where
+  pub good-numbers : goodNumbers G levels area cut words places ≡ true → GoodNumbers G levels area cut words places
   unfolding goodNumbers
   good-numbers e =
       let (a, e₁) = both (goodLevels G levels) _ e in
       let (b, e₂) = both (leb 1 (area .tables)) _ e₁ in
-      let (c, e₃) = both (leb (area .tables) mostTables) _ e₂ in
-      let (d, e₄) = both (eqb (area .base % pageSize G) 0) _ e₃ in
-      let (f, e₅) = both (leb (area .base + pageSize G * area .tables) physical) _ e₄ in
+      let (c, e₃) = both (leb (total area) mostTables) _ e₂ in
+      let (d, e₄) = both (goodArea G area) _ e₃ in
+      let (f, e₅) = both (eqb cut (entries G * area .tables)) _ e₄ in
       let (g, k) = both (eqb words (entries G * total area)) _ e₅ in
       record {
         enough = good-levels G levels a .0;
         not-more = good-levels G levels a .1;
         some-table = leb-true 1 (area .tables) b;
-        few = leb-true (area .tables) mostTables c;
-        placed = record {
-          aligned = eqb-true (area .base % pageSize G) 0 d;
-          fits = leb-true (area .base + pageSize G * area .tables) physical f;
-        };
+        few = leb-true (total area) mostTables c;
+        placed = good-area d;
+        cut-is = eqb-true cut (entries G * area .tables) f;
         words-are = eqb-true words (entries G * total area) g;
         places-are = eqb-true places (total area) k;
       }
 
-  pub numbers-good : GoodNumbers G levels area words places → goodNumbers G levels area words places ≡ true
+  pub numbers-good : GoodNumbers G levels area cut words places → goodNumbers G levels area cut words places ≡ true
   unfolding goodNumbers goodLevels
   numbers-good N =
       simp (
@@ -254,64 +300,163 @@ module _ {G : Granule} {levels : ℕ} {area : Area} {words places : ℕ} where
         le-leb _ _ (N .not-more),
         le-leb _ _ (N .some-table),
         le-leb _ _ (N .few),
-        eq-eqb _ _ (N .placed .aligned),
-        le-leb _ _ (N .placed .fits),
+        area-good (N .placed),
+        eq-eqb _ _ (N .cut-is),
         eq-eqb _ _ (N .words-are),
         eq-eqb _ _ (N .places-are),
       )
 
   -- what breaks one of the rules is not good
-  pub numbers-bad : (GoodNumbers G levels area words places → ⊥) → goodNumbers G levels area words places ≡ false
+  pub numbers-bad : (GoodNumbers G levels area cut words places → ⊥) → goodNumbers G levels area cut words places ≡ false
   numbers-bad f = untrue _ (λ e. f (good-numbers e))
 
-module _ {G : Granule} {s : Setup} {words places : ℕ} where
-  pub good-setup : goodSetup G s words places ≡ true → GoodSetup G s words places
+module _ {G : Granule} {s : Setup} {cut words places : ℕ} where
+  pub good-setup : goodSetup G s cut words places ≡ true → GoodSetup G s cut words places
   unfolding goodSetup
   good-setup e =
-      let (a, b) = both (goodNumbers G (s .levels) (areaOf s) words places) _ e in
+      let (a, b) = both (goodNumbers G (s .levels) (areaOf s) cut words places) _ e in
       record { numbers = good-numbers a; room = ltb-true (s .free) (total (areaOf s)) b }
 
-  pub setup-good : GoodSetup G s words places → goodSetup G s words places ≡ true
+  pub setup-good : GoodSetup G s cut words places → goodSetup G s cut words places ≡ true
   unfolding goodSetup
   setup-good S = simp (numbers-good (S .numbers), lt-ltb _ _ (S .room))
 
-  pub setup-bad : (GoodSetup G s words places → ⊥) → goodSetup G s words places ≡ false
+  pub setup-bad : (GoodSetup G s cut words places → ⊥) → goodSetup G s cut words places ≡ false
   setup-bad f = untrue _ (λ e. f (good-setup e))
 
+module _ {G : Granule} {levels : ℕ} {area : Area} {q m cut words places : ℕ} where
+  pub good-adding : goodAdding G levels area q m cut words places ≡ true → GoodAdding G levels area q m cut words places
+  unfolding goodAdding
+  good-adding e =
+      let (a, b) = both (eqb (area .base₂) 0 && eqb (area .tables₂) 0) _ e in
+      let (x, y) = both (eqb (area .base₂) 0) (eqb (area .tables₂) 0) a in
+      let (c, d) = both (ltb 0 m) _ b in
+      record { one-yet = (eqb-true _ _ x, eqb-true _ _ y); some-new = ltb-true 0 m c; numbers = good-numbers d }
+
+  pub adding-good : GoodAdding G levels area q m cut words places → goodAdding G levels area q m cut words places ≡ true
+  unfolding goodAdding
+  adding-good A = simp (eq-eqb _ _ (A .one-yet .0), eq-eqb _ _ (A .one-yet .1), lt-ltb 0 m (A .some-new), numbers-good (A .numbers))
+
+  pub adding-bad : (GoodAdding G levels area q m cut words places → ⊥) → goodAdding G levels area q m cut words places ≡ false
+  adding-bad f = untrue _ (λ e. f (good-adding e))
+
+-- ---- the addresses of tables
+
+-- the tables before another end where it starts, at the latest
+pub table-ends : (K : ℕ) {t c : ℕ} → t < c → K * t + K ≤ K * c
+table-ends K {t} l = rw (← mul-suc K t) (mul-le-mul-left K l)
+
+pub in-table : (K : ℕ) {t n i : ℕ} → t < n → i < K → K * t + i < K * n
+in-table K l b = omega (arith, table-ends K l)
+
+module _ (G : Granule) (area : Area) where
+  pub table-first : (t : ℕ) → t < area .tables → tableAt G area t ≡ area .base + pageSize G * t
+  unfolding tableAt
+  table-first t l = rw (lt-ltb t (area .tables) l)
+
+  pub table-second : (t : ℕ) → area .tables ≤ t → tableAt G area t ≡ area .base₂ + pageSize G * (t - area .tables)
+  unfolding tableAt
+  table-second t l = rw (le-ltb t (area .tables) l)
+
+  -- where a table stands: as number i of the first region, or of the second
+  pub data Stood (t : ℕ) : Type 0 where
+    in-first : t < area .tables → tableAt G area t ≡ area .base + pageSize G * t → Stood t
+    in-second : (i : ℕ) → area .tables + i ≡ t → i < area .tables₂ → tableAt G area t ≡ area .base₂ + pageSize G * i → Stood t
+
+  pub stood : (t : ℕ) → t < total area → Stood t
+  stood t l = go (decLt t (area .tables))
+    where
+      go : Dec (t < area .tables) → Stood t
+      go (yes a) = in-first a (table-first t a)
+      go (no a) = in-second (t - area .tables) (omega arith) (omega arith) (table-second t (omega arith))
+
+  module _ (good : GoodArea G area) where
+    pub table-aligned : (t : ℕ) → t < total area → tableAt G area t % pageSize G ≡ 0
+    table-aligned t l = go (stood t l)
+      where
+        go : Stood t → tableAt G area t % pageSize G ≡ 0
+        go (in-first a e) = rw (e, add-mul-mod-self-left (area .base) (pageSize G) t) (good .aligned)
+        go (in-second i s a e) = rw (e, add-mul-mod-self-left (area .base₂) (pageSize G) i) (good .aligned₂)
+
+    pub table-fits : (t : ℕ) → t < total area → tableAt G area t + pageSize G ≤ physical
+    table-fits t l = go (stood t l)
+      where
+        go : Stood t → tableAt G area t + pageSize G ≤ physical
+        go (in-first a e) = omega (arith, e, good .fits, table-ends (pageSize G) a)
+        go (in-second i s a e) = omega (arith, e, good .fits₂, table-ends (pageSize G) a)
+
+    -- two tables share no byte
+    pub tables-apart : (t u : ℕ) → t < total area → u < total area → t ≢ u
+        → (tableAt G area t + pageSize G ≤ tableAt G area u) ⊎ (tableAt G area u + pageSize G ≤ tableAt G area t)
+    tables-apart t u l m d = go (stood t l) (stood u m) (decLt t u)
+      where
+        go : Stood t → Stood u → Dec (t < u) → (tableAt G area t + pageSize G ≤ tableAt G area u) ⊎ (tableAt G area u + pageSize G ≤ tableAt G area t)
+        go (in-first a e) (in-first b f) (yes k) = inl (omega (arith, e, f, table-ends (pageSize G) k))
+        go (in-first a e) (in-first b f) (no k) = inr (let z : u < t = omega arith in omega (arith, e, f, table-ends (pageSize G) z))
+        go (in-second i r a e) (in-second j s b f) (yes k) = inl (let z : i < j = omega arith in omega (arith, e, f, table-ends (pageSize G) z))
+        go (in-second i r a e) (in-second j s b f) (no k) = inr (let z : j < i = omega arith in omega (arith, e, f, table-ends (pageSize G) z))
+        go (in-first a e) (in-second j s b f) k = ⊎-elim (λ x. inl (omega (arith, e, f, x, table-ends (pageSize G) a))) (λ x. inr (omega (arith, e, f, x, table-ends (pageSize G) b))) (good .apart)
+        go (in-second i r a e) (in-first b f) k = ⊎-elim (λ x. inr (omega (arith, e, f, x, table-ends (pageSize G) b))) (λ x. inl (omega (arith, e, f, x, table-ends (pageSize G) a))) (good .apart)
+
+    -- so each has its own address
+    pub table-one : (t u : ℕ) → t < total area → u < total area → tableAt G area t ≡ tableAt G area u → t ≡ u
+    table-one t u l m e = go (ℕ-discrete t u)
+      where
+        go : Dec (t ≡ u) → t ≡ u
+        go (yes q) = q
+        go (no d) = absurd (⊎-elim (λ x. omega (arith, page-pos G)) (λ x. omega (arith, page-pos G)) (tables-apart t u l m d))
+
+-- a table of the first region stands where it stood, whatever the second is
+pub table-stays : (G : Granule) (area : Area) (q m t : ℕ) → t < area .tables → tableAt G (withSecond area q m) t ≡ tableAt G area t
+table-stays G area q m t l = table-first G (withSecond area q m) t l ∙ sym (table-first G area t l)
+
 -- ---- bytes of the tables
+
+module _ (G : Granule) (base n b size : ℕ) where
+  pub meets-byte : meetsRegion G base n b size ≡ true → (x : ℕ) × (b ≤ x) × (x < b + size) × InRegion G base n x
+  unfolding meetsRegion
+  meets-byte e =
+      let (u, v) = both (ltb 0 size && ltb 0 n) _ e in
+      let (x, y) = both (ltb 0 size) (ltb 0 n) u in
+      let (l, m) = both (ltb b (base + pageSize G * n)) _ v in
+      at (ltb-true 0 size x) (ltb-true 0 n y) (ltb-true b _ l) (ltb-true base (b + size) m) (decLt b base)
+    where
+      at : 0 < size → 0 < n → b < base + pageSize G * n → base < b + size → Dec (b < base) → (x : ℕ) × (b ≤ x) × (x < b + size) × InRegion G base n x
+      at x y l m (yes q) = (base, omega arith, m, (omega arith, omega (arith, page-pos G, mul-lt-mul-of-pos-left {k = pageSize G} y (page-pos G))))
+      at x y l m (no q) = (b, omega arith, omega arith, (omega arith, l))
+
+  pub byte-meets : (x : ℕ) → b ≤ x → x < b + size → InRegion G base n x → meetsRegion G base n b size ≡ true
+  unfolding meetsRegion
+  byte-meets x s e i =
+      simp (
+        lt-ltb 0 size (omega arith),
+        lt-ltb 0 n (some-table (ℕ-discrete n 0)),
+        lt-ltb b (base + pageSize G * n) (omega (arith, i .1)),
+        lt-ltb base (b + size) (omega (arith, i .0)),
+      )
+    where
+      some-table : Dec (n ≡ 0) → 0 < n
+      some-table (yes z) = absurd (omega (arith, i .0, i .1, ap (λ (t : ℕ). pageSize G * t) z))
+      some-table (no d) = omega arith
+
+  pub no-byte : ((x : ℕ) → b ≤ x → x < b + size → InRegion G base n x → ⊥) → meetsRegion G base n b size ≡ false
+  no-byte f = untrue _ (λ e. let (x, s, t, i) = meets-byte e in f x s t i)
 
 module _ {G : Granule} {area : Area} {b size : ℕ} where
   -- the test is that a byte is shared
   pub meets-shares : meetsArea G area b size ≡ true → Shares G area b size
   unfolding meetsArea
-  meets-shares e =
-      let (u, v) = both (ltb 0 size && ltb 0 (area .tables)) _ e in
-      let (x, y) = both (ltb 0 size) (ltb 0 (area .tables)) u in
-      let (l, m) = both (ltb b (area .base + pageSize G * area .tables)) _ v in
-      at (ltb-true 0 size x) (ltb-true 0 (area .tables) y) (ltb-true b _ l) (ltb-true (area .base) (b + size) m) (decLt b (area .base))
-    where
-      at : 0 < size → 0 < area .tables → b < area .base + pageSize G * area .tables → area .base < b + size → Dec (b < area .base) → Shares G area b size
-      at x y l m (yes q) = record {
-        byte = area .base;
-        starts = omega arith;
-        ends = m;
-        inside = (omega arith, omega (arith, page-pos G, mul-lt-mul-of-pos-left {k = pageSize G} y (page-pos G)));
-      }
-      at x y l m (no q) = record { byte = b; starts = omega arith; ends = omega arith; inside = (omega arith, l) }
+  meets-shares e = ⊎-elim
+      (λ f. let (x, s, t, i) = meets-byte G (area .base) (area .tables) b size f in record { byte = x; starts = s; ends = t; inside = inl i })
+      (λ f. let (x, s, t, i) = meets-byte G (area .base₂) (area .tables₂) b size f in record { byte = x; starts = s; ends = t; inside = inr i })
+      (either (meetsRegion G (area .base) (area .tables) b size) (meetsRegion G (area .base₂) (area .tables₂) b size) e)
 
   pub shares-meets : Shares G area b size → meetsArea G area b size ≡ true
   unfolding meetsArea
-  shares-meets S =
-      simp (
-        lt-ltb 0 size (omega (arith, S .starts, S .ends)),
-        lt-ltb 0 (area .tables) (some-table (ℕ-discrete (area .tables) 0)),
-        lt-ltb b (area .base + pageSize G * area .tables) (omega (arith, S .starts, S .inside .1)),
-        lt-ltb (area .base) (b + size) (omega (arith, S .ends, S .inside .0)),
-      )
-    where
-      some-table : Dec (area .tables ≡ 0) → 0 < area .tables
-      some-table (yes e) = absurd (omega (arith, S .inside .0, S .inside .1, ap (λ (t : ℕ). pageSize G * t) e))
-      some-table (no d) = omega arith
+  shares-meets S = ⊎-elim
+      (λ i. left-true _ (meetsRegion G (area .base₂) (area .tables₂) b size) (byte-meets G (area .base) (area .tables) b size (S .byte) (S .starts) (S .ends) i))
+      (λ i. right-true (meetsRegion G (area .base) (area .tables) b size) _ (byte-meets G (area .base₂) (area .tables₂) b size (S .byte) (S .starts) (S .ends) i))
+      (S .inside)
 
   -- and where it does not hold, none is
   pub meets-apart : meetsArea G area b size ≡ false → Shares G area b size → ⊥
@@ -319,3 +464,22 @@ module _ {G : Granule} {area : Area} {b size : ℕ} where
 
   pub apart-meets : (Shares G area b size → ⊥) → meetsArea G area b size ≡ false
   apart-meets f = untrue _ (λ e. f (meets-shares e))
+
+-- the first region decides where it meets, and else the second
+module _ (G : Granule) (area : Area) (b size : ℕ) where
+  pub first-decides : meetsRegion G (area .base) (area .tables) b size ≡ true → meetsArea G area b size ≡ true
+  unfolding meetsArea
+  first-decides e = left-true _ _ e
+
+  pub second-decides : meetsRegion G (area .base) (area .tables) b size ≡ false
+      → meetsArea G area b size ≡ meetsRegion G (area .base₂) (area .tables₂) b size
+  unfolding meetsArea
+  second-decides e = rw e
+
+-- where there is one region, it alone decides
+pub only-region : (G : Granule) (base n b size : ℕ) → meetsArea G (oneRegion base n) b size ≡ meetsRegion G base n b size
+only-region G base n b size = go (meetsRegion G base n b size) refl
+  where
+    go : (x : Bool) → meetsRegion G base n b size ≡ x → meetsArea G (oneRegion base n) b size ≡ meetsRegion G base n b size
+    go true e = first-decides G (oneRegion base n) b size e ∙ sym e
+    go false e = second-decides G (oneRegion base n) b size e ∙ no-byte G 0 0 b size (λ x s t i. omega (arith, i .1)) ∙ sym e

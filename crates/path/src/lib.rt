@@ -2,10 +2,10 @@
 ghost use mathlib.Core.Path.{_≡_};
 ghost use Prim.Native.Nat.{_+_, _%_};
 ghost use mathlib.Core.Bool.{_&&_};
-ghost use lib.Dec.{leb};
+ghost use lib.Dec.{ltb, leb};
 ghost use Rattle.path.specs.Geometry.{four, sizeAt, atLevel, goodLevels, spaceOf, heightOf};
-ghost use Rattle.path.specs.Areas.{areaAt, meetsArea};
-ghost use Rattle.path.specs.Numbers.{noSetup, withFree, goodNumbers, goodSetup};
+ghost use Rattle.path.specs.Areas.{areaAt, areaOf, total, meetsRegion, meetsArea};
+ghost use Rattle.path.specs.Numbers.{noSetup, withFree, goodNumbers, goodSetup, goodAdding};
 ghost use Rattle.path.specs.Paths.{indexAt, baseAt, pathOf, addressOf};
 
 // The bytes of a page, and of a table.
@@ -28,6 +28,8 @@ pub struct Setup {
     pub base: u64,
     pub tables: u64,
     pub free: u64,
+    pub base2: u64,
+    pub tables2: u64,
 }
 
 // No pool's setup numbers.
@@ -39,6 +41,8 @@ pub fn no_setup() -> Setup
         base: 0,
         tables: 0,
         free: 0,
+        base2: 0,
+        tables2: 0,
     }
 }
 
@@ -51,12 +55,23 @@ pub fn with_free(s: Setup, free: u64) -> Setup
         base: s.base,
         tables: s.tables,
         free,
+        base2: s.base2,
+        tables2: s.tables2,
     }
 }
 
-// Whether levels, base, table count and the two lengths are good.
-pub fn good_numbers(levels: u64, base: u64, tables: u64, words: usize, places: usize) -> bool
-    ensures { λ r. ⌜ r ≡ goodNumbers four levels (areaAt base tables) words places ⌝ }
+// Whether levels, bases, table counts and the three lengths are good, of the first run of words, of the second, and of the free list.
+pub fn good_numbers(
+    levels: u64,
+    base: u64,
+    tables: u64,
+    base2: u64,
+    tables2: u64,
+    words: usize,
+    second: usize,
+    places: usize,
+) -> bool
+    ensures { λ r. ⌜ r ≡ goodNumbers four levels (areaAt base tables base2 tables2) words (words + second) places ⌝ }
 {
     if levels < 3 {
         return false;
@@ -79,17 +94,88 @@ pub fn good_numbers(levels: u64, base: u64, tables: u64, words: usize, places: u
     if words as u64 != ENTRIES * tables {
         return false;
     }
-    places as u64 == tables
+    if tables2 == 0 {
+        if base2 != 0 {
+            return false;
+        }
+        if second != 0 {
+            return false;
+        }
+        return places as u64 == tables;
+    }
+    if tables2 > MOST_TABLES - tables {
+        return false;
+    }
+    if base2 % PAGE != 0 {
+        return false;
+    }
+    if base2 > PHYSICAL - PAGE * tables2 {
+        return false;
+    }
+    if base2 < base + PAGE * tables {
+        if base < base2 + PAGE * tables2 {
+            return false;
+        }
+    }
+    if second as u64 != ENTRIES * tables2 {
+        return false;
+    }
+    places as u64 == tables + tables2
 }
 
-// Whether the setup numbers and the two lengths are good.
-pub fn good_setup(s: Setup, words: usize, places: usize) -> bool
-    ensures { λ r. ⌜ r ≡ goodSetup four s words places ⌝ }
+// Whether the setup numbers and the three lengths are good.
+pub fn good_setup(s: Setup, words: usize, second: usize, places: usize) -> bool
+    ensures { λ r. ⌜ r ≡ goodSetup four s words (words + second) places ⌝ }
 {
+    if good_numbers(
+        s.levels,
+        s.base,
+        s.tables,
+        s.base2,
+        s.tables2,
+        words,
+        second,
+        places,
+    ) {
+        return s.free < s.tables + s.tables2;
+    }
+    false
+}
+
+// Whether a second region may be added to a pool with these setup numbers: there is none yet, the new one has a table, and with it the numbers and the three
+// lengths, of the runs and of the longer list, are good. The free count is tested against the old limit.
+pub fn good_adding(
+    s: Setup,
+    base2: u64,
+    tables2: u64,
+    words: usize,
+    second: usize,
+    places: usize,
+) -> bool
+    ensures { λ r. ⌜ r ≡ (goodAdding four (s .levels) (areaOf s) base2 tables2 words (words + second) places && ltb (s .free) (total (areaOf s))) ⌝ }
+{
+    if s.base2 != 0 {
+        return false;
+    }
+    if s.tables2 != 0 {
+        return false;
+    }
+    if tables2 == 0 {
+        return false;
+    }
     if s.free >= s.tables {
         return false;
     }
-    good_numbers(s.levels, s.base, s.tables, words, places)
+    good_numbers(
+        s.levels,
+        s.base,
+        s.tables,
+        base2,
+        tables2,
+        words,
+        second,
+        places,
+    )
 }
 
 // Whether so many addresses from one on are all in the space of a tree of so many levels.
@@ -111,9 +197,9 @@ pub fn in_space(levels: u64, address: u64, size: u64) -> bool
     false
 }
 
-// Whether so many bytes from a frame's base on share one with the tables, so many, from base on. No sum is made that could wrap.
-pub fn meets_area(base: u64, tables: u64, frame: u64, size: u64) -> bool
-    ensures { λ r. ⌜ r ≡ meetsArea four (areaAt base tables) frame size ⌝ }
+// Whether so many bytes from a frame's base on share one with the tables of one region, so many, from base on. No sum is made that could wrap.
+pub fn meets_region(base: u64, tables: u64, frame: u64, size: u64) -> bool
+    ensures { λ r. ⌜ r ≡ meetsRegion four base tables frame size ⌝ }
 {
     if frame < base {
         if tables == 0 {
@@ -125,6 +211,19 @@ pub fn meets_area(base: u64, tables: u64, frame: u64, size: u64) -> bool
         return false;
     }
     (frame - base) / PAGE < tables
+}
+
+// The same of both regions.
+pub fn meets_area(base: u64, tables: u64, base2: u64, tables2: u64, frame: u64, size: u64) -> bool
+    ensures { λ r. ⌜ r ≡ meetsArea four (areaAt base tables base2 tables2) frame size ⌝ }
+{
+    if meets_region(base, tables, frame, size) {
+        return true;
+    }
+    if tables2 == 0 {
+        return false;
+    }
+    meets_region(base2, tables2, frame, size)
 }
 
 // The bytes that an entry of a height stands for; 0 where no level has it.
@@ -196,11 +295,11 @@ pub fn rest_at(address: u64, height: usize) -> u64
 pub fn base_at(address: u64, height: usize) -> u64
     ensures { λ r. ⌜ r ≡ atLevel four height (baseAt four address height) ⌝ }
 {
-    let size = size_at(height);
-    if size == 0 {
+    let region = size_at(height);
+    if region == 0 {
         return 0;
     }
-    address - address % size
+    address - address % region
 }
 
 // The nine-bit indices of an address, top first.

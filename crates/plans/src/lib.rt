@@ -1,8 +1,9 @@
 // A plan: the single writes of a call, in their order, and carrying them out, one after the other.
 ghost use mathlib.Core.Path.{_≡_};
-ghost use mathlib.Core.List.{List};
-ghost use Prim.Native.Nat.{ℕ};
-ghost use Rattle.path.specs.Geometry.{four};
+ghost use mathlib.Core.List.{List, _++_};
+ghost use Prim.Native.Nat.{ℕ, _*_};
+ghost use lib.ListN.{length};
+ghost use Rattle.path.specs.Geometry.{four, entries};
 ghost use Rattle.model.specs.Walk.{slot};
 ghost use Rattle.model.specs.Writes.{memory, performAll};
 ghost use Rattle.plans.specs.Plan.{writes, planned};
@@ -25,13 +26,14 @@ pub fn entry_place(t: u32, i: u16) -> usize
     (path::ENTRIES as usize) * (t as usize) + (i as usize)
 }
 
-// A step's write to the words.
-fn step_words(words: &mut [u64], s: Step)
-    ensures { λ _. ⌜ ((l : List ℕ) → now (words .exit) ≡ performAll four (writes s) (memory (now (words .entry)) l) .words) ⌝ }
+// A step's write to the words, of two runs of which the first is of whole tables.
+fn step_words(words: &mut [u64], second: &mut [u64], s: Step)
+    ensures { λ _. ⌜ ((k : ℕ) → length (now (words .entry)) ≡ entries four * k → (l : List ℕ)
+        → now (words .exit) ++ now (second .exit) ≡ performAll four (writes s) (memory (now (words .entry) ++ now (second .entry)) l) .words) ⌝ }
 {
     match s {
-        Step::Store { place, value } => pool::put(words, place, value),
-        Step::Wipe { table } => pool::wipe(words, table),
+        Step::Store { place, value } => pool::put(words, second, place, value),
+        Step::Wipe { table } => pool::wipe(words, second, table),
         Step::Give { .. } => {}
         Step::Nothing => {}
     }
@@ -50,26 +52,28 @@ fn step_list(list: &mut [u32], s: Step)
 }
 
 // The writes of a plan to the words.
-pub fn write_words(words: &mut [u64], plan: [Step; STEPS])
-    ensures { λ _. ⌜ ((l : List ℕ) → now (words .exit) ≡ performAll four (planned plan) (memory (now (words .entry)) l) .words) ⌝ }
+pub fn write_words(words: &mut [u64], second: &mut [u64], plan: [Step; STEPS])
+    ensures { λ _. ⌜ ((k : ℕ) → length (now (words .entry)) ≡ entries four * k → (l : List ℕ)
+        → now (words .exit) ++ now (second .exit) ≡ performAll four (planned plan) (memory (now (words .entry) ++ now (second .entry)) l) .words) ⌝ }
 {
     let mut i = 0;
     while i < STEPS {
         let s = plan[i];
-        step_words(words, s);
+        step_words(words, second, s);
         i += 1;
     }
 }
 
 // The writes of a plan to the words and to the free list.
-pub fn write_all(words: &mut [u64], list: &mut [u32], plan: [Step; STEPS])
-    ensures { λ _. ⌜ memory (now (words .exit)) (now (list .exit))
-        ≡ performAll four (planned plan) (memory (now (words .entry)) (now (list .entry))) ⌝ }
+pub fn write_all(words: &mut [u64], second: &mut [u64], list: &mut [u32], plan: [Step; STEPS])
+    ensures { λ _. ⌜ ((k : ℕ) → length (now (words .entry)) ≡ entries four * k
+        → memory (now (words .exit) ++ now (second .exit)) (now (list .exit))
+        ≡ performAll four (planned plan) (memory (now (words .entry) ++ now (second .entry)) (now (list .entry)))) ⌝ }
 {
     let mut i = 0;
     while i < STEPS {
         let s = plan[i];
-        step_words(words, s);
+        step_words(words, second, s);
         step_list(list, s);
         i += 1;
     }

@@ -1,5 +1,5 @@
 -- What zeroing a part does, and tests for zeros, step by step and word by word.
-use Prim.Native.Nat.{ℕ, zero, suc, _+_, _-_, _≤_, _<_}
+use Prim.Native.Nat.{ℕ, zero, suc, _+_, _-_, _*_, _≤_, _<_}
 use mathlib.Core.Path.{_≡_, refl, sym, ap, _∙_}
 use mathlib.Core.Bool.{Bool, true, false, not}
 use mathlib.Core.List.{List, [], _++_}
@@ -11,7 +11,7 @@ use lib.ListN.{length, getD, set, take, drop, replicate, drop-of-length-le, leng
 use lib.Seq.{set-out, getD-set-same, getD-set-other, take-all}
 use borrow.Author.Tests.{eq-eqb, eqb-true, eqb-false, not-true, not-false}
 use Rattle.laws.specs.Lists.{part, zeroed, allZero}
-use Rattle.laws.specs.ListLaws.{length-part, length-part-le, zeroed-is, allZero-of, allZero-not, allZero-part-at, allZero-part-of, allZero-part-not, allZero-part-some}
+use Rattle.laws.specs.ListLaws.{part-first, part-later, zeroed-first, zeroed-later, length-part, length-part-le, zeroed-is, allZero-of, allZero-not, allZero-part-at, allZero-part-of, allZero-part-not, allZero-part-some}
 
 span : (at k : ℕ) → at + k - at ≡ k
 span at k = omega arith
@@ -147,6 +147,24 @@ unfolding part
 part-none ws at k l =
     rw (drop-of-length-le ws {i = length ws} (omega arith), drop-of-length-le ws {i = at} l)
     (take-all (length ws - length ws) [] (omega arith) ∙ sym (take-all k [] (omega arith)))
+
+-- ---- a table of the first run, which is of whole tables, and one of the second
+
+module _ (a b : List ℕ) (t : ℕ) where
+  at-start : 512 * t ≡ 512 * t + 0
+  at-start = omega arith
+
+  pub table-first : (k : ℕ) → length a ≡ 512 * k → 512 * t < length a → part a (512 * t) 512 ≡ part (a ++ b) (512 * t + 0) 512
+  table-first k e l = ap (λ (n : ℕ). part a n 512) at-start ∙ sym (part-first a b (512 * t + 0) 512 (omega arith))
+
+  pub table-later : length a ≤ 512 * t → part b (512 * t - length a) 512 ≡ part (a ++ b) (512 * t + 0) 512
+  table-later l = ap (λ (n : ℕ). part b (n - length a) 512) at-start ∙ sym (part-later a b (512 * t + 0) 512 (omega arith))
+
+  pub wipe-first : (k : ℕ) → length a ≡ 512 * k → 512 * t < length a → zeroed a (512 * t) 512 ++ b ≡ zeroed (a ++ b) (512 * t + 0) 512
+  wipe-first k e l = ap (λ (n : ℕ). zeroed a n 512 ++ b) at-start ∙ sym (zeroed-first a b (512 * t + 0) 512 (omega arith))
+
+  pub wipe-later : length a ≤ 512 * t → a ++ zeroed b (512 * t - length a) 512 ≡ zeroed (a ++ b) (512 * t + 0) 512
+  wipe-later l = ap (λ (n : ℕ). a ++ zeroed b (n - length a) 512) at-start ∙ sym (zeroed-later a b (512 * t + 0) 512 (omega arith))
 
 -- no word is left out where the place is past the end
 pub none-out : (ws xs : List ℕ) (at k : ℕ) → xs ≡ part ws at k → allZero (set xs k 0) ≡ allZero (part ws at k)

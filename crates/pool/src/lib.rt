@@ -1,7 +1,9 @@
-// The lent memory: the words of the tables and the places of the free list. What is past the end reads as 0 and is not written.
+// The lent memory: the words of the tables, in two runs, and the places of the free list. What is past the end reads as 0 and is not written. Contracts
+// speak of the two runs put together, in which table t's words stand from place 512 t on; that a table is in one of the runs is known where the first is of whole tables.
 ghost use mathlib.Core.Path.{_≡_};
 ghost use mathlib.Core.Bool.{false, not};
-ghost use Prim.Native.Nat.{ℕ, _+_, _-_, _≤_, _<_};
+ghost use mathlib.Core.List.{_++_};
+ghost use Prim.Native.Nat.{ℕ, _+_, _-_, _*_, _≤_, _<_};
 ghost use lib.Dec.{eqb};
 ghost use lib.ListN.{length, getD, set, replicate};
 ghost use Rattle.laws.specs.Lists.{part, zeroed, allZero, among};
@@ -14,19 +16,30 @@ const ENTRIES: usize = path::ENTRIES as usize;
 // The words that the empty test reads at a step; a table has a multiple of them.
 const STEP: usize = 8;
 
-// The word at a place.
-pub fn word(words: &[u64], i: usize) -> u64
-    ensures { λ r. ⌜ r ≡ getD (now (words .entry)) i 0 ⌝ }
+// The word at a place of the two runs put together.
+pub fn word(words: &[u64], second: &[u64], i: usize) -> u64
+    ensures { λ r. ⌜ r ≡ getD (now (words .entry) ++ now (second .entry)) i 0 ⌝ }
 {
-    if i < words.len() { words[i] } else { 0 }
+    let n = words.len();
+    if i < n {
+        return words[i];
+    }
+    let k = i - n;
+    if k < second.len() { second[k] } else { 0 }
 }
 
-// The word at a place becomes v.
-pub fn put(words: &mut [u64], i: usize, v: u64)
-    ensures { λ _. ⌜ now (words .exit) ≡ set (now (words .entry)) i v ⌝ }
+// The word at a place of the two runs put together becomes v.
+pub fn put(words: &mut [u64], second: &mut [u64], i: usize, v: u64)
+    ensures { λ _. ⌜ now (words .exit) ++ now (second .exit) ≡ set (now (words .entry) ++ now (second .entry)) i v ⌝ }
 {
-    if i < words.len() {
+    let n = words.len();
+    if i < n {
         words[i] = v;
+        return;
+    }
+    let k = i - n;
+    if k < second.len() {
+        second[k] = v;
     }
 }
 
@@ -57,31 +70,61 @@ pub fn clear(words: &mut [u64])
     }
 }
 
-// All words of table t become 0.
-pub fn wipe(words: &mut [u64], t: u32)
-    ensures { λ _. ⌜ now (words .exit) ≡ zeroed (now (words .entry)) (slot four t 0) (entries four) ⌝ }
+// A table's worth of words from a place of one run on becomes 0, where there are so many.
+fn wipe_from(words: &mut [u64], start: usize)
+    ensures { λ _. ⌜ now (words .exit) ≡ zeroed (now (words .entry)) start (entries four) ⌝ }
 {
-    let start = ENTRIES * (t as usize);
-    let end = start + ENTRIES;
-    if end <= words.len() {
-        clear(&mut words[start..end]);
+    let n = words.len();
+    if start < n {
+        if n - start >= ENTRIES {
+            let end = start + ENTRIES;
+            clear(&mut words[start..end]);
+        }
     }
 }
 
-// The words of table t, as far as there are such.
-fn table_words(words: &[u64], t: u32) -> &[u64]
-    ensures { λ r. ⌜ now r ≡ part (now (words .entry)) (slot four t 0) (entries four) ⌝ }
+// All words of table t become 0, in the run that holds it.
+pub fn wipe(words: &mut [u64], second: &mut [u64], t: u32)
+    ensures { λ _. ⌜ ((k : ℕ) → length (now (words .entry)) ≡ entries four * k
+        → now (words .exit) ++ now (second .exit) ≡ zeroed (now (words .entry) ++ now (second .entry)) (slot four t 0) (entries four)) ⌝ }
 {
     let n = words.len();
     let start = ENTRIES * (t as usize);
-    let past = start + ENTRIES;
-    if past <= n {
-        return &words[start..past];
+    if start < n {
+        wipe_from(words, start);
+        return;
     }
-    if start <= n {
+    let at = start - n;
+    wipe_from(second, at);
+}
+
+// A table's worth of words from a place of one run on, as far as there are such.
+fn words_from(words: &[u64], start: usize) -> &[u64]
+    ensures { λ r. ⌜ now r ≡ part (now (words .entry)) start (entries four) ⌝ }
+{
+    let n = words.len();
+    if start >= n {
+        return &words[n..n];
+    }
+    if n - start < ENTRIES {
         return &words[start..n];
     }
-    &words[n..n]
+    let past = start + ENTRIES;
+    &words[start..past]
+}
+
+// The words of table t: the part of whichever run holds it, as far as there are such.
+pub fn table_part<'a>(words: &'a [u64], second: &'a [u64], t: u32) -> &'a [u64]
+    ensures { λ r. ⌜ ((k : ℕ) → length (now (words .entry)) ≡ entries four * k
+        → now r ≡ part (now (words .entry) ++ now (second .entry)) (slot four t 0) (entries four)) ⌝ }
+{
+    let n = words.len();
+    let start = ENTRIES * (t as usize);
+    if start < n {
+        return words_from(words, start);
+    }
+    let at = start - n;
+    words_from(second, at)
 }
 
 // Whether any of the words of a step is in use.
@@ -147,17 +190,18 @@ fn zeros_but(w: &[u64], but: usize) -> bool
 }
 
 // Whether all words of table t are 0.
-pub fn is_table_empty(words: &[u64], t: u32) -> bool
-    ensures { λ r. ⌜ r ≡ allZero (part (now (words .entry)) (slot four t 0) (entries four)) ⌝ }
+pub fn is_table_empty<'a>(words: &'a [u64], second: &'a [u64], t: u32) -> bool
+    ensures { λ r. ⌜ ((k : ℕ) → length (now (words .entry)) ≡ entries four * k
+        → r ≡ allZero (part (now (words .entry) ++ now (second .entry)) (slot four t 0) (entries four))) ⌝ }
 {
-    zeros_but(table_words(words, t), ENTRIES)
+    zeros_but(table_part(words, second, t), ENTRIES)
 }
 
 // Whether table t has no entry but entry i.
-pub fn only_entry(words: &[u64], t: u32, i: u16) -> bool
-    ensures { λ r. ⌜ r ≡ onlyEntry four (now (words .entry)) t i ⌝ }
+pub fn only_entry<'a>(words: &'a [u64], second: &'a [u64], t: u32, i: u16) -> bool
+    ensures { λ r. ⌜ ((k : ℕ) → length (now (words .entry)) ≡ entries four * k → r ≡ onlyEntry four (now (words .entry) ++ now (second .entry)) t i) ⌝ }
 {
-    zeros_but(table_words(words, t), i as usize)
+    zeros_but(table_part(words, second, t), i as usize)
 }
 
 // Whether c is among four tables.

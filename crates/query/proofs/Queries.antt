@@ -28,7 +28,7 @@ unfolding foundAt
 at-frame a h l q x y = rw (x ∙ level-some four l _, y ∙ level-some four l _) (at-entry a h q)
 
 -- past the first test the setup is good
-pub good : {s : Setup} {w l : ℕ} {r : Bool} → r ≡ goodSetup four s w l → not r ≡ false → GoodSetup four s w l
+pub good : {s : Setup} {k w l : ℕ} {r : Bool} → r ≡ goodSetup four s k w l → not r ≡ false → GoodSetup four s k w l
 good e n = good-setup (sym e ∙ not-false _ n)
 
 module _ (p : Pool) (a : ℕ) {r : Bool} (e : r ≡ goodPool four p) where

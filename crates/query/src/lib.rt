@@ -3,9 +3,10 @@ use entry::Entry;
 use model::QueryAnswer;
 use path::Setup;
 ghost use mathlib.Core.Path.{_≡_};
-ghost use Prim.Native.Nat.{_-_, _*_, _≤_};
+ghost use mathlib.Core.List.{_++_};
+ghost use Prim.Native.Nat.{_-_, _≤_};
 ghost use lib.ListN.{length};
-ghost use Rattle.path.specs.Geometry.{four, entries, sizeAt};
+ghost use Rattle.path.specs.Geometry.{four, sizeAt};
 ghost use Rattle.path.specs.Areas.{areaAt};
 ghost use Rattle.path.specs.Paths.{baseAt, pathOf};
 ghost use Rattle.entry.specs.Words.{frameAt};
@@ -48,14 +49,17 @@ fn frame_told(w: u64, height: usize, address: u64, places: &mut [u64; 4]) -> u64
 // four. The loop begins above every tree, so that its turns are as many for each; a turn above this tree's root does nothing.
 fn ask(
     words: &[u64],
+    second: &[u64],
     base: u64,
-    tables: u32,
+    tables: u16,
+    base2: u64,
+    tables2: u16,
     levels: usize,
     address: u64,
     places: &mut [u64; 4],
 ) -> u64
-    requires { ⌜ (1 ≤ levels) × ((levels ≤ 4) × ((1 ≤ tables) × (length (now words) ≡ entries four * tables))) ⌝ }
-    ensures { λ r. ⌜ answerOf r (now (places .exit)) ≡ endsAt four address (walkFrom four (now (words .entry)) (areaAt base tables) 0 (pathOf four address) (levels - 1) noWay 0) ⌝ }
+    requires { ⌜ (1 ≤ levels) × ((levels ≤ 4) × (1 ≤ tables)) ⌝ }
+    ensures { λ r. ⌜ answerOf r (now (places .exit)) ≡ endsAt four address (walkFrom four (now (words .entry) ++ now (second .entry)) (areaAt base tables base2 tables2) 0 (pathOf four address) (levels - 1) noWay 0) ⌝ }
 {
     let path = path::path_of(address);
     let mut way = [0u32; 4];
@@ -67,14 +71,14 @@ fn ask(
             let k = 3 - h;
             let i = path[k];
             let place = (path::ENTRIES * (t as u64) + (i as u64)) as usize;
-            let w = words[place];
+            let w = pool::word(words, second, place);
             if w == 0 {
                 return hole_told(h, address, places);
             }
             if h == 0 {
                 return frame_told(w, h, address, places);
             }
-            let child = entry::child_in(w, base, tables);
+            let child = entry::child_in(w, base, tables, base2, tables2);
             if child == 0 {
                 return frame_told(w, h, address, places);
             }
@@ -89,13 +93,15 @@ fn ask(
 }
 
 // The mapping that holds an address, or a refusal: 1, 4, 8, or 9 with the hole around the address.
-pub fn query(s: Setup, words: &[u64], list: &[u32], address: u64) -> QueryAnswer
-    ensures { λ r. ⌜ saysQuery r ≡ queryW four (pool s (now (words .entry)) (now (list .entry))) address ⌝ }
+pub fn query(s: Setup, words: &[u64], second: &[u64], list: &[u32], address: u64) -> QueryAnswer
+    ensures { λ r. ⌜ saysQuery r ≡ queryW four (pool s (now (words .entry) ++ now (second .entry)) (length (now (words .entry))) (now (list .entry))) address ⌝ }
 {
     let levels = s.levels;
     let base = s.base;
     let tables = s.tables;
-    if !path::good_setup(s, words.len(), list.len()) {
+    let base2 = s.base2;
+    let tables2 = s.tables2;
+    if !path::good_setup(s, words.len(), second.len(), list.len()) {
         return QueryAnswer::Refused(1);
     }
     if !path::in_space(levels, address, 1) {
@@ -104,8 +110,11 @@ pub fn query(s: Setup, words: &[u64], list: &[u32], address: u64) -> QueryAnswer
     let mut places = [0u64; 4];
     let no = ask(
         words,
+        second,
         base,
-        tables as u32,
+        tables as u16,
+        base2,
+        tables2 as u16,
         levels as usize,
         address,
         &mut places,

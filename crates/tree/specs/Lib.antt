@@ -13,6 +13,8 @@
 --   Visit   one traversal of all words meets each entry once
 --   Reach   what the traversal reaches is what the ledger needs
 --   Audit   the audit's rules are the invariant
+--   Fresh   a pool with the root alone
+--   Widen   more tables for the same tree
 pub mod Region
 pub mod Tree
 pub mod Walk
@@ -26,3 +28,4 @@ pub mod Visit
 pub mod Reach
 pub mod Audit
 pub mod Fresh
+pub mod Widen

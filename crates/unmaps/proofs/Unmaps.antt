@@ -64,7 +64,7 @@ module _
       came-at q d f = unmap-from (ap (λ (x : Entry). stop x (r % 4) way) (sym f ∙ d) ∙ came-word C l q)
 
 -- what the code has by the height of the entry where a walk ended
-module _ {G : Granule} {s : Setup} {w l left : ℕ} (S : Sane G) (g : GoodSetup G s w l) (m : left ≤ s .levels - 1) where
+module _ {G : Granule} {s : Setup} {cut w l left : ℕ} (S : Sane G) (g : GoodSetup G s cut w l) (m : left ≤ s .levels - 1) where
   pub size-known : {size : ℕ} → size ≡ atLevel G left (sizeAt G left) → size ≡ sizeAt G left
   size-known e = e ∙ level-some G (omega (arith, g, S)) (sizeAt G left)
 
@@ -103,43 +103,43 @@ stays-not G ws left top {r} t i f n = go (leb top left) refl
 
 -- ---- at a frame
 
-module _ (G : Granule) (s : Setup) (ws list : List ℕ) (a b k left : ℕ) (way : List ℕ) where
+module _ (G : Granule) (s : Setup) (ws : List ℕ) (cut : ℕ) (list : List ℕ) (a b k left : ℕ) (way : List ℕ) where
   abbrev there : Done
-  there = unmapAt G (pool s ws list) a (stop (Frame b k) left way) (Frame b k)
+  there = unmapAt G (pool s ws cut list) a (stop (Frame b k) left way) (Frame b k)
 
-  pub there-inside : {x : ℕ} → x ≡ a % sizeAt G left → x ≢ 0 → refuse 10 (pool s ws list) ≡ there
+  pub there-inside : {x : ℕ} → x ≡ a % sizeAt G left → x ≢ 0 → refuse 10 (pool s ws cut list) ≡ there
   unfolding unmapAt
   there-inside e n = rw (ne-eqb (a % sizeAt G left) 0 (λ z. n (e ∙ z)))
 
   module _ (m : a % sizeAt G left ≡ 0) {size : ℕ} (z : size ≡ sizeAt G left) where
     -- no table comes free: a single write
     pub there-one :
-        {place : ℕ} → freed G ws way (pathOf G a) left (s .levels - 1 - left) ≡ 0 → s .free ≤ s .tables - 1
+        {place own : ℕ} {w : List ℕ} → freed G ws way (pathOf G a) left (s .levels - 1 - left) ≡ 0 → s .free ≤ total (areaOf s) - 1
         → place ≡ slot G (atHeight way left) (atHeight (pathOf G a) left)
-        → done (gave b size k 0) (pool s (set ws place 0) list) ≡ there
+        → w ≡ set ws place 0 → own ≡ cut → done (gave b size k 0) (pool s w own list) ≡ there
     unfolding unmapAt unmapHere pruneWrites performAll
-    there-one {place} f l e =
+    there-one {place} {own} {w} f l e u v =
         let same : s .free + 0 ≡ s .free = omega arith in
-        rw (eq-eqb _ _ m, f, le-ltb (s .tables - 1) (s .free + 0) (omega arith), same)
-        (λ i. done (gave b (z i) k 0) (pool s (set ws (e i) 0) list))
+        rw (eq-eqb _ _ m, f, le-ltb (total (areaOf s) - 1) (s .free + 0) (omega arith), same)
+        ((λ i. done (gave b size k 0) (pool s (u i) (v i) list)) ∙ (λ i. done (gave b (z i) k 0) (pool s (set ws (e i) 0) cut list)))
 
     module _ {path : List ℕ} (q : path ≡ pathOf G a) {given : ℕ} (f : given ≡ freed G ws way (pathOf G a) left (s .levels - 1 - left)) where
-      pub there-full : s .tables - 1 < s .free + given → refuse 8 (pool s ws list) ≡ there
+      pub there-full : total (areaOf s) - 1 < s .free + given → refuse 8 (pool s ws cut list) ≡ there
       unfolding unmapAt unmapHere
       there-full l = rw (eq-eqb _ _ m, ← f, lt-ltb _ _ l)
 
       pub there-done :
-          s .free + given ≤ s .tables - 1
-          → (plan : List Step) {w x : List ℕ} {t : Setup}
+          s .free + given ≤ total (areaOf s) - 1
+          → (plan : List Step) {w x : List ℕ} {own : ℕ} {t : Setup}
           → planned plan ≡ unmapWrites G way path left (s .free) given
           → memory w x ≡ performAll G (planned plan) (memory ws list)
-          → t ≡ withFree s (s .free + given)
-          → done (gave b size k given) (pool t w x) ≡ there
+          → own ≡ cut → t ≡ withFree s (s .free + given)
+          → done (gave b size k given) (pool t w own x) ≡ there
       unfolding unmapAt unmapHere
-      there-done l plan {w} {x} {t} d v u =
+      there-done l plan {w} {x} {own} {t} d v o u =
           let new : memory w x ≡ performAll G (unmapWrites G way (pathOf G a) left (s .free) given) (memory ws list) =
           v ∙ ap (λ (y : List Write). performAll G y (memory ws list)) (d ∙ ap (λ (y : List ℕ). unmapWrites G way y left (s .free) given) q) in
-          rw (eq-eqb _ _ m, ← f, le-ltb _ _ l) (λ i. done (gave b (z i) k given) (pool (u i) (new i .words) (new i .list)))
+          rw (eq-eqb _ _ m, ← f, le-ltb _ _ l) (λ i. done (gave b (z i) k given) (pool (u i) (new i .words) (o i) (new i .list)))
 
 -- the count of the tables that come free, where the first does
 pub freed-first :

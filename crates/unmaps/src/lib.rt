@@ -6,10 +6,11 @@ use path::Setup;
 use plans::Step;
 ghost use mathlib.Core.Path.{_≡_};
 ghost use mathlib.Core.Bool.{true, not, _||_};
-ghost use Prim.Native.Nat.{_+_, _-_, _/_, _%_, _^_, _≤_, _<_};
+ghost use mathlib.Core.List.{_++_};
+ghost use Prim.Native.Nat.{ℕ, _+_, _-_, _*_, _/_, _%_, _^_, _≤_, _<_};
 ghost use lib.Dec.{leb};
 ghost use lib.ListN.{length};
-ghost use Rattle.path.specs.Geometry.{four, sizeAt};
+ghost use Rattle.path.specs.Geometry.{four, entries, sizeAt};
 ghost use Rattle.path.specs.Paths.{baseAt, pathOf};
 ghost use Rattle.path.specs.Numbers.{mostTables, goodSetup};
 ghost use Rattle.entry.specs.declared.Entry.the-variants.{Frame};
@@ -34,16 +35,24 @@ fn unmap_tests(levels: u64, address: u64) -> u64
 
 // Of the tables on the way, from the one with entries of height `left` upward, the root excepted: how many come free, one after the other, once the
 // path's entry in each is cleared.
-fn count_freed(words: &[u64], way: [u32; 4], path: [u16; 4], left: usize, top: usize) -> usize
+fn count_freed<'a>(
+    words: &'a [u64],
+    second: &'a [u64],
+    way: [u32; 4],
+    path: [u16; 4],
+    left: usize,
+    top: usize,
+) -> usize
     requires { ⌜ (left ≤ top) × (top ≤ 3) ⌝ }
-    ensures { λ r. ⌜ r ≡ freed four (now (words .entry)) way path left (top - left) ⌝ }
+    ensures { λ r. ⌜ ((k : ℕ) → length (now (words .entry)) ≡ entries four * k
+        → r ≡ freed four (now (words .entry) ++ now (second .entry)) way path left (top - left)) ⌝ }
 {
     let mut h = left;
     while h < top {
         let at = 3 - h;
         let t = way[at];
         let i = path[at];
-        if !pool::only_entry(words, t, i) {
+        if !pool::only_entry(words, second, t, i) {
             return h - left;
         }
         h += 1;
@@ -108,6 +117,7 @@ fn unmap_hole(s: Setup, address: u64, height: usize) -> Unmapped
 fn unmap_more(
     s: Setup,
     words: &mut [u64],
+    second: &mut [u64],
     list: &mut [u32],
     address: u64,
     frame: u64,
@@ -115,21 +125,21 @@ fn unmap_more(
     way: [u32; 4],
     left: usize,
 ) -> Unmapped
-    requires { ⌜ (goodSetup four s (length (now words)) (length (now list)) ≡ true) × ((left < s .levels - 1) × ((address % sizeAt four left ≡ 0) × (onlyEntry four (now words) (atHeight way left) (atHeight (pathOf four address) left) ≡ true))) ⌝ }
-    ensures { λ r. ⌜ unmapDid r (now (words .exit)) (now (list .exit))
-        ≡ unmapAt four (pool s (now (words .entry)) (now (list .entry))) address (stop (Frame frame attributes) left way) (Frame frame attributes) ⌝ }
+    requires { ⌜ (goodSetup four s (length (now words)) (length (now words ++ now second)) (length (now list)) ≡ true) × ((left < s .levels - 1) × ((address % sizeAt four left ≡ 0) × (onlyEntry four (now words ++ now second) (atHeight way left) (atHeight (pathOf four address) left) ≡ true))) ⌝ }
+    ensures { λ r. ⌜ unmapDid r (now (words .exit)) (now (second .exit)) (now (list .exit))
+        ≡ unmapAt four (pool s (now (words .entry) ++ now (second .entry)) (length (now (words .entry))) (now (list .entry))) address (stop (Frame frame attributes) left way) (Frame frame attributes) ⌝ }
 {
     let size = path::size_at(left);
     let path = path::path_of(address);
     let top = (s.levels - 1) as usize;
-    let given = count_freed(&words[..], way, path, left + 1, top) + 1;
+    let given = count_freed(&words[..], &second[..], way, path, left + 1, top) + 1;
     let free = s.free + given as u64;
-    let most = s.tables - 1;
+    let most = s.tables + s.tables2 - 1;
     if free > most {
         return unmap_refused(8, s);
     }
     let plan = unmap_plan(way, path, left, s.free as usize, given);
-    plans::write_all(words, list, plan);
+    plans::write_all(words, second, list, plan);
     Unmapped {
         answer: UnmapAnswer::Given {
             frame,
@@ -142,22 +152,24 @@ fn unmap_more(
 }
 
 // Whether the table of an entry of height `left`, by the entry's place, stays once the entry is cleared: it is the root, or it has another entry.
-fn stays(words: &[u64], place: usize, left: usize, top: usize) -> bool
+fn stays<'a>(words: &'a [u64], second: &'a [u64], place: usize, left: usize, top: usize) -> bool
     requires { ⌜ place / 512 < 2 ^ 32 ⌝ }
-    ensures { λ r. ⌜ r ≡ (leb top left || not (onlyEntry four (now (words .entry)) (place / 512) (place % 512))) ⌝ }
+    ensures { λ r. ⌜ ((k : ℕ) → length (now (words .entry)) ≡ entries four * k
+        → r ≡ (leb top left || not (onlyEntry four (now (words .entry) ++ now (second .entry)) (place / 512) (place % 512)))) ⌝ }
 {
     if left >= top {
         return true;
     }
     let t = (place / 512) as u32;
     let i = (place % 512) as u16;
-    !pool::only_entry(words, t, i)
+    !pool::only_entry(words, second, t, i)
 }
 
 // Unmap, where the walk ended at a frame, at this place. A frame whose table stays is a single write.
 fn unmap_frame(
     s: Setup,
     words: &mut [u64],
+    second: &mut [u64],
     list: &mut [u32],
     address: u64,
     frame: u64,
@@ -166,18 +178,28 @@ fn unmap_frame(
     left: usize,
     place: usize,
 ) -> Unmapped
-    requires { ⌜ (goodSetup four s (length (now words)) (length (now list)) ≡ true) × ((left ≤ s .levels - 1) × ((place < length (now words)) × (place ≡ slot four (atHeight way left) (atHeight (pathOf four address) left)))) ⌝ }
-    ensures { λ r. ⌜ unmapDid r (now (words .exit)) (now (list .exit))
-        ≡ unmapAt four (pool s (now (words .entry)) (now (list .entry))) address (stop (Frame frame attributes) left way) (Frame frame attributes) ⌝ }
+    requires { ⌜ (goodSetup four s (length (now words)) (length (now words ++ now second)) (length (now list)) ≡ true) × ((left ≤ s .levels - 1) × ((place < length (now words ++ now second)) × (place ≡ slot four (atHeight way left) (atHeight (pathOf four address) left)))) ⌝ }
+    ensures { λ r. ⌜ unmapDid r (now (words .exit)) (now (second .exit)) (now (list .exit))
+        ≡ unmapAt four (pool s (now (words .entry) ++ now (second .entry)) (length (now (words .entry))) (now (list .entry))) address (stop (Frame frame attributes) left way) (Frame frame attributes) ⌝ }
 {
     if path::rest_at(address, left) != 0 {
         return unmap_refused(10, s);
     }
     let top = (s.levels - 1) as usize;
-    if !stays(&words[..], place, left, top) {
-        return unmap_more(s, words, list, address, frame, attributes, way, left);
+    if !stays(&words[..], &second[..], place, left, top) {
+        return unmap_more(
+            s,
+            words,
+            second,
+            list,
+            address,
+            frame,
+            attributes,
+            way,
+            left,
+        );
     }
-    words[place] = 0;
+    pool::put(words, second, place, 0);
     Unmapped {
         answer: UnmapAnswer::Given {
             frame,
@@ -191,11 +213,17 @@ fn unmap_frame(
 
 // The mapping that starts at an address goes, and so does each table that is empty then. Answers the frame and the tables given back, or a refusal:
 // 1, 4, 5, 8, 10, or 9 with the hole around the address.
-pub fn unmap(s: Setup, words: &mut [u64], list: &mut [u32], address: u64) -> Unmapped
-    ensures { λ r. ⌜ unmapDid r (now (words .exit)) (now (list .exit))
-        ≡ unmapW four (pool s (now (words .entry)) (now (list .entry))) address ⌝ }
+pub fn unmap(
+    s: Setup,
+    words: &mut [u64],
+    second: &mut [u64],
+    list: &mut [u32],
+    address: u64,
+) -> Unmapped
+    ensures { λ r. ⌜ unmapDid r (now (words .exit)) (now (second .exit)) (now (list .exit))
+        ≡ unmapW four (pool s (now (words .entry) ++ now (second .entry)) (length (now (words .entry))) (now (list .entry))) address ⌝ }
 {
-    if !path::good_setup(s, words.len(), list.len()) {
+    if !path::good_setup(s, words.len(), second.len(), list.len()) {
         return unmap_refused(1, s);
     }
     let no = unmap_tests(s.levels, address);
@@ -203,18 +231,19 @@ pub fn unmap(s: Setup, words: &mut [u64], list: &mut [u32], address: u64) -> Unm
         return unmap_refused(no, s);
     }
     let mut way = [0u32; 4];
-    let end = lookup::reach(s, &words[..], 0, address, &mut way);
+    let end = lookup::reach(s, &words[..], &second[..], 0, address, &mut way);
     let left = (end % 4) as usize;
     let place = (end / 4) as usize;
-    if place >= words.len() {
+    if place >= words.len() + second.len() {
         return unmap_refused(8, s);
     }
-    let w = words[place];
-    let e = entry::read_word(w, left, s.base, s.tables as u32);
+    let w = pool::word(&words[..], &second[..], place);
+    let e = entry::read_word(w, left, s.base, s.tables as u16, s.base2, s.tables2 as u16);
     match e {
         Entry::Frame { base, attributes } => unmap_frame(
             s,
             words,
+            second,
             list,
             address,
             base,

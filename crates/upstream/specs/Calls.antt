@@ -238,13 +238,13 @@ module _ (G : Granule) (p : Pool) where
   query-walk a g l = rw (g, lt-leb (spaceOf G (p .numbers .levels)) a l)
 
 -- new: a format that is accepted sets every word to 0; one that is refused leaves all lent memory
-pub format-refused : (G : Granule) (levels : ℕ) (area : Area) (ws list : List ℕ) (n : ℕ) → formatW G levels area ws list .answer ≡ refused n
-    → (formatW G levels area ws list .after .words ≡ ws) × (formatW G levels area ws list .after .list ≡ list)
+pub format-refused : (G : Granule) (levels : ℕ) (area : Area) (ws : List ℕ) (cut : ℕ) (list : List ℕ) (n : ℕ) → formatW G levels area ws cut list .answer ≡ refused n
+    → (formatW G levels area ws cut list .after .words ≡ ws) × (formatW G levels area ws cut list .after .list ≡ list)
 unfolding formatW
-format-refused G levels area ws list n = go (goodNumbers G levels area (length ws) (length list))
+format-refused G levels area ws cut list n = go (goodNumbers G levels area cut (length ws) (length list))
   where
     left : Bool → Done
-    left y = cond y (done formatted (pool (setupOf levels area (total area - 1)) (replicate (length ws) 0) (down (total area)))) (refuse 1 (pool noSetup ws list))
+    left y = cond y (done formatted (pool (setupOf levels area (total area - 1)) (replicate (length ws) 0) cut (down (total area)))) (refuse 1 (pool noSetup ws cut list))
 
     go : (y : Bool) → left y .answer ≡ refused n → (left y .after .words ≡ ws) × (left y .after .list ≡ list)
     go true e = let z : _≡_ {A = ℕ} 0 1 = cc in absurd (omega arith)

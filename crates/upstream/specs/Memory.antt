@@ -4,7 +4,6 @@ use mathlib.Core.Logic.{_≢_, _⊎_, inl, inr, ⊎-elim, _↔_}
 use mathlib.Core.Bool.{true}
 use mathlib.Core.List.{List, [], _∷_, List·Memᴰ, List·Memᴰ·head as here, List·Memᴰ·tail as there, List·Memᴰ·append-cases, Memᴰ·append-left, Memᴰ·cast}
 use Prim.Native.Nat.{ℕ, zero, suc, _+_, _-_, _*_, _%_, _≤_, _<_, min}
-use native.Mathlib.Nat.{add-mul-mod-self-left}
 use native.Mathlib.Omega.{arith}
 use native.Mathlib.Decide.{decLt}
 use lib.ListN.{length, getD, set, replicate, drop, length-take, length-drop}
@@ -14,6 +13,7 @@ use Rattle.laws.specs.ListLaws.{length-part, part-set, part-set-before, part-se
 use Rattle.path.specs.Geometry.{Granule, pageSize, entries, physical, heightOf, Sane}
 use Rattle.path.specs.Areas.{Area, areaOf, total, tableAt, GoodArea}
 use Rattle.path.specs.Numbers.{GoodNumbers}
+use Rattle.path.specs.Laws as area-laws
 use Rattle.path.specs.Laws.{good-setup}
 use Rattle.path.specs.Paths.{pathOf}
 use Rattle.entry.specs.Words.{entryAt, frameWord, tableWord}
@@ -39,38 +39,35 @@ use Rattle.upstream.specs.Remove.{removed}
 
 module _ (G : Granule) (area : Area) where
   -- `wf`: each table is aligned to its size
-  pub table-aligned : GoodArea G area → (t : ℕ) → tableAt G area t % pageSize G ≡ 0
-  table-aligned e t = add-mul-mod-self-left (area .base) (pageSize G) t ∙ e .aligned
+  pub table-aligned : GoodArea G area → (t : ℕ) → t < total area → tableAt G area t % pageSize G ≡ 0
+  table-aligned e t l = area-laws.table-aligned G area e t l
 
-  -- `wf`: two tables do not overlap
-  pub tables-apart : (t u : ℕ) → t ≢ u → Overlap (tableAt G area t) (pageSize G) (tableAt G area u) (pageSize G) → ⊥
-  tables-apart t u d (a, b) = go (decLt t u)
-    where
-      go : Dec (t < u) → ⊥
-      go (yes l) = omega (arith, table-ends (pageSize G) l)
-      go (no l) = let k : u < t = omega arith in omega (arith, table-ends (pageSize G) k)
+  -- `wf`: two tables do not overlap, in one region or in two
+  pub tables-apart : GoodArea G area → (t u : ℕ) → t < total area → u < total area → t ≢ u
+      → Overlap (tableAt G area t) (pageSize G) (tableAt G area u) (pageSize G) → ⊥
+  tables-apart e t u l k d (a, b) = ⊎-elim (λ x. omega arith) (λ x. omega arith) (area-laws.tables-apart G area e t u l k d)
 
   -- `alloc_table_spec`: each table ends at 2^48 or below
   pub table-fits : GoodArea G area → (t : ℕ) → t < total area → tableAt G area t + pageSize G ≤ physical
-  table-fits e t k = omega (arith, table-ends (pageSize G) k, e .fits)
+  table-fits e t l = area-laws.table-fits G area e t l
 
 -- `wf`: there is a root, each table is aligned to its size and has its words, and no two overlap
 pub record MemoryWf (G : Granule) (area : Area) (ws : List ℕ) : Type 0 where
   pub root : 0 < total area
-  pub aligned : (t : ℕ) → tableAt G area t % pageSize G ≡ 0
-  pub apart : (t u : ℕ) → t ≢ u → Overlap (tableAt G area t) (pageSize G) (tableAt G area u) (pageSize G) → ⊥
+  pub aligned : (t : ℕ) → t < total area → tableAt G area t % pageSize G ≡ 0
+  pub apart : (t u : ℕ) → t < total area → u < total area → t ≢ u → Overlap (tableAt G area t) (pageSize G) (tableAt G area u) (pageSize G) → ⊥
   pub words : (t : ℕ) → t < total area → length (tableWords G ws t) ≡ entries G
 
 -- good numbers make it so
 pub memory-wf : (G : Granule) (p : Pool) → goodPool G p ≡ true → MemoryWf G (areaOf (p .numbers)) (p .words)
 memory-wf G p good = record {
-  root = N .some-table;
+  root = omega (arith, N .some-table);
   aligned = table-aligned G (areaOf (p .numbers)) (N .placed);
-  apart = tables-apart G (areaOf (p .numbers));
+  apart = tables-apart G (areaOf (p .numbers)) (N .placed);
   words = λ t l. length-part (p .words) (slot G t 0) (entries G) (omega (arith, N .words-are, table-ends (entries G) l));
 }
   where
-    N : GoodNumbers G (p .numbers .levels) (areaOf (p .numbers)) (length (p .words)) (length (p .list))
+    N : GoodNumbers G (p .numbers .levels) (areaOf (p .numbers)) (p .cut) (length (p .words)) (length (p .list))
     N = good-setup good .numbers
 
 -- a table has as many words in memory of the same length
@@ -235,7 +232,7 @@ module _ (G : Granule) (Z : Sane G) where
 
   -- of two pools of the same tables, whose free lists agree as far as the shorter counts, the one with fewer free tables reaches those that the other
   -- reaches and those that only the other has free
-  reached-more : {p q : Pool} {A B : Ledger} → Holds G p A → Holds G q B → p .numbers .tables ≡ q .numbers .tables → q .numbers .free ≤ p .numbers .free
+  reached-more : {p q : Pool} {A B : Ledger} → Holds G p A → Holds G q B → total (areaOf (p .numbers)) ≡ total (areaOf (q .numbers)) → q .numbers .free ≤ p .numbers .free
       → ((i : ℕ) → i < q .numbers .free → placeAt (q .list) i ≡ placeAt (p .list) i)
       → (c : ℕ) → List·Memᴰ c (reachedOf G q) ↔ (List·Memᴰ c (reachedOf G p) ⊎ ((i : ℕ) × (q .numbers .free ≤ i) × (i < p .numbers .free) × (getD (p .list) i 0 ≡ c)))
   reached-more {p} {q} H K n l same c = (from, to)
@@ -250,7 +247,7 @@ module _ (G : Granule) (Z : Sane G) where
       to : List·Memᴰ c (reachedOf G p) ⊎ ((i : ℕ) × (q .numbers .free ≤ i) × (i < p .numbers .free) × (placeAt (p .list) i ≡ c)) → List·Memᴰ c (reachedOf G q)
       to (inl m) = ⊎-elim (λ r. r) (λ (i, k, e). absurd (both H c i m (omega arith) (sym (same i k) ∙ e))) (either K c (omega (arith, reached-low H c m)))
       to (inr (i, a, b, e)) = ⊎-elim (λ r. r) (λ (j, k, f). absurd (omega (arith, holds-sim G Z H .inv .spare tt .free .once i j b (omega arith) (e ∙ sym f ∙ same j k))))
-          (either K c (subst (λ (x : ℕ). x < q .numbers .tables) e (subst (λ (x : ℕ). placeAt (p .list) i < x) n (free-table H i b .1))))
+          (either K c (subst (λ (x : ℕ). x < total (areaOf (q .numbers))) e (subst (λ (x : ℕ). placeAt (p .list) i < x) n (free-table H i b .1))))
 
   module _ {p : Pool} {A : Ledger} (H : Holds G p A) where
     -- alloc_table: the tables that a map takes are the last t free ones; they are reached after it, and no other that was not before

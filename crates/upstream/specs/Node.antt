@@ -143,7 +143,7 @@ module _ (G : Granule) (Z : Sane G) where
       mapped = mapW G p (m .at) (m .frame) (m .size) (m .attributes)
 
       module _ (t : ℕ) (e : mapped .answer ≡ took t) (new : TakesNew G p t) where
-        good : GoodSetup G (p .numbers) (length (p .words)) (length (p .list))
+        good : GoodSetup G (p .numbers) (p .cut) (length (p .words)) (length (p .list))
         good = good-setup (took-passed G p (m .at) (m .frame) (m .size) (m .attributes) t e .0)
 
         F : Fine G (p .numbers .levels) (areaOf (p .numbers)) (m .at) (m .frame) (m .size) (m .attributes)

@@ -57,7 +57,7 @@ use Rattle.upstream.specs.Node.{TreeNonempty}
 abbrev pub removed : Granule → Pool → ℕ → ℕ → Pool
 removed G p g a =
     let o = walkTo G p g a in
-    pool (p .numbers) (set (p .words) (slot G (atHeight (o .tables) (o .left)) (atHeight (pathOf G a) (o .left))) 0) (p .list)
+    pool (p .numbers) (set (p .words) (slot G (atHeight (o .tables) (o .left)) (atHeight (pathOf G a) (o .left))) 0) (p .cut) (p .list)
 
 -- it is what unmap's first write leaves
 pub removed-first : (G : Granule) (p : Pool) (a given : ℕ)
@@ -71,7 +71,7 @@ removed-first G p a given = refl
 abbrev pub prunedBy : Granule → Pool → ℕ → Entry → Pool
 prunedBy G p a Empty =
     let o = walkTo G p 0 a in
-    pool (p .numbers) (performAll G (pruneWrites G (o .tables) (pathOf G a) (o .left) (p .numbers .free) (giving G p a)) (memory (p .words) (p .list)) .words) (p .list)
+    pool (p .numbers) (performAll G (pruneWrites G (o .tables) (pathOf G a) (o .left) (p .numbers .free) (giving G p a)) (memory (p .words) (p .list)) .words) (p .cut) (p .list)
 prunedBy G p a (Table _) = p
 prunedBy G p a (Frame _ _) = p
 prunedBy G p a Damaged = p
@@ -190,6 +190,7 @@ module _ (G : Granule) (Z : Sane G) where
             not-more = J .good .numbers .not-more;
             some-table = J .good .numbers .some-table;
             few = J .good .numbers .few;
+            cut-is = J .good .numbers .cut-is;
             placed = J .good .numbers .placed;
             words-are = length-set (p .words) (slot G (atHeight (o .tables) h) (atHeight (pathOf G a) h)) 0 ∙ J .good .numbers .words-are;
             places-are = J .good .numbers .places-are;
@@ -210,7 +211,7 @@ module _ (G : Granule) (Z : Sane G) where
           after : InvIf ⊥ ⊥ (X G Z J) (readAt G (removed G p g a .words)) (placeAt (p .list)) (p .numbers .free) (upd (J .T) h r 0) (upd (J .S) h r empty) (without h r (J .L)) (suc h) (r / entries G)
           after = reword (rw (at-table, at-index) at (clear h r (b + x) (J .inv) stands))
               (rd-wr G Z (areaOf (p .numbers)) top (J .good .numbers .placed) (p .words) (atHeight (o .tables) h) (atHeight (pathOf G a) h) 0 (J .good .numbers .words-are)
-              (subst (λ (c : ℕ). c < p .numbers .tables) at-table (R G Z J .range (suc h) (r / entries G) (E .ends .parent))) (subst (λ (i : ℕ). i < entries G) at-index (mod-lt r (entries-pos G)))) (λ d. absurd d)
+              (subst (λ (c : ℕ). c < total (areaOf (p .numbers))) at-table (R G Z J .range (suc h) (r / entries G) (E .ends .parent))) (subst (λ (i : ℕ). i < entries G) at-index (mod-lt r (entries-pos G)))) (λ d. absurd d)
 
       -- lemma_remove_preserves_wf
       pub remove-preserves-wf-tree : WfTree G (removed G p g a)
@@ -302,7 +303,7 @@ module _ (G : Granule) (Z : Sane G) where
   -- ---- unmap: remove, then prune
 
   module _ {p : Pool} (w : WfTree G p) (a b s x t : ℕ) (e : unmapW G p a .answer ≡ gave b s x t) where
-    good₁ : GoodSetup G (p .numbers) (length (p .words)) (length (p .list))
+    good₁ : GoodSetup G (p .numbers) (p .cut) (length (p .words)) (length (p .list))
     good₁ = good-setup (gave-passed G p a b s x t e .0)
 
     pre : UnmapPre G (ledgerOf G p) a
@@ -372,6 +373,7 @@ module _ (G : Granule) (Z : Sane G) where
             not-more = K .good .numbers .not-more;
             some-table = K .good .numbers .some-table;
             few = K .good .numbers .few;
+            cut-is = K .good .numbers .cut-is;
             placed = K .good .numbers .placed;
             words-are = subst (λ (q : prunes.Pool Tables). length (q .m) ≡ entries G * total (areaOf (p .numbers))) (sym carried) (cut .ok);
             places-are = K .good .numbers .places-are;

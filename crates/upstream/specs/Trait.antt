@@ -437,6 +437,6 @@ module _ (G : Granule) (Z : Sane G) where
     query-refuses a l = rw (setup-good (H .good), H .levels-are, le-leb (spaceOf G (A .levels)) a l)
 
   -- the trait's new: a pool that format accepts holds the ledger with no mapping, and its numbers are the ones given
-  pub new-init : (levels : ℕ) (area : Area) (ws list : List ℕ) → formatW G levels area ws list .answer ≡ formatted
-      → Holds G (formatW G levels area ws list .after) (ledger levels area [])
-  new-init levels area ws list e = from-format G Z levels area ws list e [] .after 0 .holds
+  pub new-init : (levels : ℕ) (area : Area) (ws : List ℕ) (cut : ℕ) (list : List ℕ) → formatW G levels area ws cut list .answer ≡ formatted
+      → Holds G (formatW G levels area ws cut list .after) (ledger levels area [])
+  new-init levels area ws cut list e = from-format G Z levels area ws cut list e [] .after 0 .holds

@@ -281,6 +281,6 @@ module _ (G : Granule) (Z : Sane G) {p : Pool} (w : WfTree G p) (good : goodPool
       r = anc (entries G) h (pg G Z a)
 
   -- lemma_visited_entries_satisfy_wf: the entry where a walk ended may stand there; those above it are ends of walks to their own heights
-  pub visited-entries-satisfy-wf : EntryValid G (p .numbers .tables) (walkTo G p g a .left) (walkTo G p g a .entry)
+  pub visited-entries-satisfy-wf : EntryValid G (total (areaOf (p .numbers))) (walkTo G p g a .left) (walkTo G p g a .entry)
   visited-entries-satisfy-wf = ⊎-elim (λ d. absurd (never-damaged d)) (λ (w, q). read-valid Z (areaOf (p .numbers)) _ w _ q never-damaged)
       (was-read G (p .words) (areaOf (p .numbers)) (pathOf G a) g (p .numbers .levels - 1) noWay 0)

@@ -1,6 +1,7 @@
 // The hardware's walk, run: pools are made by the page table's calls, and a line for each address says what the walk translates it to.
 mod show;
 
+use armwalk::Seen;
 use path::Setup;
 
 const BASE: u64 = 0x4000_0000;
@@ -14,6 +15,9 @@ const GIB: u64 = 0x4000_0000;
 type Words = [u64; 2048];
 
 type List = [u32; 4];
+
+// There is no second region.
+const NO_WORDS: [u64; 0] = [0; 0];
 
 // The word of the block of 1 GiB below, and the access flag in it.
 const BLOCK: u64 = 0x8000_07FD;
@@ -44,13 +48,18 @@ const FOUR: [u64; 6] = [
     0x1_0000_0000_0000,
 ];
 
+// What an address is translated to.
+fn walk(words: &[u64], levels: u64, address: u64) -> Seen {
+    armwalk::stage2(words, &NO_WORDS, BASE, 0, levels, address)
+}
+
 // What each address of a list is translated to.
 fn lines(title: &[u8], addresses: &[u64], words: &[u64], levels: u64) {
     show::title(title);
     let mut i = 0;
     while i < addresses.len() {
         let a = addresses[i];
-        show::line(a, armwalk::stage2(words, BASE, levels, a));
+        show::line(a, walk(words, levels, a));
         i += 1;
     }
 }
@@ -65,18 +74,30 @@ fn map(
     size: u64,
     attributes: u64,
 ) -> Setup {
-    let d = pagetable::map(s, words, list, address, frame, size, attributes);
+    let mut second = NO_WORDS;
+    let d = pagetable::map(
+        s,
+        words,
+        &mut second,
+        list,
+        address,
+        frame,
+        size,
+        attributes,
+    );
     d.setup
 }
 
 // An unmap, of which the setup goes on.
 fn unmap(s: Setup, words: &mut Words, list: &mut List, address: u64) -> Setup {
-    let d = pagetable::unmap(s, words, list, address);
+    let mut second = NO_WORDS;
+    let d = pagetable::unmap(s, words, &mut second, list, address);
     d.setup
 }
 
 fn fresh(words: &mut Words, list: &mut List, levels: u64) -> Setup {
-    let d = pagetable::format(levels, BASE, 4, words, list);
+    let mut second = NO_WORDS;
+    let d = pagetable::format(levels, BASE, 4, 0, 0, words, &mut second, list);
     d.setup
 }
 
@@ -133,7 +154,8 @@ fn four_levels(words: &mut Words, list: &mut List) {
 
 // With one word that the page table never writes.
 fn strange(title: &[u8], words: &mut Words, i: usize, w: u64) {
-    pool::put(words, i, w);
+    let mut second = NO_WORDS;
+    pool::put(words, &mut second, i, w);
     lines(title, &FOUR, words, 4);
 }
 

@@ -14,6 +14,7 @@ pub struct Case {
     pub name: String,
     levels: u64,
     tables: u64,
+    second_tables: u64,
     /// The address and the size of each mapping of the pool.
     mappings: Vec<(u64, u64)>,
     work: Work,
@@ -32,7 +33,7 @@ enum Work {
 
 impl Case {
     pub fn pool(&self, side: Side) -> Pool {
-        let mut pool = Pool::new(side, self.levels, self.tables);
+        let mut pool = Pool::new(side, self.levels, self.tables, self.second_tables);
         for &(address, size) in &self.mappings {
             let mut answer = Kept::default();
             pool.map(address, FRAME + address, size, ATTRIBUTES, &mut answer);
@@ -63,7 +64,7 @@ impl Case {
                     }
                 }
                 Work::Audit => pool.audit(note),
-                Work::Format => pool.format(self.levels, self.tables, note),
+                Work::Format => pool.format(self.levels, self.tables, self.second_tables, note),
             }
         }
     }
@@ -82,6 +83,11 @@ pub fn all(smoke: bool) -> Vec<Case> {
         for (place, at) in places {
             cases.push(query(&format!("query, {levels} levels, {place}"), levels, at, share(200_000)));
         }
+    }
+    // the same tables, all in one region or half of them in a second: every path comes to tables of both
+    for levels in [3, 4] {
+        cases.push(query(&format!("query, {levels} levels, in the tables, one region"), levels, Where::Tables, share(200_000)));
+        cases.push(in_two_regions(query(&format!("query, {levels} levels, in the tables, two regions"), levels, Where::Tables, share(200_000))));
     }
     for levels in [3, 4] {
         cases.push(map_unmap(levels, 0, share(64)));
@@ -136,7 +142,12 @@ fn query(name: &str, levels: u64, at: Where, calls: usize) -> Case {
         Where::Anywhere => random.below(PAGE << (9 * levels)),
     };
     let work = Work::Query((0..calls).map(address).collect());
-    Case { name: name.to_string(), levels, tables: 16, mappings, work, rounds: 1 }
+    Case { name: name.to_string(), levels, tables: 16, second_tables: 0, mappings, work, rounds: 1 }
+}
+
+/// The same case with three of the tables in the first region, and the others in a second.
+fn in_two_regions(case: Case) -> Case {
+    Case { tables: 3, second_tables: case.tables - 3, ..case }
 }
 
 /// Map and unmap of a page, which take so many tables and give them back.
@@ -153,13 +164,13 @@ fn map_unmap(levels: u64, taken: u64, rounds: usize) -> Case {
         1 => pages.iter().map(|page| page + 200 * BLOCK_2M).collect(),
         _ => pages,
     };
-    Case { name, levels, tables: 16, mappings, work: Work::MapUnmap(pages), rounds }
+    Case { name, levels, tables: 16, second_tables: 0, mappings, work: Work::MapUnmap(pages), rounds }
 }
 
 /// Map and unmap of one page, which has so many others in its table: of what unmap's empty test reads.
 fn beside(what: &str, others: u64, rounds: usize) -> Case {
     let mappings = (0..=others).filter(|&i| i != 5).take(others as usize).map(|i| (i * PAGE, PAGE)).collect();
-    Case { name: format!("map + unmap of a page, {what}"), levels: 3, tables: 16, mappings, work: Work::MapUnmap(vec![5 * PAGE]), rounds }
+    Case { name: format!("map + unmap of a page, {what}"), levels: 3, tables: 16, second_tables: 0, mappings, work: Work::MapUnmap(vec![5 * PAGE]), rounds }
 }
 
 /// Map and unmap of a page in each region of 2 MiB of a pool all of whose tables are in use.
@@ -167,27 +178,27 @@ fn full_pool(tables: u64, rounds: usize) -> Case {
     let regions = tables - 2;
     let mappings = (0..regions).map(|i| (i * BLOCK_2M, PAGE)).collect();
     let pages = (0..regions).map(|i| i * BLOCK_2M + (1 + i % 511) * PAGE).collect();
-    Case { name: format!("map + unmap of a page, all {tables} tables in use"), levels: 3, tables, mappings, work: Work::MapUnmap(pages), rounds }
+    Case { name: format!("map + unmap of a page, all {tables} tables in use"), levels: 3, tables, second_tables: 0, mappings, work: Work::MapUnmap(pages), rounds }
 }
 
 fn format(tables: u64, rounds: usize) -> Case {
-    Case { name: format!("format, {tables} tables"), levels: 3, tables, mappings: vec![], work: Work::Format, rounds }
+    Case { name: format!("format, {tables} tables"), levels: 3, tables, second_tables: 0, mappings: vec![], work: Work::Format, rounds }
 }
 
 /// All tables are in use: the root, one below it, and tables of pages with every second page.
 fn audit(tables: u64, rounds: usize) -> Case {
     let mappings = (0..(tables - 2) * 256).map(|i| (2 * i * PAGE, PAGE)).collect();
-    Case { name: format!("audit, {tables} tables in use"), levels: 3, tables, mappings, work: Work::Audit, rounds }
+    Case { name: format!("audit, {tables} tables in use"), levels: 3, tables, second_tables: 0, mappings, work: Work::Audit, rounds }
 }
 
 /// All tables are in use, and every page of the tables of pages is mapped: with 512 tables 261,120 of them.
 fn audit_full(tables: u64, rounds: usize) -> Case {
     let mappings = (0..(tables - 2) * 512).map(|i| (i * PAGE, PAGE)).collect();
-    Case { name: format!("audit, all pages of {tables} tables"), levels: 3, tables, mappings, work: Work::Audit, rounds }
+    Case { name: format!("audit, all pages of {tables} tables"), levels: 3, tables, second_tables: 0, mappings, work: Work::Audit, rounds }
 }
 
 /// Four of 64 tables are in use, and 60 are free.
 fn audit_free(rounds: usize) -> Case {
     let mappings = vec![(0, PAGE), (BLOCK_2M, PAGE)];
-    Case { name: "audit, 60 of 64 tables free".to_string(), levels: 3, tables: 64, mappings, work: Work::Audit, rounds }
+    Case { name: "audit, 60 of 64 tables free".to_string(), levels: 3, tables: 64, second_tables: 0, mappings, work: Work::Audit, rounds }
 }

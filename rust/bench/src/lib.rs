@@ -8,11 +8,13 @@ use oakabut::{Audit, Hole, Mapping, Setup};
 use plain::Refusal;
 
 fn to_plain(s: &Setup) -> plain::Setup {
-    plain::Setup { levels: s.levels, base: s.base, tables: s.tables, free: s.free }
+    let Setup { levels, base, tables, free, second_base, second_tables } = *s;
+    plain::Setup { levels, base, tables, free, second_base, second_tables }
 }
 
 fn from_plain(s: plain::Setup) -> Setup {
-    Setup { levels: s.levels, base: s.base, tables: s.tables, free: s.free }
+    let plain::Setup { levels, base, tables, free, second_base, second_tables } = s;
+    Setup { levels, base, tables, free, second_base, second_tables }
 }
 
 const NO_HOLE: Hole = Hole { base: 0, size: 0 };
@@ -48,10 +50,12 @@ pub extern "C" fn word_meaning(word: u64, size: u64) -> u64 {
 /// As for `oak_format`; here and below the function of the same name.
 #[inline(never)]
 pub unsafe extern "C" fn format(
-    levels: u64, base: u64, tables: u64, words: *mut u64, words_len: usize, list: *mut u32, list_len: usize, answer: *mut Setup,
+    levels: u64, base: u64, tables: u64, second_base: u64, second_tables: u64, words: *mut u64, words_len: usize, second: *mut u64,
+    second_len: usize, list: *mut u32, list_len: usize, answer: *mut Setup,
 ) -> u64 {
-    let (words, list) = (from_raw_parts_mut(words, words_len), from_raw_parts_mut(list, list_len));
-    let (setup, result) = plain::format(levels, base, tables, words, list);
+    let (words, second) = (from_raw_parts_mut(words, words_len), from_raw_parts_mut(second, second_len));
+    let list = from_raw_parts_mut(list, list_len);
+    let (setup, result) = plain::format(levels, base, tables, second_base, second_tables, words, second, list);
     *answer = from_plain(setup);
     result.map_or_else(|refusal| refusal.number(), |()| 0)
 }
@@ -60,11 +64,12 @@ pub unsafe extern "C" fn format(
 /// As for `oak_map`.
 #[inline(never)]
 pub unsafe extern "C" fn map(
-    setup: *const Setup, words: *mut u64, words_len: usize, list: *const u32, list_len: usize, address: u64, frame: u64,
-    size: u64, attributes: u64, answer: *mut Mapped,
+    setup: *const Setup, words: *mut u64, words_len: usize, second: *mut u64, second_len: usize, list: *const u32, list_len: usize,
+    address: u64, frame: u64, size: u64, attributes: u64, answer: *mut Mapped,
 ) -> u64 {
-    let (words, list) = (from_raw_parts_mut(words, words_len), from_raw_parts(list, list_len));
-    let (setup, result) = plain::map(to_plain(&*setup), words, list, address, frame, size, attributes);
+    let (words, second) = (from_raw_parts_mut(words, words_len), from_raw_parts_mut(second, second_len));
+    let list = from_raw_parts(list, list_len);
+    let (setup, result) = plain::map(to_plain(&*setup), words, second, list, address, frame, size, attributes);
     let setup = from_plain(setup);
     hand_over(result.map(|taken| Mapped { setup, taken }), |_| Mapped { setup, taken: 0 }, answer)
 }
@@ -73,10 +78,12 @@ pub unsafe extern "C" fn map(
 /// As for `oak_unmap`.
 #[inline(never)]
 pub unsafe extern "C" fn unmap(
-    setup: *const Setup, words: *mut u64, words_len: usize, list: *mut u32, list_len: usize, address: u64, answer: *mut Unmapped,
+    setup: *const Setup, words: *mut u64, words_len: usize, second: *mut u64, second_len: usize, list: *mut u32, list_len: usize,
+    address: u64, answer: *mut Unmapped,
 ) -> u64 {
-    let (words, list) = (from_raw_parts_mut(words, words_len), from_raw_parts_mut(list, list_len));
-    let (setup, result) = plain::unmap(to_plain(&*setup), words, list, address);
+    let (words, second) = (from_raw_parts_mut(words, words_len), from_raw_parts_mut(second, second_len));
+    let list = from_raw_parts_mut(list, list_len);
+    let (setup, result) = plain::unmap(to_plain(&*setup), words, second, list, address);
     let setup = from_plain(setup);
     let removed = result.map(|plain::Removed { frame, size, attributes, given }| Unmapped {
         setup,
@@ -93,10 +100,12 @@ pub unsafe extern "C" fn unmap(
 /// As for `oak_query`.
 #[inline(never)]
 pub unsafe extern "C" fn query(
-    setup: *const Setup, words: *const u64, words_len: usize, list: *const u32, list_len: usize, address: u64, answer: *mut Found,
+    setup: *const Setup, words: *const u64, words_len: usize, second: *const u64, second_len: usize, list: *const u32,
+    list_len: usize, address: u64, answer: *mut Found,
 ) -> u64 {
-    let (words, list) = (from_raw_parts(words, words_len), from_raw_parts(list, list_len));
-    let found = plain::query(to_plain(&*setup), words, list, address).map(|plain::Found { base, frame, size, attributes }| {
+    let (words, second) = (from_raw_parts(words, words_len), from_raw_parts(second, second_len));
+    let list = from_raw_parts(list, list_len);
+    let found = plain::query(to_plain(&*setup), words, second, list, address).map(|plain::Found { base, frame, size, attributes }| {
         Found { mapping: Mapping { base, frame, size, attributes }, hole: NO_HOLE }
     });
     hand_over(found, |hole| Found { mapping: Mapping { base: 0, frame: 0, size: 0, attributes: 0 }, hole }, answer)
@@ -106,10 +115,26 @@ pub unsafe extern "C" fn query(
 /// As for `oak_audit`.
 #[inline(never)]
 pub unsafe extern "C" fn audit(
-    setup: *const Setup, words: *const u64, words_len: usize, list: *const u32, list_len: usize, answer: *mut Audit,
+    setup: *const Setup, words: *const u64, words_len: usize, second: *const u64, second_len: usize, list: *const u32,
+    list_len: usize, answer: *mut Audit,
 ) -> u64 {
-    let (words, list) = (from_raw_parts(words, words_len), from_raw_parts(list, list_len));
+    let (words, second) = (from_raw_parts(words, words_len), from_raw_parts(second, second_len));
+    let list = from_raw_parts(list, list_len);
     let counts =
-        plain::audit(to_plain(&*setup), words, list).map(|plain::Counts { tables, mappings }| Audit { tables, mappings });
+        plain::audit(to_plain(&*setup), words, second, list).map(|plain::Counts { tables, mappings }| Audit { tables, mappings });
     hand_over(counts, |_| Audit { tables: 0, mappings: 0 }, answer)
+}
+
+/// # Safety
+/// As for `oak_add`.
+#[inline(never)]
+pub unsafe extern "C" fn add(
+    setup: *const Setup, words: *const u64, words_len: usize, second: *mut u64, second_len: usize, list: *mut u32, list_len: usize,
+    second_base: u64, second_tables: u64, answer: *mut Setup,
+) -> u64 {
+    let (words, second) = (from_raw_parts(words, words_len), from_raw_parts_mut(second, second_len));
+    let list = from_raw_parts_mut(list, list_len);
+    let (setup, result) = plain::add(to_plain(&*setup), words, second, list, second_base, second_tables);
+    *answer = from_plain(setup);
+    result.map_or_else(|refusal| refusal.number(), |()| 0)
 }

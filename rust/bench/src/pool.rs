@@ -7,8 +7,9 @@ use oakabut::Setup;
 
 use crate::sides::{numbers, Side, NOT_AUDITED, NOT_FOUND, NOT_MAPPED, NOT_UNMAPPED, NO_SETUP};
 
-/// The address of table 0.
+/// The address of table 0, and of the second region.
 const BASE: u64 = 0x4000_0000;
+const SECOND_BASE: u64 = 0x5000_0000;
 
 /// What is done with each answer.
 pub trait Note {
@@ -45,6 +46,7 @@ pub struct Pool {
     side: Side,
     pub setup: Setup,
     pub tables: Vec<Table>,
+    pub second: Vec<Table>,
     pub list: Vec<u32>,
 }
 
@@ -56,56 +58,63 @@ fn words(tables: &mut [Table]) -> &mut [u64] {
 }
 
 impl Pool {
-    pub fn new(side: Side, levels: u64, tables: u64) -> Pool {
-        let (words, list) = (vec![Table([0; 512]); tables as usize], vec![0; tables as usize]);
-        let mut pool = Pool { side, setup: NO_SETUP, tables: words, list };
-        pool.format(levels, tables, &mut Timed);
+    /// A pool of so many tables in the first region and in the second.
+    pub fn new(side: Side, levels: u64, tables: u64, second_tables: u64) -> Pool {
+        let room = |tables: u64| vec![Table([0; 512]); tables as usize];
+        let list = vec![0; (tables + second_tables) as usize];
+        let mut pool = Pool { side, setup: NO_SETUP, tables: room(tables), second: room(second_tables), list };
+        pool.format(levels, tables, second_tables, &mut Timed);
         pool
     }
 
     #[inline(always)]
-    pub fn format(&mut self, levels: u64, tables: u64, note: &mut impl Note) {
-        let (w, l) = (words(&mut self.tables), &mut self.list);
+    pub fn format(&mut self, levels: u64, tables: u64, second_tables: u64, note: &mut impl Note) {
+        let (w, v, l) = (words(&mut self.tables), words(&mut self.second), &mut self.list);
+        let (wp, wl, vp, vl, lp, ll) = (w.as_mut_ptr(), w.len(), v.as_mut_ptr(), v.len(), l.as_mut_ptr(), l.len());
+        let second_base = if second_tables == 0 { 0 } else { SECOND_BASE };
         // SAFETY: the slices and the answer are this pool's own, here and below.
         let refusal = unsafe {
-            (self.side.format)(levels, BASE, tables, w.as_mut_ptr(), w.len(), l.as_mut_ptr(), l.len(), &mut self.setup)
+            (self.side.format)(levels, BASE, tables, second_base, second_tables, wp, wl, vp, vl, lp, ll, &mut self.setup)
         };
         note.note(refusal, numbers(&self.setup));
     }
 
     #[inline(always)]
     pub fn map(&mut self, address: u64, frame: u64, size: u64, attributes: u64, note: &mut impl Note) {
-        let (w, l) = (words(&mut self.tables), &self.list);
-        let (wp, wl, lp, ll) = (w.as_mut_ptr(), w.len(), l.as_ptr(), l.len());
+        let (w, v, l) = (words(&mut self.tables), words(&mut self.second), &self.list);
+        let (wp, wl, vp, vl, lp, ll) = (w.as_mut_ptr(), w.len(), v.as_mut_ptr(), v.len(), l.as_ptr(), l.len());
         let mut answer = NOT_MAPPED;
-        let refusal = unsafe { (self.side.map)(&self.setup, wp, wl, lp, ll, address, frame, size, attributes, &mut answer) };
+        let refusal =
+            unsafe { (self.side.map)(&self.setup, wp, wl, vp, vl, lp, ll, address, frame, size, attributes, &mut answer) };
         self.setup = answer.setup;
         note.note(refusal, numbers(&answer));
     }
 
     #[inline(always)]
     pub fn unmap(&mut self, address: u64, note: &mut impl Note) {
-        let (w, l) = (words(&mut self.tables), &mut self.list);
+        let (w, v, l) = (words(&mut self.tables), words(&mut self.second), &mut self.list);
+        let (wp, wl, vp, vl, lp, ll) = (w.as_mut_ptr(), w.len(), v.as_mut_ptr(), v.len(), l.as_mut_ptr(), l.len());
         let mut answer = NOT_UNMAPPED;
-        let refusal =
-            unsafe { (self.side.unmap)(&self.setup, w.as_mut_ptr(), w.len(), l.as_mut_ptr(), l.len(), address, &mut answer) };
+        let refusal = unsafe { (self.side.unmap)(&self.setup, wp, wl, vp, vl, lp, ll, address, &mut answer) };
         self.setup = answer.setup;
         note.note(refusal, numbers(&answer));
     }
 
     #[inline(always)]
     pub fn query(&mut self, address: u64, note: &mut impl Note) {
-        let (w, l) = (words(&mut self.tables), &self.list);
+        let (w, v, l) = (words(&mut self.tables), words(&mut self.second), &self.list);
+        let (wp, wl, vp, vl, lp, ll) = (w.as_ptr(), w.len(), v.as_ptr(), v.len(), l.as_ptr(), l.len());
         let mut answer = NOT_FOUND;
-        let refusal = unsafe { (self.side.query)(&self.setup, w.as_ptr(), w.len(), l.as_ptr(), l.len(), address, &mut answer) };
+        let refusal = unsafe { (self.side.query)(&self.setup, wp, wl, vp, vl, lp, ll, address, &mut answer) };
         note.note(refusal, numbers(&answer));
     }
 
     #[inline(always)]
     pub fn audit(&mut self, note: &mut impl Note) {
-        let (w, l) = (words(&mut self.tables), &self.list);
+        let (w, v, l) = (words(&mut self.tables), words(&mut self.second), &self.list);
+        let (wp, wl, vp, vl, lp, ll) = (w.as_ptr(), w.len(), v.as_ptr(), v.len(), l.as_ptr(), l.len());
         let mut answer = NOT_AUDITED;
-        let refusal = unsafe { (self.side.audit)(&self.setup, w.as_ptr(), w.len(), l.as_ptr(), l.len(), &mut answer) };
+        let refusal = unsafe { (self.side.audit)(&self.setup, wp, wl, vp, vl, lp, ll, &mut answer) };
         note.note(refusal, numbers(&answer));
     }
 }

@@ -3,17 +3,21 @@
 use std::mem::size_of;
 use std::slice::from_raw_parts;
 
-use judge::{Answer, Call, Engine};
+use judge::{numbers as of_setup, Answer, Call, Engine};
 use oakabut::raw::{self, Found, Mapped, Unmapped};
 use oakabut::{Audit, Hole, Mapping, Setup};
 
 type FrameWord = unsafe extern "C" fn(u64, u64, u64) -> u64;
 type WordMeaning = unsafe extern "C" fn(u64, u64) -> u64;
-type Format = unsafe extern "C" fn(u64, u64, u64, *mut u64, usize, *mut u32, usize, *mut Setup) -> u64;
-type Map = unsafe extern "C" fn(*const Setup, *mut u64, usize, *const u32, usize, u64, u64, u64, u64, *mut Mapped) -> u64;
-type Unmap = unsafe extern "C" fn(*const Setup, *mut u64, usize, *mut u32, usize, u64, *mut Unmapped) -> u64;
-type Query = unsafe extern "C" fn(*const Setup, *const u64, usize, *const u32, usize, u64, *mut Found) -> u64;
-type AuditCall = unsafe extern "C" fn(*const Setup, *const u64, usize, *const u32, usize, *mut Audit) -> u64;
+type Format =
+    unsafe extern "C" fn(u64, u64, u64, u64, u64, *mut u64, usize, *mut u64, usize, *mut u32, usize, *mut Setup) -> u64;
+type Map = unsafe extern "C" fn(
+    *const Setup, *mut u64, usize, *mut u64, usize, *const u32, usize, u64, u64, u64, u64, *mut Mapped,
+) -> u64;
+type Unmap = unsafe extern "C" fn(*const Setup, *mut u64, usize, *mut u64, usize, *mut u32, usize, u64, *mut Unmapped) -> u64;
+type Query = unsafe extern "C" fn(*const Setup, *const u64, usize, *const u64, usize, *const u32, usize, u64, *mut Found) -> u64;
+type AuditCall = unsafe extern "C" fn(*const Setup, *const u64, usize, *const u64, usize, *const u32, usize, *mut Audit) -> u64;
+type Add = unsafe extern "C" fn(*const Setup, *const u64, usize, *mut u64, usize, *mut u32, usize, u64, u64, *mut Setup) -> u64;
 
 /// The functions of one side. They are called through these pointers, so that no side is inlined into the measuring.
 #[derive(Clone, Copy)]
@@ -26,6 +30,7 @@ pub struct Side {
     pub unmap: Unmap,
     pub query: Query,
     pub audit: AuditCall,
+    pub add: Add,
 }
 
 /// bench/plain.h
@@ -36,23 +41,28 @@ mod c {
         pub fn plain_frame_word(base: u64, size: u64, attributes: u64) -> u64;
         pub fn plain_word_meaning(word: u64, size: u64) -> u64;
         pub fn plain_format(
-            levels: u64, base: u64, tables: u64, words: *mut u64, words_len: usize, list: *mut u32, list_len: usize,
-            answer: *mut Setup,
+            levels: u64, base: u64, tables: u64, second_base: u64, second_tables: u64, words: *mut u64, words_len: usize,
+            second: *mut u64, second_len: usize, list: *mut u32, list_len: usize, answer: *mut Setup,
         ) -> u64;
         pub fn plain_map(
-            s: *const Setup, words: *mut u64, words_len: usize, list: *const u32, list_len: usize, address: u64, frame: u64,
-            size: u64, attributes: u64, answer: *mut Mapped,
+            s: *const Setup, words: *mut u64, words_len: usize, second: *mut u64, second_len: usize, list: *const u32,
+            list_len: usize, address: u64, frame: u64, size: u64, attributes: u64, answer: *mut Mapped,
         ) -> u64;
         pub fn plain_unmap(
-            s: *const Setup, words: *mut u64, words_len: usize, list: *mut u32, list_len: usize, address: u64,
-            answer: *mut Unmapped,
+            s: *const Setup, words: *mut u64, words_len: usize, second: *mut u64, second_len: usize, list: *mut u32,
+            list_len: usize, address: u64, answer: *mut Unmapped,
         ) -> u64;
         pub fn plain_query(
-            s: *const Setup, words: *const u64, words_len: usize, list: *const u32, list_len: usize, address: u64,
-            answer: *mut Found,
+            s: *const Setup, words: *const u64, words_len: usize, second: *const u64, second_len: usize, list: *const u32,
+            list_len: usize, address: u64, answer: *mut Found,
         ) -> u64;
         pub fn plain_audit(
-            s: *const Setup, words: *const u64, words_len: usize, list: *const u32, list_len: usize, answer: *mut Audit,
+            s: *const Setup, words: *const u64, words_len: usize, second: *const u64, second_len: usize, list: *const u32,
+            list_len: usize, answer: *mut Audit,
+        ) -> u64;
+        pub fn plain_add(
+            s: *const Setup, words: *const u64, words_len: usize, second: *mut u64, second_len: usize, list: *mut u32,
+            list_len: usize, second_base: u64, second_tables: u64, answer: *mut Setup,
         ) -> u64;
     }
 }
@@ -68,6 +78,7 @@ pub const SIDES: [Side; 3] = [
         unmap: raw::oak_unmap,
         query: raw::oak_query,
         audit: raw::oak_audit,
+        add: raw::oak_add,
     },
     Side {
         name: "plain Rust",
@@ -78,6 +89,7 @@ pub const SIDES: [Side; 3] = [
         unmap: bench::unmap,
         query: bench::query,
         audit: bench::audit,
+        add: bench::add,
     },
     Side {
         name: "plain C",
@@ -88,10 +100,11 @@ pub const SIDES: [Side; 3] = [
         unmap: c::plain_unmap,
         query: c::plain_query,
         audit: c::plain_audit,
+        add: c::plain_add,
     },
 ];
 
-pub const NO_SETUP: Setup = Setup { levels: 0, base: 0, tables: 0, free: 0 };
+pub const NO_SETUP: Setup = Setup { levels: 0, base: 0, tables: 0, free: 0, second_base: 0, second_tables: 0 };
 pub const NOT_MAPPED: Mapped = Mapped { setup: NO_SETUP, taken: 0 };
 pub const NO_HOLE: Hole = Hole { base: 0, size: 0 };
 pub const NOT_UNMAPPED: Unmapped = Unmapped { setup: NO_SETUP, frame: 0, size: 0, attributes: 0, given: 0, hole: NO_HOLE };
@@ -106,38 +119,45 @@ pub fn numbers<T>(answer: &T) -> &[u64] {
 
 /// A side, as the judge calls it.
 impl Engine for Side {
-    fn call(&mut self, call: &Call, words: &mut [u64], list: &mut [u32]) -> Answer {
+    fn call(&mut self, call: &Call, words: &mut [u64], second: &mut [u64], list: &mut [u32]) -> Answer {
         let (w, wl, l, ll) = (words.as_mut_ptr(), words.len(), list.as_mut_ptr(), list.len());
-        let s = call.setup().unwrap_or_default();
-        let s = Setup { levels: s.levels, base: s.base, tables: s.tables, free: s.free };
+        let (v, vl) = (second.as_mut_ptr(), second.len());
+        let [levels, base, tables, free, second_base, second_tables] = of_setup(call.setup().unwrap_or_default());
+        let s = Setup { levels, base, tables, free, second_base, second_tables };
         // the room of each answer has something in it that must go
-        let junk = Setup { levels: 1, base: 2, tables: 3, free: 4 };
-        // SAFETY: the pointers and lengths are those of the two slices, which nothing else uses.
+        let junk = Setup { levels: 1, base: 2, tables: 3, free: 4, second_base: 5, second_tables: 6 };
+        // SAFETY: the pointers and lengths are those of the three slices, which nothing else uses.
         unsafe {
             match *call {
                 Call::FrameWord { base, size, attributes } => Answer::of_host((self.frame_word)(base, size, attributes)),
                 Call::WordMeaning { word, size } => Answer::of_host((self.word_meaning)(word, size)),
-                Call::Format { levels, base, tables } => {
+                Call::Format { levels, base, tables, second_base, second_tables } => {
                     let mut a = junk;
-                    Answer::new((self.format)(levels, base, tables, w, wl, l, ll, &mut a), numbers(&a))
+                    let refusal = (self.format)(levels, base, tables, second_base, second_tables, w, wl, v, vl, l, ll, &mut a);
+                    Answer::new(refusal, numbers(&a))
                 }
                 Call::Map { address, frame, size, attributes, .. } => {
-                    let mut a = Mapped { setup: junk, taken: 5 };
-                    Answer::new((self.map)(&s, w, wl, l, ll, address, frame, size, attributes, &mut a), numbers(&a))
+                    let mut a = Mapped { setup: junk, taken: 7 };
+                    let refusal = (self.map)(&s, w, wl, v, vl, l, ll, address, frame, size, attributes, &mut a);
+                    Answer::new(refusal, numbers(&a))
                 }
                 Call::Unmap { address, .. } => {
-                    let hole = Hole { base: 9, size: 10 };
-                    let mut a = Unmapped { setup: junk, frame: 5, size: 6, attributes: 7, given: 8, hole };
-                    Answer::new((self.unmap)(&s, w, wl, l, ll, address, &mut a), numbers(&a))
+                    let hole = Hole { base: 11, size: 12 };
+                    let mut a = Unmapped { setup: junk, frame: 7, size: 8, attributes: 9, given: 10, hole };
+                    Answer::new((self.unmap)(&s, w, wl, v, vl, l, ll, address, &mut a), numbers(&a))
                 }
                 Call::Query { address, .. } => {
                     let mapping = Mapping { base: 1, frame: 2, size: 3, attributes: 4 };
                     let mut a = Found { mapping, hole: Hole { base: 5, size: 6 } };
-                    Answer::new((self.query)(&s, w, wl, l, ll, address, &mut a), numbers(&a))
+                    Answer::new((self.query)(&s, w, wl, v, vl, l, ll, address, &mut a), numbers(&a))
                 }
                 Call::Audit { .. } => {
                     let mut a = Audit { tables: 1, mappings: 2 };
-                    Answer::new((self.audit)(&s, w, wl, l, ll, &mut a), numbers(&a))
+                    Answer::new((self.audit)(&s, w, wl, v, vl, l, ll, &mut a), numbers(&a))
+                }
+                Call::Add { base, tables, .. } => {
+                    let mut a = junk;
+                    Answer::new((self.add)(&s, w, wl, v, vl, l, ll, base, tables, &mut a), numbers(&a))
                 }
             }
         }

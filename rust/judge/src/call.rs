@@ -7,15 +7,17 @@ use plain::{Refusal, Setup};
 pub enum Call {
     FrameWord { base: u64, size: u64, attributes: u64 },
     WordMeaning { word: u64, size: u64 },
-    Format { levels: u64, base: u64, tables: u64 },
+    Format { levels: u64, base: u64, tables: u64, second_base: u64, second_tables: u64 },
     Map { setup: Setup, address: u64, frame: u64, size: u64, attributes: u64 },
     Unmap { setup: Setup, address: u64 },
     Query { setup: Setup, address: u64 },
     Audit { setup: Setup },
+    /// The second region, of so many tables from a base on.
+    Add { setup: Setup, base: u64, tables: u64 },
 }
 
 impl Call {
-    pub const NAMES: [&'static str; 7] = ["frame_word", "word_meaning", "format", "map", "unmap", "query", "audit"];
+    pub const NAMES: [&'static str; 8] = ["frame_word", "word_meaning", "format", "map", "unmap", "query", "audit", "add"];
 
     /// The place of the call among the names.
     pub fn kind(&self) -> usize {
@@ -27,15 +29,18 @@ impl Call {
             Call::Unmap { .. } => 4,
             Call::Query { .. } => 5,
             Call::Audit { .. } => 6,
+            Call::Add { .. } => 7,
         }
     }
 
     /// The setup that goes in; format and the host's calls have none.
     pub fn setup(&self) -> Option<Setup> {
         match *self {
-            Call::Map { setup, .. } | Call::Unmap { setup, .. } | Call::Query { setup, .. } | Call::Audit { setup } => {
-                Some(setup)
-            }
+            Call::Map { setup, .. }
+            | Call::Unmap { setup, .. }
+            | Call::Query { setup, .. }
+            | Call::Audit { setup }
+            | Call::Add { setup, .. } => Some(setup),
             _ => None,
         }
     }
@@ -43,34 +48,44 @@ impl Call {
     /// The same call with another setup, where it has one.
     pub fn with_setup(mut self, other: Setup) -> Call {
         match &mut self {
-            Call::Map { setup, .. } | Call::Unmap { setup, .. } | Call::Query { setup, .. } | Call::Audit { setup } => {
-                *setup = other
-            }
+            Call::Map { setup, .. }
+            | Call::Unmap { setup, .. }
+            | Call::Query { setup, .. }
+            | Call::Audit { setup }
+            | Call::Add { setup, .. } => *setup = other,
             Call::Format { .. } | Call::FrameWord { .. } | Call::WordMeaning { .. } => {}
         }
         self
     }
 
-    /// How many numbers it answers beside the refusal.
-    pub fn width(&self) -> usize {
-        [1, 1, 4, 5, 10, 6, 2][self.kind()]
+    /// Whether it changes a pool and hands its setup back.
+    pub fn hands_back(&self) -> bool {
+        matches!(self, Call::Format { .. } | Call::Map { .. } | Call::Unmap { .. } | Call::Add { .. })
     }
 }
 
 /// An answer: the number of the refusal or 0, and the answer's numbers in the order of the C header, the rest zero.
 ///
-/// They are, for the host's calls, the number answered; for format the setup; for map the setup and the tables taken; for unmap
+/// They are, for the host's calls, the number answered; for format and add the setup; for map the setup and the tables taken; for unmap
 /// the setup, frame, size, attributes and tables given back, then base and size of the hole; for query base, frame, size and
 /// attributes, then base and size of the hole; for audit the tables and the mappings.
 #[derive(Clone, Copy, Debug, PartialEq, Eq)]
 pub struct Answer {
     pub refusal: u64,
-    pub numbers: [u64; 10],
+    pub numbers: [u64; 12],
+}
+
+/// How many numbers a setup has. Those of an answer that go with a setup follow them.
+pub const SETUP: usize = 6;
+
+/// The numbers of a setup, in the order of the C header.
+pub fn numbers(setup: Setup) -> [u64; SETUP] {
+    [setup.levels, setup.base, setup.tables, setup.free, setup.second_base, setup.second_tables]
 }
 
 impl Answer {
     pub fn new(refusal: u64, numbers: &[u64]) -> Answer {
-        let mut answer = Answer { refusal, numbers: [0; 10] };
+        let mut answer = Answer { refusal, numbers: [0; 12] };
         answer.numbers[..numbers.len()].copy_from_slice(numbers);
         answer
     }
@@ -82,10 +97,7 @@ impl Answer {
 
     /// What goes with the call beside the setup, in four numbers: the values, or with 9 the hole and two zeros.
     pub fn rest(&self, call: &Call) -> [u64; 4] {
-        let from = match call {
-            Call::Format { .. } | Call::Map { .. } | Call::Unmap { .. } => 4,
-            _ => 0,
-        };
+        let from = if call.hands_back() { SETUP } else { 0 };
         let [a, b, c, d, base, size] = std::array::from_fn(|i| self.numbers[from + i]);
         if self.refusal == 9 {
             [base, size, 0, 0]
@@ -94,42 +106,47 @@ impl Answer {
         }
     }
 
-    /// The setup in the answer of format, map and unmap.
+    /// The setup in the answer of a call that hands one back.
     pub fn setup(&self) -> Setup {
-        let [levels, base, tables, free, ..] = self.numbers;
-        Setup { levels, base, tables, free }
+        let [levels, base, tables, free, second_base, second_tables, ..] = self.numbers;
+        Setup { levels, base, tables, free, second_base, second_tables }
     }
 }
 
 /// Something that carries out calls on lent memory.
 pub trait Engine {
-    fn call(&mut self, call: &Call, words: &mut [u64], list: &mut [u32]) -> Answer;
+    fn call(&mut self, call: &Call, words: &mut [u64], second: &mut [u64], list: &mut [u32]) -> Answer;
 }
 
 /// The plain program.
 pub struct Plain;
 
 impl Engine for Plain {
-    fn call(&mut self, call: &Call, words: &mut [u64], list: &mut [u32]) -> Answer {
+    fn call(&mut self, call: &Call, words: &mut [u64], second: &mut [u64], list: &mut [u32]) -> Answer {
         match *call {
             Call::FrameWord { base, size, attributes } => Answer::of_host(plain::frame_word(base, size, attributes)),
             Call::WordMeaning { word, size } => Answer::of_host(plain::word_meaning(word, size)),
-            Call::Format { levels, base, tables } => {
-                let (setup, result) = plain::format(levels, base, tables, words, list);
+            Call::Format { levels, base, tables, second_base, second_tables } => {
+                let (setup, result) = plain::format(levels, base, tables, second_base, second_tables, words, second, list);
                 with_setup(setup, result.map(|()| []))
             }
             Call::Map { setup, address, frame, size, attributes } => {
-                let (setup, result) = plain::map(setup, words, list, address, frame, size, attributes);
+                let (setup, result) = plain::map(setup, words, second, list, address, frame, size, attributes);
                 with_setup(setup, result.map(|taken| [taken]))
             }
             Call::Unmap { setup, address } => {
-                let (setup, result) = plain::unmap(setup, words, list, address);
+                let (setup, result) = plain::unmap(setup, words, second, list, address);
                 with_setup(setup, result.map(|r| [r.frame, r.size, r.attributes, r.given]))
             }
             Call::Query { setup, address } => {
-                without_setup(plain::query(setup, words, list, address).map(|f| [f.base, f.frame, f.size, f.attributes]))
+                let result = plain::query(setup, words, second, list, address);
+                without_setup(result.map(|f| [f.base, f.frame, f.size, f.attributes]))
             }
-            Call::Audit { setup } => without_setup(plain::audit(setup, words, list).map(|c| [c.tables, c.mappings])),
+            Call::Audit { setup } => without_setup(plain::audit(setup, words, second, list).map(|c| [c.tables, c.mappings])),
+            Call::Add { setup, base, tables } => {
+                let (setup, result) = plain::add(setup, words, second, list, base, tables);
+                with_setup(setup, result.map(|()| []))
+            }
         }
     }
 }
@@ -151,7 +168,7 @@ pub(crate) fn without_setup<const N: usize>(result: Result<[u64; N], Refusal>) -
 /// The setup is handed back in any case.
 pub(crate) fn with_setup<const N: usize>(setup: Setup, result: Result<[u64; N], Refusal>) -> Answer {
     let mut answer = without_setup(result);
-    answer.numbers.copy_within(0..6, 4);
-    answer.numbers[..4].copy_from_slice(&[setup.levels, setup.base, setup.tables, setup.free]);
+    answer.numbers.copy_within(0..6, SETUP);
+    answer.numbers[..SETUP].copy_from_slice(&numbers(setup));
     answer
 }

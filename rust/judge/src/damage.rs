@@ -71,31 +71,35 @@ impl Damage {
 
     /// A step that does this damage to a pool, on the path of an address if it is an entry's.
     pub fn step(self, random: &Random, setup: Setup, memory: &Memory, address: u64) -> Option<Step> {
-        let (tables, free) = (setup.tables as usize, setup.free as usize);
-        let pool = (&memory.words[..512 * tables], &memory.list[..tables]);
-        let walk = plain::walk(setup, pool.0, pool.1, address, 4096).ok()?;
+        let (tables, more, free) = (setup.tables as usize, setup.second_tables as usize, setup.free as usize);
+        let total = setup.total();
+        let (words, second) = (&memory.words[..512 * tables], &memory.second[..512 * more]);
+        let walk = plain::walk(setup, words, second, &memory.list[..tables + more], address, 4096).ok()?;
         // an entry of the path and the levels left there
         let depth = random.below(walk.tables().len() as u64) as usize;
         let left = setup.levels - depth as u64;
-        let entry = walk.tables()[depth] * 512 + (address >> (12 + 9 * (left - 1))) as usize % 512;
+        let entry = memory.place(setup, walk.tables()[depth], (address >> (12 + 9 * (left - 1))) as usize % 512);
         let to_word = |at: usize, word: u64| Some(Step::Word { at, word, damage: Some(self) });
         let to_place = |at: usize, number: u64| Some(Step::Place { at, number: number as u32, damage: Some(self) });
-        let table = |number: u64| setup.base.wrapping_add(number.wrapping_mul(4096)).wrapping_add(3);
+        let table = |number: u64| link(setup, number);
         // a place of the list that counts, where there is one
         let place = if free == 0 { None } else { Some(random.below(free as u64) as usize) };
         match self {
-            Damage::Flip => to_word(entry, memory.words[entry] ^ 1 << random.below(64)),
+            Damage::Flip => to_word(entry, memory.word(entry) ^ 1 << random.below(64)),
             Damage::Garbage => to_word(entry, random.number() >> random.below(64)),
             Damage::TableOutside => {
-                let number = random.pick(&[0, setup.tables, setup.tables + 1, u64::MAX, 1 << 36, 1 << 51]);
-                to_word(entry, table(number))
+                // the root, past either region and before it, and far away
+                let past = |number: u64| setup.base.wrapping_add(number.wrapping_mul(4096)).wrapping_add(3);
+                let before = setup.second_base.wrapping_sub(4093);
+                let near = [table(0), table(total), table(total + 1), past(setup.tables), past(setup.tables + 1), past(u64::MAX), before];
+                to_word(entry, random.pick(&[random.pick(&near), random.pick(&near), past(1 << 36), past(1 << 51)]))
             }
             Damage::TableOff => {
                 let off = random.pick(&[1, 2, 4, 8, 1 << 10, 1 << 11, 1 << 48, 1 << 54, 1 << 59, 1 << 63]);
-                to_word(entry, table(random.below(setup.tables)) ^ off)
+                to_word(entry, table(random.below(total)) ^ off)
             }
             Damage::Cycle => to_word(entry, table(random.pick(walk.tables().get(1..=depth).filter(|t| !t.is_empty())?) as u64)),
-            Damage::Alias => to_word(entry, table(1 + random.below(setup.tables))),
+            Damage::Alias => to_word(entry, table(1 + random.below(total))),
             Damage::LinkFree => to_word(entry, table(u64::from(memory.list[free.checked_sub(1)?]))),
             Damage::FrameLevel => to_word(entry, frame(random, random_size(random))),
             Damage::FrameOff => {
@@ -106,28 +110,31 @@ impl Damage {
             }
             Damage::FrameInPool => {
                 let size = SIZES[left.min(3) as usize - 1];
-                let byte = setup.base + 4096 * random.below(setup.tables);
+                let byte = link(setup, random.below(total)) - 3;
                 to_word(entry, plain::frame_word(byte & !(size - 1), size, random.below(16)))
             }
             Damage::Clear => to_word(entry, 0),
             Damage::FreeOutside => {
-                let number = random.pick(&[0, setup.tables, setup.tables + 1, 1 << 31, u64::from(u32::MAX)]);
+                let number = random.pick(&[0, total, total + 1, 1 << 31, u64::from(u32::MAX)]);
                 to_place(place?, number)
             }
             Damage::FreeTwice => to_place(place?, u64::from(memory.list[random.below(free as u64) as usize])),
             Damage::FreeReached => to_place(place?, random.pick(walk.tables()) as u64),
             Damage::FreeDirty => {
                 let number = memory.list[place?] as usize;
-                let at = number.min(tables - 1) * 512 + random.pick(&[0, 1, 255, 511]);
+                let at = memory.place(setup, number.min(total as usize - 1), random.pick(&[0, 1, 255, 511]));
                 to_word(at, random.number() >> random.below(64))
             }
             Damage::PastTheFree => to_place(free + random.below((memory.list.len() - free) as u64) as usize, random.number()),
             Damage::PastThePool => {
-                let spare = memory.words.len() - 512 * tables;
-                if spare == 0 {
+                let (from, to) = random.pick(&[
+                    (512 * tables, memory.words.len()),
+                    (memory.words.len() + 512 * more, memory.words.len() + memory.second.len()),
+                ]);
+                if from == to {
                     return None;
                 }
-                to_word(512 * tables + random.below(spare as u64) as usize, random.number())
+                to_word(from + random.below((to - from) as u64) as usize, random.number())
             }
         }
     }
@@ -138,13 +145,24 @@ pub fn random_size(random: &Random) -> u64 {
     random.pick(&[SIZES[0], SIZES[0], SIZES[0], SIZES[1], SIZES[1], SIZES[2]])
 }
 
-/// A base of a frame at the borders of a pool, in it, or just beside it.
+/// The word that names a table, of either region.
+pub fn link(setup: Setup, number: u64) -> u64 {
+    let (base, number) = match number.checked_sub(setup.tables) {
+        Some(number) if setup.second_tables > 0 => (setup.second_base, number),
+        _ => (setup.base, number),
+    };
+    base.wrapping_add(number.wrapping_mul(4096)).wrapping_add(3)
+}
+
+/// A base of a frame at the borders of a region of a pool, in it, or just beside it.
 pub fn base_near(random: &Random, setup: Setup, size: u64) -> u64 {
-    let end = setup.base.wrapping_add(setup.tables.wrapping_mul(4096));
+    let regions = [(setup.base, setup.tables), (setup.second_base, setup.second_tables)];
+    let (base, tables) = if setup.second_tables > 0 { random.pick(&regions) } else { regions[0] };
+    let end = base.wrapping_add(tables.wrapping_mul(4096));
     let near = [
-        setup.base,
-        setup.base.wrapping_sub(size),
-        setup.base.wrapping_sub(4096),
+        base,
+        base.wrapping_sub(size),
+        base.wrapping_sub(4096),
         end.wrapping_sub(4096),
         end,
         end.wrapping_add(4096),

@@ -68,7 +68,7 @@ impl<E: Engine> Judge<E> {
 
 /// Whether a call with this answer may change the lent memory.
 fn changes(call: &Call, answer: &Answer) -> bool {
-    answer.refusal == 0 && matches!(call, Call::Format { .. } | Call::Map { .. } | Call::Unmap { .. })
+    answer.refusal == 0 && call.hands_back()
 }
 
 /// Compares two memories; the error names the first place where they differ.
@@ -78,6 +78,9 @@ fn same(one: &Memory, other: &Memory) -> Result<(), String> {
     }
     if let Some(at) = one.words.iter().zip(&other.words).position(|(a, b)| a != b) {
         return Err(format!("word {at} is {:x} and {:x}", one.words[at], other.words[at]));
+    }
+    if let Some(at) = one.second.iter().zip(&other.second).position(|(a, b)| a != b) {
+        return Err(format!("word {at} of the second run is {:x} and {:x}", one.second[at], other.second[at]));
     }
     match one.list.iter().zip(&other.list).position(|(a, b)| a != b) {
         Some(at) => Err(format!("place {at} is {:x} and {:x}", one.list[at], other.list[at])),

@@ -14,7 +14,7 @@ mod random;
 mod source;
 mod world;
 
-pub use call::{Answer, Call, Engine, Plain};
+pub use call::{numbers, Answer, Call, Engine, Plain, SETUP};
 pub use cases::cases;
 pub use coverage::Coverage;
 pub use damage::Damage;

@@ -4,24 +4,27 @@
 //! after `0x` and else decimal:
 //!
 //! ```text
-//! Lend W words of 0, L places of 0   there is new memory, all zero
-//! Word I becomes V
+//! Lend W words of 0, L places of 0, V more words of 0   there is new memory, all zero: two runs of words, and places
+//! Word I becomes V                   word I of the first run, or where I is 33280 or more word I - 33280 of the second
 //! Place I becomes V
 //! Entry base size attributes 0       the host's call for the entry word of a frame
 //! Decode word size 0 0               the host's call for the meaning of a word
-//! Format w l levels base tables 0  0 0 0 0
-//! Map    w l levels base tables free  address frame size attributes
-//! Unmap  w l levels base tables free  address 0 0 0
-//! Query  w l levels base tables free  address 0 0 0
-//! Audit  w l levels base tables free  0 0 0 0
+//! Format w v l levels base tables second_base second_tables 0  0 0 0 0
+//! Map    w v l levels base tables free second_base second_tables  address frame size attributes
+//! Unmap  w v l levels base tables free second_base second_tables  address 0 0 0
+//! Query  w v l levels base tables free second_base second_tables  address 0 0 0
+//! Audit  w v l levels base tables free second_base second_tables  0 0 0 0
+//! Grow   w v l levels base tables free second_base second_tables  base tables 0 0
 //! total N lines                      the end: so many steps came before
 //! ```
 //!
-//! Each of the last five calls is lent the first w words and the first l places. After `=` the answer follows in the same line: the
-//! number that a call of the host's answers, or the refusal, the setup after the call, four numbers and a sum. The four are:
+//! Each of the last six calls is lent the first w words of the first run, the first v of the second and the first l places; Grow is
+//! the call that adds a region. After `=` the answer follows in the same line: the number that a call of the host's answers, or the
+//! refusal, the setup after the call, four numbers and a sum. The four are:
 //!
 //! ```text
 //! Format 0 0 0 0
+//! Grow   0 0 0 0
 //! Map    taken 0 0 0
 //! Unmap  frame size attributes given
 //! Query  base frame size attributes
@@ -29,20 +32,19 @@
 //! ```
 //!
 //! The refusal is its number or 0, and what a refusal does not answer is 0; of 9 the four numbers are base and size of the hole, and two zeros. The sum is that of all memory after the call, lent
-//! or not: the sum of (2 i + 1) * number i, modulo 2^64, where word 0 is number 0 and place 0 is number 33280, since no memory has
-//! more words.
+//! or not: the sum of (2 i + 1) * number i, modulo 2^64, where word 0 of the first run is number 0, word 0 of the second number 33280
+//! and place 0 number 41472, since no memory has more words in either run.
 
 use std::io::{self, Write};
 
-use plain::Setup;
-
-use crate::{cases, Answer, Call, Memory, Source, Step, World};
+use crate::{cases, numbers, Answer, Call, Memory, Source, Step, World, SETUP};
 
 /// The line before those of the steps.
 pub const HEADING: &str = "Calls that the second program made, with its answers.";
 
-/// The first number of a place.
-const PLACES_FROM: u64 = 33280;
+/// The first number of a word of the second run, and of a place.
+pub const SECOND_FROM: u64 = 33280;
+pub const PLACES_FROM: u64 = 41472;
 
 /// Writes the document's cases and then so many calls from a seed, with the plain program's answers.
 pub fn write(out: &mut impl Write, seed: u64, calls: u64) -> io::Result<()> {
@@ -69,29 +71,33 @@ pub fn write(out: &mut impl Write, seed: u64, calls: u64) -> io::Result<()> {
 
 /// A step, with the answer and the sum of the memory after it.
 fn text(step: &Step, answer: Option<&Answer>, memory: &Memory) -> String {
-    let (call, words, places) = match *step {
-        Step::Memory { words, places } => return format!("Lend {words} words of 0, {places} places of 0"),
-        Step::Word { at, word, .. } => return format!("Word {at} becomes {word:#x}"),
+    let (call, lent) = match *step {
+        Step::Memory { words, second, places } => {
+            return format!("Lend {words} words of 0, {places} places of 0, {second} more words of 0")
+        }
+        Step::Word { at, word, .. } => {
+            let at = at.checked_sub(memory.words.len()).map_or(at as u64, |at| SECOND_FROM + at as u64);
+            return format!("Word {at} becomes {word:#x}");
+        }
         Step::Place { at, number, .. } => return format!("Place {at} becomes {number}"),
-        Step::Call { call, words, places } => (call, words as u64, places as u64),
+        Step::Call { call, words, second, places } => (call, [words as u64, second as u64, places as u64]),
     };
     let answer = answer.expect("a call has an answer");
     let (name, setup, rest) = match call {
         Call::FrameWord { base, size, attributes } => return row("Entry", &[base, size, attributes, 0], &answer.numbers[..1]),
         Call::WordMeaning { word, size } => return row("Decode", &[word, size, 0, 0], &answer.numbers[..1]),
-        Call::Format { levels, base, tables } => ("Format", Setup { levels, base, tables, free: 0 }, [0; 4]),
-        Call::Map { setup, address, frame, size, attributes } => ("Map", setup, [address, frame, size, attributes]),
-        Call::Unmap { setup, address } => ("Unmap", setup, [address, 0, 0, 0]),
-        Call::Query { setup, address } => ("Query", setup, [address, 0, 0, 0]),
-        Call::Audit { setup } => ("Audit", setup, [0; 4]),
+        Call::Format { levels, base, tables, second_base, second_tables } => {
+            ("Format", [levels, base, tables, second_base, second_tables, 0], [0; 4])
+        }
+        Call::Map { setup, address, frame, size, attributes } => ("Map", numbers(setup), [address, frame, size, attributes]),
+        Call::Unmap { setup, address } => ("Unmap", numbers(setup), [address, 0, 0, 0]),
+        Call::Query { setup, address } => ("Query", numbers(setup), [address, 0, 0, 0]),
+        Call::Audit { setup } => ("Audit", numbers(setup), [0; 4]),
+        Call::Add { setup, base, tables } => ("Grow", numbers(setup), [base, tables, 0, 0]),
     };
-    let setup = [setup.levels, setup.base, setup.tables, setup.free];
-    let handed_back = match call {
-        Call::Query { .. } | Call::Audit { .. } => setup,
-        _ => std::array::from_fn(|i| answer.numbers[i]),
-    };
-    let told = [handed_back, answer.rest(&call)].concat();
-    row(name, &[&[words, places], &setup[..], &rest].concat(), &[&[answer.refusal], &told[..], &[sum(memory)]].concat())
+    let handed_back = if call.hands_back() { &answer.numbers[..SETUP] } else { &setup };
+    let told = [&[answer.refusal], handed_back, &answer.rest(&call), &[sum(memory)]].concat();
+    row(name, &[&lent[..], &setup, &rest].concat(), &told)
 }
 
 /// What a call takes and answers, as text.
@@ -111,7 +117,7 @@ fn number(n: u64) -> String {
 
 /// The sum of a memory.
 pub fn sum(memory: &Memory) -> u64 {
-    let words = memory.words.iter().copied().zip(0..);
+    let words = memory.words.iter().copied().zip(0..).chain(memory.second.iter().copied().zip(SECOND_FROM..));
     let places = memory.list.iter().map(|&place| u64::from(place)).zip(PLACES_FROM..);
     words.chain(places).fold(0, |sum, (number, i): (u64, u64)| sum.wrapping_add((2 * i + 1).wrapping_mul(number)))
 }

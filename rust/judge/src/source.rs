@@ -5,12 +5,14 @@
 //! - fresh ones keep the pool good, and are compared with the ledger;
 //! - damaged ones change a word or a place of a good pool between the calls;
 //! - wild ones fill the tables with entries of every kind, so that walks run into cycles and bad free lists.
+//!
+//! The tables of some pools stand in two regions from the start; the others have memory for a second one, which may be added.
 
 use std::collections::VecDeque;
 
 use plain::{Setup, LIMIT, MAX_TABLES, SIZES};
 
-use crate::damage::{base_near, frame, random_size};
+use crate::damage::{base_near, frame, link, random_size};
 use crate::{Call, Damage, Random, Step, World};
 
 #[derive(Clone, Copy, PartialEq, Eq)]
@@ -20,8 +22,10 @@ enum Kind {
     Wild,
 }
 
-/// The most tables of nearly all pools. All memory is compared after each call, which takes long for larger ones.
+/// The most tables of the first region of nearly all pools, and of the second. All memory is compared after each call, which takes
+/// long for larger ones.
 const USUAL_TABLES: u64 = 64;
+const USUAL_SECOND: u64 = 15;
 
 /// A stream of steps.
 pub struct Source {
@@ -48,7 +52,7 @@ impl Source {
         Source { large: 1, ..Source::small(seed) }
     }
 
-    /// A stream in which no pool has more than 64 tables.
+    /// A stream in which no pool has more than 64 tables in its first region, or 15 in its second.
     pub fn small(seed: u64) -> Source {
         Source {
             random: Random::new(seed),
@@ -81,12 +85,7 @@ impl Source {
             }
         }
         let call = self.call(world);
-        let mut step = lend(call, world.setup.tables);
-        if let (Call::Format { tables, .. }, Step::Call { words, places, .. }) = (call, &mut step) {
-            // format is lent what it asks for, where there is so much
-            let room = tables.min(world.memory.list.len() as u64 - 1) as usize;
-            (*words, *places) = (512 * room, room);
-        }
+        let mut step = lend_what_is_asked(call, world);
         if self.random.percent(2) {
             self.odd_lengths(&mut step, world);
         }
@@ -105,23 +104,54 @@ impl Source {
         };
         let tables = random.pick(&[1, 2, 3, 4, 5, 6, 8, 1 + random.below(12), 1 + random.below(most), most]);
         let base = random.pick(&[0, 0x4000_0000, LIMIT - 4096 * tables, random.below(LIMIT / 2) & !4095]);
+        // the second region has so many tables, or memory for so many
+        let most = if most == MAX_TABLES { MAX_TABLES - tables } else { USUAL_SECOND };
+        let more = random.pick(&[1, 1, 2, 3, 4, 1 + random.below(most.max(1)), most]).min(most);
+        let mut setup = Setup { levels, base, tables, ..Setup::default() };
+        if more > 0 && random.percent(40) {
+            (setup.second_base, setup.second_tables) = (self.second_base(setup, more), more);
+        }
         self.left = 20 + random.below(if self.kind == Kind::Fresh { 400 } else { 100 });
         self.growing = true;
         self.sweep = None;
         self.free = None;
 
-        let words = 512 * (tables as usize + 1);
-        let places = tables as usize + 1;
-        self.queue.push_back(Step::Memory { words, places });
-        // format has something to clear
-        for at in [0, 511, words - 513, words - 1] {
+        let random = &self.random;
+        let (words, second) = (512 * (tables as usize + 1), 512 * (more as usize + 1));
+        let places = (tables + more) as usize + 1;
+        self.queue.push_back(Step::Memory { words, second, places });
+        // format has something to clear, and add
+        for at in [0, 511, words - 513, words - 1, words, words + second - 513, words + second - 1] {
             self.queue.push_back(Step::Word { at, word: random.number(), damage: None });
         }
-        self.queue.push_back(lend(Call::Format { levels, base, tables }, tables));
+        let Setup { second_base, second_tables, .. } = setup;
+        self.queue.push_back(lend(Call::Format { levels, base, tables, second_base, second_tables }, setup));
         if self.kind == Kind::Wild {
-            self.make_wild(Setup { levels, base, tables, free: 0 });
+            self.make_wild(setup, words);
         } else {
             self.make_book(levels);
+        }
+    }
+
+    /// A base for a second region of so many tables, which need not be a good one: touching the first, overlapping it, at a limit or
+    /// anywhere.
+    fn any_second_base(&self, setup: Setup, tables: u64) -> u64 {
+        let (end, bytes) = (setup.base.wrapping_add(setup.tables.wrapping_mul(4096)), tables.wrapping_mul(4096));
+        let below = setup.base.wrapping_sub(bytes);
+        let anywhere = self.random.below(LIMIT / 2) & !4095;
+        let limit = LIMIT.wrapping_sub(bytes);
+        let odd = [setup.base, end.wrapping_sub(4096), below.wrapping_add(4096), limit.wrapping_add(4096), anywhere + 1, u64::MAX - 4095];
+        self.random.pick(&[end, below, 0, limit, anywhere, anywhere, anywhere, self.random.pick(&odd)])
+    }
+
+    /// A good one.
+    fn second_base(&self, setup: Setup, tables: u64) -> u64 {
+        let (bytes, end) = (4096 * tables, setup.base + 4096 * setup.tables);
+        loop {
+            let base = self.any_second_base(setup, tables);
+            if base % 4096 == 0 && base <= LIMIT - bytes && (end <= base || base + bytes <= setup.base) {
+                return base;
+            }
         }
     }
 
@@ -154,8 +184,9 @@ impl Source {
         };
     }
 
-    /// Fills the entries 0, 1 and 511 of all tables, and the free list, with what a walk can meet.
-    fn make_wild(&mut self, setup: Setup) {
+    /// Fills the entries 0, 1 and 511 of all tables, and the free list, with what a walk can meet. The memory of the first run has so
+    /// many words.
+    fn make_wild(&mut self, setup: Setup, words: usize) {
         let random = &self.random;
         const INDICES: [u64; 3] = [0, 1, 511];
         self.book = vec![0];
@@ -163,24 +194,28 @@ impl Source {
             self.book = self.book.iter().flat_map(|&a| INDICES.map(|index| a | index << (12 + 9 * level))).collect();
         }
         let emptiness = random.pick(&[4, 12]);
-        for table in 0..setup.tables {
+        for table in 0..setup.total() {
             for index in INDICES {
                 let size = random_size(random);
                 let word = match random.below(10 + emptiness) {
-                    0..=5 => setup.base + 4096 * random.below(setup.tables + 1) + 3,
+                    0..=5 => link(setup, random.below(setup.total() + 1)),
                     6..=7 => frame(random, size),
                     8 => plain::frame_word(base_near(random, setup, size), size, random.below(16)),
                     9 => frame(random, size) ^ 1 << random.below(64),
                     _ => 0,
                 };
-                self.queue.push_back(Step::Word { at: (512 * table + index) as usize, word, damage: None });
+                let at = match table.checked_sub(setup.tables) {
+                    None => (512 * table + index) as usize,
+                    Some(table) => words + (512 * table + index) as usize,
+                };
+                self.queue.push_back(Step::Word { at, word, damage: None });
             }
         }
-        for at in 0..setup.tables as usize {
-            let number = random.below(setup.tables + 1) as u32;
+        for at in 0..setup.total() as usize {
+            let number = random.below(setup.total() + 1) as u32;
             self.queue.push_back(Step::Place { at, number, damage: None });
         }
-        self.free = Some(random.pick(&[random.below(setup.tables), setup.tables - 1]));
+        self.free = Some(random.pick(&[random.below(setup.total()), setup.total() - 1]));
     }
 
     /// Some damage to the pool, and an audit after it. Most of it is mended then.
@@ -189,7 +224,7 @@ impl Source {
         let address = self.address();
         let step = self.random.pick(&Damage::ALL).step(&self.random, setup, memory, address)?;
         let mended = match step {
-            Step::Word { at, .. } => Step::Word { at, word: memory.words[at], damage: None },
+            Step::Word { at, .. } => Step::Word { at, word: memory.word(at), damage: None },
             Step::Place { at, .. } => Step::Place { at, number: memory.list[at], damage: None },
             _ => return None,
         };
@@ -197,7 +232,11 @@ impl Source {
             // nothing is wrong then but that the table is empty
             setup.free -= 1;
         }
-        self.queue.push_back(lend(Call::Audit { setup }, setup.tables));
+        self.queue.push_back(lend(Call::Audit { setup }, setup));
+        if self.random.percent(30) {
+            let call = self.add(setup, world);
+            self.queue.push_back(lend_what_is_asked(call, world));
+        }
         if self.random.percent(70) {
             self.queue.push_back(mended);
         }
@@ -248,7 +287,8 @@ impl Source {
                 };
                 Call::Query { setup, address }
             }
-            88..=90 => Call::Audit { setup },
+            88..=89 => Call::Audit { setup },
+            90 => self.add(setup, world),
             91..=94 => {
                 let size = if self.random.percent(10) { self.odd_size() } else { random_size(&self.random) };
                 let mut base = self.random.number() >> self.random.below(32);
@@ -273,17 +313,24 @@ impl Source {
     /// The setup that a call goes in with: the pool's, or one that is not right.
     fn setup(&mut self, world: &World) -> Setup {
         let mut setup = world.setup;
-        if let (Some(free), true) = (self.free, setup.free + 1 == setup.tables) {
+        if let (Some(free), true) = (self.free, setup.free + 1 == setup.total()) {
             setup.free = free;
         }
         if self.kind == Kind::Fresh && self.random.percent(99) || self.random.percent(92) {
             return setup;
         }
-        match self.random.below(4) {
+        let total = setup.total();
+        match self.random.below(6) {
             0 => setup.levels = self.random.pick(&[0, 1, 2, 5, 1 << 32 | 3, u64::MAX]),
+            4 => setup.second_base = self.any_second_base(setup, setup.second_tables),
+            5 => {
+                let second = setup.second_tables;
+                let odd = [0, 1, second + 1, second.wrapping_sub(1), MAX_TABLES, 1 << 52, u64::MAX, u64::MAX - setup.tables];
+                setup.second_tables = self.random.pick(&odd)
+            }
             1 => setup.base = self.random.pick(&[1, 4095, LIMIT, LIMIT - 4096 * setup.tables + 4096, u64::MAX, u64::MAX - 4095]),
             2 => setup.tables = self.random.pick(&[0, setup.tables + 1, setup.tables - 1, MAX_TABLES + 1, (1 << 32) + 1, 1 << 55, u64::MAX]),
-            _ => setup.free = self.random.pick(&[setup.tables, setup.tables + 1, 1 << 32, u64::MAX]),
+            _ => setup.free = self.random.pick(&[setup.tables, total, total + 1, 1 << 32, u64::MAX]),
         }
         // setups that are right for another pool
         if self.kind != Kind::Fresh && self.random.percent(60) {
@@ -291,16 +338,40 @@ impl Source {
             match self.random.below(3) {
                 0 => setup.levels = 7 - setup.levels,
                 1 => setup.base = (setup.base + 4096) % (LIMIT / 2),
-                _ => setup.free = self.random.pick(&[self.random.below(setup.tables), setup.tables - 1]),
+                _ => setup.free = self.random.pick(&[self.random.below(total), total - 1]),
             }
         }
         setup
     }
 
+    /// A second region for the pool, at some frame, at the pool, or anywhere.
+    fn add(&mut self, setup: Setup, world: &World) -> Call {
+        let room = world.memory.second.len() as u64 / 512 - 1;
+        let tables = match self.random.below(12) {
+            0 => self.random.pick(&[0, room + 1, MAX_TABLES - world.setup.tables + 1, MAX_TABLES, u64::MAX, u64::MAX - setup.tables]),
+            1 | 2 => 1 + self.random.below(room.max(1)),
+            _ => room,
+        };
+        let bytes = tables.wrapping_mul(4096);
+        let mappings = world.ledger.as_ref().map_or(&[][..], |ledger| ledger.mappings());
+        let base = match mappings {
+            [_, ..] if self.random.percent(40) => {
+                let mapping = self.random.pick(mappings);
+                let (frame, end) = (mapping.frame, mapping.frame + mapping.size);
+                let near = [frame, end.wrapping_sub(4096), frame.wrapping_sub(bytes).wrapping_add(4096), end, frame.wrapping_sub(bytes)];
+                self.random.pick(&near)
+            }
+            _ => self.any_second_base(setup, tables),
+        };
+        // the free count is tested against the old limit
+        let free = if self.random.percent(5) { setup.tables + self.random.below(4) } else { setup.free };
+        Call::Add { setup: Setup { free, ..setup }, base, tables }
+    }
+
     /// A format in the middle of a history, mostly one that is refused.
     fn format(&mut self, world: &World) -> Call {
-        let Setup { mut levels, mut base, mut tables, .. } = world.setup;
-        match self.random.below(5) {
+        let Setup { mut levels, mut base, mut tables, mut second_base, mut second_tables, .. } = world.setup;
+        match self.random.below(7) {
             0 => levels = self.random.pick(&[0, 2, 3, 4, 5, u64::MAX]),
             1 => {
                 base =
@@ -308,9 +379,18 @@ impl Source {
             }
             2 => tables = self.random.pick(&[0, 1, tables - 1, tables + 1, 65, MAX_TABLES, MAX_TABLES + 1, (1 << 32) + 1, 1 << 52, u64::MAX]),
             3 => {}
-            _ => (levels, base, tables) = (self.random.number(), self.random.number(), self.random.number()),
+            4 => {
+                let most = world.memory.second.len() as u64 / 512 - 1;
+                second_tables = self.random.pick(&[0, 1, most, most, MAX_TABLES - tables, MAX_TABLES - tables + 1, 1 << 52, u64::MAX]);
+                second_base = self.any_second_base(world.setup, second_tables);
+            }
+            5 => (second_base, second_tables) = self.random.pick(&[(0, 0), (0, second_tables), (second_base, 0), (4096, 0)]),
+            _ => {
+                (levels, base, tables) = (self.random.number(), self.random.number(), self.random.number());
+                (second_base, second_tables) = (self.random.number(), self.random.number());
+            }
         }
-        Call::Format { levels, base, tables }
+        Call::Format { levels, base, tables, second_base, second_tables }
     }
 
     /// An address of the book.
@@ -370,10 +450,12 @@ impl Source {
 
     /// Lends too little or too much.
     fn odd_lengths(&mut self, step: &mut Step, world: &World) {
-        if let Step::Call { words, places, .. } = step {
+        if let Step::Call { words, second, places, .. } = step {
             let random = &self.random;
             let (most_words, most_places) = (world.memory.words.len(), world.memory.list.len());
-            match random.below(3) {
+            let most_second = world.memory.second.len();
+            match random.below(4) {
+                3 => *second = random.pick(&[0, 1, second.saturating_sub(1), *second + 1, second.saturating_sub(512), *second + 512]),
                 0 => *words = random.pick(&[0, 1, words.saturating_sub(1), *words + 1, words.saturating_sub(512), most_words]),
                 1 => *places = random.pick(&[0, places.saturating_sub(1), *places + 1]),
                 _ => {
@@ -382,12 +464,29 @@ impl Source {
                 }
             }
             *words = (*words).min(most_words);
+            *second = (*second).min(most_second);
             *places = (*places).min(most_places);
         }
     }
 }
 
-/// A call that is lent the memory of a pool with so many tables.
-fn lend(call: Call, tables: u64) -> Step {
-    Step::Call { call, words: 512 * tables as usize, places: tables as usize }
+/// A call that is lent the memory of a pool.
+fn lend(call: Call, setup: Setup) -> Step {
+    let (tables, more) = (setup.tables as usize, setup.second_tables as usize);
+    Step::Call { call, words: 512 * tables, second: 512 * more, places: tables + more }
+}
+
+/// A call that is lent the memory of the pool; format and add what they ask for, where there is so much.
+fn lend_what_is_asked(call: Call, world: &World) -> Step {
+    let room = |tables: u64, words: &[u64]| tables.min(words.len() as u64 / 512 - 1);
+    let mut setup = world.setup;
+    match call {
+        Call::Format { tables, second_tables, .. } => {
+            setup.tables = room(tables, &world.memory.words);
+            setup.second_tables = room(second_tables, &world.memory.second);
+        }
+        Call::Add { tables, .. } => setup.second_tables = room(tables, &world.memory.second),
+        _ => {}
+    }
+    lend(call, setup)
 }

@@ -10,20 +10,22 @@ use crate::{Answer, Call, Damage, Engine, Plain};
 #[derive(Clone, Debug, Default, PartialEq, Eq)]
 pub struct Memory {
     pub words: Vec<u64>,
+    pub second: Vec<u64>,
     pub list: Vec<u32>,
 }
 
 /// One step of a history.
 #[derive(Clone, Copy, Debug, PartialEq, Eq)]
 pub enum Step {
-    /// New memory of so many words and places, all zero.
-    Memory { words: usize, places: usize },
-    /// A word is overwritten from outside, as some kind of damage or as part of making a pool.
+    /// New memory of so many words in the two runs and of so many places, all zero.
+    Memory { words: usize, second: usize, places: usize },
+    /// A word is overwritten from outside, as some kind of damage or as part of making a pool. Those of the second run are counted
+    /// after those of the first.
     Word { at: usize, word: u64, damage: Option<Damage> },
     /// A place of the free list is overwritten from outside.
     Place { at: usize, number: u32, damage: Option<Damage> },
-    /// A call, which is lent the first so many words and places.
-    Call { call: Call, words: usize, places: usize },
+    /// A call, which is lent the first so many words of each run, and places.
+    Call { call: Call, words: usize, second: usize, places: usize },
 }
 
 /// The plain program's side.
@@ -42,14 +44,36 @@ impl Memory {
     /// Carries out a step with an engine; only a call has an answer.
     pub fn apply(&mut self, step: &Step, engine: &mut impl Engine) -> Option<Answer> {
         match *step {
-            Step::Memory { words, places } => *self = Memory { words: vec![0; words], list: vec![0; places] },
-            Step::Word { at, word, .. } => self.words[at] = word,
+            Step::Memory { words, second, places } => {
+                *self = Memory { words: vec![0; words], second: vec![0; second], list: vec![0; places] }
+            }
+            Step::Word { at, word, .. } => match at.checked_sub(self.words.len()) {
+                None => self.words[at] = word,
+                Some(at) => self.second[at] = word,
+            },
             Step::Place { at, number, .. } => self.list[at] = number,
-            Step::Call { ref call, words, places } => {
-                return Some(engine.call(call, &mut self.words[..words], &mut self.list[..places]))
+            Step::Call { ref call, words, second, places } => {
+                let (words, second) = (&mut self.words[..words], &mut self.second[..second]);
+                return Some(engine.call(call, words, second, &mut self.list[..places]));
             }
         }
         None
+    }
+
+    /// The word at a place, where those of the second run are counted after those of the first.
+    pub fn word(&self, at: usize) -> u64 {
+        match at.checked_sub(self.words.len()) {
+            None => self.words[at],
+            Some(at) => self.second[at],
+        }
+    }
+
+    /// The place of an entry of a table.
+    pub fn place(&self, setup: Setup, table: usize, entry: usize) -> usize {
+        match table.checked_sub(setup.tables as usize) {
+            None => 512 * table + entry,
+            Some(table) => self.words.len() + 512 * table + entry,
+        }
     }
 }
 
@@ -59,14 +83,16 @@ impl World {
     /// Where there is none, a pool that the audit has accepted must not give 8.
     pub fn apply(&mut self, step: &Step) -> Result<(Option<Answer>, bool), String> {
         let answer = self.memory.apply(step, &mut Plain);
-        let (Step::Call { call, words, places }, Some(answer)) = (step, answer) else {
+        let (&Step::Call { ref call, words, second, places }, Some(answer)) = (step, answer) else {
             (self.ledger, self.sound) = (None, false);
             return Ok((answer, false));
         };
-        // the ledger knows nothing of other setups and lengths
-        let lengths = (512 * self.setup.tables as usize, self.setup.tables as usize);
-        let known = call.setup() == Some(self.setup) && (*words, *places) == lengths;
-        let expected = self.ledger.as_mut().filter(|_| known).map(|ledger| ask(ledger, self.setup, call));
+        // the ledger knows nothing of other setups and lengths, but for those of the memory that an add brings
+        let Setup { tables, second_tables, .. } = self.setup;
+        let brings = matches!(call, Call::Add { .. });
+        let rest = (512 * second_tables as usize, (tables + second_tables) as usize);
+        let known = call.setup() == Some(self.setup) && words == 512 * tables as usize && (brings || (second, places) == rest);
+        let expected = self.ledger.as_mut().filter(|_| known).map(|ledger| ask(ledger, self.setup, call, second, places));
         if expected.is_some_and(|expected| expected != answer) {
             return Err(format!("plain answers {answer:x?}\nand the ledger {expected:x?}"));
         }
@@ -75,14 +101,17 @@ impl World {
         }
         if answer.refusal == 0 {
             match *call {
-                Call::Format { levels, base, tables } => {
-                    (self.ledger, self.sound) = (Some(Ledger::new(levels, base, tables)), true)
+                Call::Format { levels, base, tables, second_base, second_tables } => {
+                    let ledger = Ledger::new(levels, base, tables, second_base, second_tables);
+                    (self.ledger, self.sound) = (Some(ledger), true)
                 }
-                Call::Map { .. } | Call::Unmap { .. } if !known => (self.ledger, self.sound) = (None, false),
+                Call::Map { .. } | Call::Unmap { .. } | Call::Add { .. } if !known => {
+                    (self.ledger, self.sound) = (None, false)
+                }
                 Call::Audit { .. } if known => self.sound = true,
                 _ => {}
             }
-            if matches!(call, Call::Format { .. } | Call::Map { .. } | Call::Unmap { .. }) {
+            if call.hands_back() {
                 self.setup = answer.setup();
             }
         }
@@ -90,8 +119,8 @@ impl World {
     }
 }
 
-/// The ledger's answer to a call on a pool.
-fn ask(ledger: &mut Ledger, setup: Setup, call: &Call) -> Answer {
+/// The ledger's answer to a call on a pool, with so many words of the second run lent, and places.
+fn ask(ledger: &mut Ledger, setup: Setup, call: &Call, second: usize, places: usize) -> Answer {
     match *call {
         Call::Map { address, frame, size, attributes, .. } => {
             let result = ledger.map(address, frame, size, attributes);
@@ -105,6 +134,11 @@ fn ask(ledger: &mut Ledger, setup: Setup, call: &Call) -> Answer {
         Call::Audit { .. } => {
             let counts = ledger.audit();
             Answer::new(0, &[counts.tables, counts.mappings])
+        }
+        Call::Add { base, tables, .. } => {
+            let result = ledger.add(base, tables, second as u64, places as u64);
+            let grown = Setup { free: ledger.free(), second_base: base, second_tables: tables, ..setup };
+            with_setup(if result.is_ok() { grown } else { setup }, result.map(|()| []))
         }
         Call::Format { .. } | Call::FrameWord { .. } | Call::WordMeaning { .. } => unreachable!("these have no setup"),
     }

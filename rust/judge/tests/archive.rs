@@ -4,7 +4,7 @@
 
 use std::env;
 
-use judge::{cases, lines, Answer, Call, Engine, Judge, Memory, Source, Step};
+use judge::{cases, lines, numbers as of_setup, Answer, Call, Engine, Judge, Memory, Source, Step, SETUP};
 use oakabut::raw::{self, Found, Mapped, Unmapped};
 use oakabut::{Audit, Hole, Mapping, Pool, Refusal, Setup};
 
@@ -46,8 +46,8 @@ fn the_safe_crate() {
 #[test]
 fn one_more_word_in_use() {
     let (words, places, pages) = (4 * 512, 4, 1024);
-    let setup = |free| plain::Setup { levels: 3, base: 0x4000_0000, tables: 4, free };
-    let call = |call| Step::Call { call, words, places };
+    let setup = |free| plain::Setup { levels: 3, base: 0x4000_0000, tables: 4, free, ..plain::Setup::default() };
+    let call = |call| Step::Call { call, words, second: 0, places };
     let mut judge = Judge::new(Raw);
     let mut given = [0; 3];
     for (table, page) in [(pages, 0), (pages, 511), (pages, 200), (512, 0)] {
@@ -56,8 +56,8 @@ fn one_more_word_in_use() {
                 let address = 4096 * page;
                 let free = Call::Map { setup: setup(3), address, frame: 0x8000_0000, size: 4096, attributes: 3 };
                 let mut steps = vec![
-                    Step::Memory { words, places },
-                    call(Call::Format { levels: 3, base: 0x4000_0000, tables: 4 }),
+                    Step::Memory { words, second: 0, places },
+                    call(Call::Format { levels: 3, base: 0x4000_0000, tables: 4, second_base: 0, second_tables: 0 }),
                     call(free),
                 ];
                 if at < 512 && at as u64 != if table == pages { page } else { 0 } {
@@ -68,9 +68,9 @@ fn one_more_word_in_use() {
                     judge.step(step).unwrap_or_else(|difference| panic!("{difference}"));
                 }
                 let mut memory = judge.memory().clone();
-                let answer = Raw.call(&Call::Unmap { setup: setup(1), address }, &mut memory.words, &mut memory.list);
+                let answer = Raw.call(&Call::Unmap { setup: setup(1), address }, &mut memory.words, &mut [], &mut memory.list);
                 assert_eq!(answer.refusal, 0);
-                given[answer.numbers[7] as usize] += 1;
+                given[answer.numbers[SETUP + 3] as usize] += 1;
                 judge.step(&call(Call::Unmap { setup: setup(1), address })).unwrap_or_else(|difference| panic!("{difference}"));
             }
         }
@@ -79,35 +79,76 @@ fn one_more_word_in_use() {
     assert_eq!(given, [3 * 2 * 511, 2 * 511, 4 * 2 * 2]);
 }
 
-/// Pools of 65, 511 and 512 tables that end at 2^48, filled to the last table and emptied again, from both ends in turn. The 7 comes where the ledger has
-/// it, and at the end all tables but the root are free.
+/// Pools of 65, 511 and 512 tables that end at 2^48, in one region and in two, filled to the last table and emptied again, from both ends in turn. The 7 comes
+/// where the ledger has it, and at the end all tables but the root are free.
 #[test]
 fn pools_of_many_tables() {
-    for (levels, tables) in [(3, 65), (4, 511), (3, 512), (4, 512)] {
-        let (words, places) = (512 * tables as usize, tables as usize);
+    for (levels, first, more) in [(3, 65, 0), (4, 511, 0), (3, 512, 0), (4, 512, 0), (3, 1, 511), (4, 511, 1), (3, 256, 256)] {
+        let tables = first + more;
+        let (words, second, places) = (512 * first as usize, 512 * more as usize, tables as usize);
         let mut judge = Judge::new(Raw);
         let mut step = |step: Step| {
             judge.step(&step).unwrap_or_else(|difference| panic!("{difference}"));
             judge.setup()
         };
-        step(Step::Memory { words, places });
-        let format = Call::Format { levels, base: plain::LIMIT - 4096 * tables, tables };
-        let mut setup = step(Step::Call { call: format, words, places });
+        step(Step::Memory { words, second, places });
+        // the second region, where there is one, touches the first from below
+        let base = plain::LIMIT - 4096 * first;
+        let second_base = if more == 0 { 0 } else { base - 4096 * more };
+        let format = Call::Format { levels, base, tables: first, second_base, second_tables: more };
+        let mut setup = step(Step::Call { call: format, words, second, places });
         // a page in each region of 2 MiB; the last two find no table
         let pages = tables - levels + 1;
         for i in 0..pages + 2 {
             let call = Call::Map { setup, address: i << 21 | i % 512 << 12, frame: i << 12, size: 4096, attributes: i % 16 };
-            setup = step(Step::Call { call, words, places });
+            setup = step(Step::Call { call, words, second, places });
         }
-        assert_eq!((setup.tables, setup.free), (tables, 0));
-        step(Step::Call { call: Call::Audit { setup }, words, places });
+        assert_eq!((setup.total(), setup.free), (tables, 0));
+        step(Step::Call { call: Call::Audit { setup }, words, second, places });
         for i in 0..pages {
             let i = if i % 2 == 0 { i / 2 } else { pages - 1 - i / 2 };
             let call = Call::Unmap { setup, address: i << 21 | i % 512 << 12 };
-            setup = step(Step::Call { call, words, places });
+            setup = step(Step::Call { call, words, second, places });
         }
         assert_eq!(setup.free, tables - 1);
-        step(Step::Call { call: Call::Audit { setup }, words, places });
+        step(Step::Call { call: Call::Audit { setup }, words, second, places });
+    }
+}
+
+/// A second region that is added to a pool all of whose tables are in use: of 511 tables to one, of one to 511, of 256 to 256. The map that got 7 is
+/// accepted, the new tables come highest number first, and all of them are taken.
+#[test]
+fn a_region_is_added_to_a_full_pool() {
+    for (first, more) in [(1, 511), (511, 1), (256, 256), (2, 3)] {
+        let tables = first + more;
+        let (words, second, places) = (512 * first as usize, 512 * more as usize, tables as usize);
+        let mut judge = Judge::new(Raw);
+        judge.step(&Step::Memory { words, second, places }).unwrap();
+        let mut step = |call, more: u64| {
+            let (second, places) = (512 * more as usize, (first + more) as usize);
+            judge.step(&Step::Call { call, words, second, places }).unwrap_or_else(|difference| panic!("{difference}"));
+            (judge.setup(), judge.memory().list.clone())
+        };
+        let map = |setup, i: u64| Call::Map { setup, address: i << 30, frame: i << 30, size: 1 << 21, attributes: 3 };
+        let base = plain::LIMIT / 2;
+        let format = Call::Format { levels: 3, base, tables: first, second_base: 0, second_tables: 0 };
+        let (mut setup, _) = step(format, 0);
+        // a table for each region of 1 GiB; the last finds none
+        for i in 0..first {
+            (setup, _) = step(map(setup, i), 0);
+        }
+        assert_eq!((setup.free, setup.second_tables), (0, 0));
+        let (grown, list) = step(Call::Add { setup, base: base + 4096 * first, tables: more }, more);
+        assert_eq!((grown.free, grown.second_tables), (more, more));
+        assert!(list[..more as usize].iter().copied().eq((first as u32..tables as u32).rev()));
+        setup = grown;
+        for i in first - 1..(tables - 1).min(512) {
+            let (after, _) = step(map(setup, i), more);
+            assert_eq!(after.free, setup.free - 1, "map {i} takes one");
+            setup = after;
+        }
+        assert_eq!(setup.free, 0);
+        step(Call::Audit { setup }, more);
     }
 }
 
@@ -116,21 +157,22 @@ fn pools_of_many_tables() {
 fn numbers_of_tables_past_the_limit() {
     let (words, places) = (513 * 512, 513);
     let mut judge = Judge::new(Raw);
-    judge.step(&Step::Memory { words, places }).unwrap();
+    judge.step(&Step::Memory { words, second: 0, places }).unwrap();
     for tables in [0, 513, (1 << 32) + 1, u64::MAX] {
-        let setup = plain::Setup { levels: 3, base: 0x4000_0000, tables, free: 0 };
+        let setup = plain::Setup { levels: 3, base: 0x4000_0000, tables, ..plain::Setup::default() };
         let calls = [
-            Call::Format { levels: 3, base: 0x4000_0000, tables },
+            Call::Format { levels: 3, base: 0x4000_0000, tables, second_base: 0, second_tables: 0 },
             Call::Map { setup, address: 0, frame: 0x8000_0000, size: 4096, attributes: 3 },
             Call::Unmap { setup, address: 0 },
             Call::Query { setup, address: 0 },
             Call::Audit { setup },
+            Call::Add { setup, base: 0, tables: 0 },
         ];
         for (call, tables) in calls.into_iter().flat_map(|call| [(call, 513), (call, 0)]) {
             let (words, places) = (512 * tables, tables);
-            judge.step(&Step::Call { call, words, places }).unwrap_or_else(|difference| panic!("{difference}"));
+            judge.step(&Step::Call { call, words, second: 0, places }).unwrap_or_else(|difference| panic!("{difference}"));
             let mut memory = judge.memory().clone();
-            assert_eq!(Raw.call(&call, &mut memory.words[..words], &mut memory.list[..places]).refusal, 1, "{call:x?}");
+            assert_eq!(Raw.call(&call, &mut memory.words[..words], &mut [], &mut memory.list[..places]).refusal, 1, "{call:x?}");
         }
     }
 }
@@ -156,14 +198,21 @@ fn the_text_form() {
         let (takes, told) = line.split_once(" =").unwrap_or((line, ""));
         let (name, takes) = takes.split_once(' ').unwrap();
         let (takes, told) = (numbers(takes), numbers(told));
-        let setup = || plain::Setup { levels: takes[2], base: takes[3], tables: takes[4], free: takes[5] };
+        let setup = || {
+            let (second_base, second_tables) = (takes[7], takes[8]);
+            plain::Setup { levels: takes[3], base: takes[4], tables: takes[5], free: takes[6], second_base, second_tables }
+        };
         let call = match (name, &takes[..]) {
-            ("Lend", &[words, 0, places, 0]) => {
-                memory = Memory { words: vec![0; words as usize], list: vec![0; places as usize] };
+            ("Lend", &[words, 0, places, 0, second, 0]) => {
+                let (words, second) = (vec![0; words as usize], vec![0; second as usize]);
+                memory = Memory { words, second, list: vec![0; places as usize] };
                 None
             }
             ("Word", &[at, word]) => {
-                memory.words[at as usize] = word;
+                match at.checked_sub(lines::SECOND_FROM) {
+                    None => memory.words[at as usize] = word,
+                    Some(at) => memory.second[at as usize] = word,
+                }
                 None
             }
             ("Place", &[at, number]) => {
@@ -172,13 +221,16 @@ fn the_text_form() {
             }
             ("Entry", &[base, size, attributes, 0]) => Some(Call::FrameWord { base, size, attributes }),
             ("Decode", &[word, size, 0, 0]) => Some(Call::WordMeaning { word, size }),
-            ("Format", &[_, _, levels, base, tables, 0, 0, 0, 0, 0]) => Some(Call::Format { levels, base, tables }),
-            ("Map", &[_, _, _, _, _, _, address, frame, size, attributes]) => {
+            ("Format", &[_, _, _, levels, base, tables, second_base, second_tables, 0, 0, 0, 0, 0]) => {
+                Some(Call::Format { levels, base, tables, second_base, second_tables })
+            }
+            ("Map", &[_, _, _, _, _, _, _, _, _, address, frame, size, attributes]) => {
                 Some(Call::Map { setup: setup(), address, frame, size, attributes })
             }
-            ("Unmap", &[_, _, _, _, _, _, address, 0, 0, 0]) => Some(Call::Unmap { setup: setup(), address }),
-            ("Query", &[_, _, _, _, _, _, address, 0, 0, 0]) => Some(Call::Query { setup: setup(), address }),
-            ("Audit", &[_, _, _, _, _, _, 0, 0, 0, 0]) => Some(Call::Audit { setup: setup() }),
+            ("Unmap", &[_, _, _, _, _, _, _, _, _, address, 0, 0, 0]) => Some(Call::Unmap { setup: setup(), address }),
+            ("Query", &[_, _, _, _, _, _, _, _, _, address, 0, 0, 0]) => Some(Call::Query { setup: setup(), address }),
+            ("Audit", &[_, _, _, _, _, _, _, _, _, 0, 0, 0, 0]) => Some(Call::Audit { setup: setup() }),
+            ("Grow", &[_, _, _, _, _, _, _, _, _, base, tables, 0, 0]) => Some(Call::Add { setup: setup(), base, tables }),
             ("total", &[count]) => {
                 end = Some(count);
                 continue;
@@ -188,12 +240,11 @@ fn the_text_form() {
         replayed += 1;
         let Some(call) = call else { continue };
         let expected = match call {
-            Call::FrameWord { .. } | Call::WordMeaning { .. } => Raw.call(&call, &mut [], &mut []).numbers[..1].to_vec(),
+            Call::FrameWord { .. } | Call::WordMeaning { .. } => Raw.call(&call, &mut [], &mut [], &mut []).numbers[..1].to_vec(),
             _ => {
-                let (words, places) = (&mut memory.words[..takes[0] as usize], &mut memory.list[..takes[1] as usize]);
-                let answer = Raw.call(&call, words, places);
-                let handed_back =
-                    if let Call::Query { .. } | Call::Audit { .. } = call { &takes[2..6] } else { &answer.numbers[..4] };
+                let (words, second) = (&mut memory.words[..takes[0] as usize], &mut memory.second[..takes[1] as usize]);
+                let answer = Raw.call(&call, words, second, &mut memory.list[..takes[2] as usize]);
+                let handed_back = if call.hands_back() { &answer.numbers[..SETUP] } else { &takes[3..9] };
                 [&[answer.refusal], handed_back, &answer.rest(&call), &[lines::sum(&memory)]].concat()
             }
         };
@@ -203,7 +254,12 @@ fn the_text_form() {
 }
 
 fn to_theirs(setup: plain::Setup) -> Setup {
-    Setup { levels: setup.levels, base: setup.base, tables: setup.tables, free: setup.free }
+    let [levels, base, tables, free, second_base, second_tables] = of_setup(setup);
+    Setup { levels, base, tables, free, second_base, second_tables }
+}
+
+fn from_theirs(setup: Setup) -> [u64; SETUP] {
+    [setup.levels, setup.base, setup.tables, setup.free, setup.second_base, setup.second_tables]
 }
 
 /// The library as C sees it. Before each call the answer's room is full of junk, all of which must be overwritten.
@@ -212,44 +268,49 @@ struct Raw;
 const JUNK: u64 = 0xDEAD_BEEF_DEAD_BEEF;
 
 impl Engine for Raw {
-    fn call(&mut self, call: &Call, words: &mut [u64], list: &mut [u32]) -> Answer {
+    fn call(&mut self, call: &Call, words: &mut [u64], second: &mut [u64], list: &mut [u32]) -> Answer {
         let setup = to_theirs(call.setup().unwrap_or_default());
         let (w, wl, l, ll) = (words.as_mut_ptr(), words.len(), list.as_mut_ptr(), list.len());
-        let junk = Setup { levels: JUNK, base: JUNK, tables: JUNK, free: JUNK };
-        // SAFETY: the pointers and lengths are those of the two slices, which nothing else uses.
+        let (v, vl) = (second.as_mut_ptr(), second.len());
+        let junk = Setup { levels: JUNK, base: JUNK, tables: JUNK, free: JUNK, second_base: JUNK, second_tables: JUNK };
+        // SAFETY: the pointers and lengths are those of the three slices, which nothing else uses.
         unsafe {
             match *call {
                 Call::FrameWord { base, size, attributes } => Answer::of_host(raw::oak_frame_word(base, size, attributes)),
                 Call::WordMeaning { word, size } => Answer::of_host(raw::oak_word_meaning(word, size)),
-                Call::Format { levels, base, tables } => {
+                Call::Format { levels, base, tables, second_base, second_tables } => {
                     let mut a = junk;
-                    let refusal = raw::oak_format(levels, base, tables, w, wl, l, ll, &mut a);
-                    Answer::new(refusal, &[a.levels, a.base, a.tables, a.free])
+                    let refusal = raw::oak_format(levels, base, tables, second_base, second_tables, w, wl, v, vl, l, ll, &mut a);
+                    Answer::new(refusal, &from_theirs(a))
                 }
                 Call::Map { address, frame, size, attributes, .. } => {
                     let mut a = Mapped { setup: junk, taken: JUNK };
-                    let refusal = raw::oak_map(&setup, w, wl, l, ll, address, frame, size, attributes, &mut a);
-                    Answer::new(refusal, &[a.setup.levels, a.setup.base, a.setup.tables, a.setup.free, a.taken])
+                    let refusal = raw::oak_map(&setup, w, wl, v, vl, l, ll, address, frame, size, attributes, &mut a);
+                    Answer::new(refusal, &[&from_theirs(a.setup)[..], &[a.taken]].concat())
                 }
                 Call::Unmap { address, .. } => {
                     let hole = Hole { base: JUNK, size: JUNK };
                     let mut a = Unmapped { setup: junk, frame: JUNK, size: JUNK, attributes: JUNK, given: JUNK, hole };
-                    let refusal = raw::oak_unmap(&setup, w, wl, l, ll, address, &mut a);
-                    let s = a.setup;
+                    let refusal = raw::oak_unmap(&setup, w, wl, v, vl, l, ll, address, &mut a);
                     let told = [a.frame, a.size, a.attributes, a.given, a.hole.base, a.hole.size];
-                    Answer::new(refusal, &[&[s.levels, s.base, s.tables, s.free], &told[..]].concat())
+                    Answer::new(refusal, &[&from_theirs(a.setup)[..], &told].concat())
                 }
                 Call::Query { address, .. } => {
                     let mapping = Mapping { base: JUNK, frame: JUNK, size: JUNK, attributes: JUNK };
                     let mut a = Found { mapping, hole: Hole { base: JUNK, size: JUNK } };
-                    let refusal = raw::oak_query(&setup, w, wl, l, ll, address, &mut a);
+                    let refusal = raw::oak_query(&setup, w, wl, v, vl, l, ll, address, &mut a);
                     let m = a.mapping;
                     Answer::new(refusal, &[m.base, m.frame, m.size, m.attributes, a.hole.base, a.hole.size])
                 }
                 Call::Audit { .. } => {
                     let mut a = Audit { tables: JUNK, mappings: JUNK };
-                    let refusal = raw::oak_audit(&setup, w, wl, l, ll, &mut a);
+                    let refusal = raw::oak_audit(&setup, w, wl, v, vl, l, ll, &mut a);
                     Answer::new(refusal, &[a.tables, a.mappings])
+                }
+                Call::Add { base, tables, .. } => {
+                    let mut a = junk;
+                    let refusal = raw::oak_add(&setup, w, wl, v, vl, l, ll, base, tables, &mut a);
+                    Answer::new(refusal, &from_theirs(a))
                 }
             }
         }
@@ -260,10 +321,18 @@ impl Engine for Raw {
 struct Safe;
 
 impl Engine for Safe {
-    fn call(&mut self, call: &Call, words: &mut [u64], list: &mut [u32]) -> Answer {
-        let mut pool = Pool::resume(to_theirs(call.setup().unwrap_or_default()), words, list);
-        // the answer's numbers, how many places they have, and whether the setup comes before them
-        let (result, places, hands_back): (Result<Vec<u64>, Refusal>, usize, bool) = match *call {
+    fn call(&mut self, call: &Call, words: &mut [u64], second: &mut [u64], list: &mut [u32]) -> Answer {
+        let setup = to_theirs(call.setup().unwrap_or_default());
+        if let Call::Add { base, tables, .. } = *call {
+            // the pool has its own list, and the longer one is lent with the call
+            let mut own = list.to_vec();
+            let mut pool = Pool::resume(setup, words, &mut own);
+            let refusal = pool.add(base, tables, second, list).map_or_else(Refusal::number, |()| 0);
+            return Answer::new(refusal, &from_theirs(pool.setup()));
+        }
+        let mut pool = Pool::resume_two(setup, words, second, list);
+        // the answer's numbers, and how many places they have
+        let (result, places): (Result<Vec<u64>, Refusal>, usize) = match *call {
             Call::FrameWord { base, size, attributes } => {
                 return Answer::of_host(oakabut::frame_word(base, size, attributes).unwrap_or_else(Refusal::number));
             }
@@ -271,16 +340,18 @@ impl Engine for Safe {
                 let meaning = oakabut::word_meaning(word, size).map(|(base, attributes)| base + 16 + attributes);
                 return Answer::of_host(meaning.unwrap_or_else(Refusal::number));
             }
-            Call::Format { levels, base, tables } => (pool.reformat(levels, base, tables).map(|()| vec![]), 0, true),
-            Call::Map { address, frame, size, attributes, .. } => {
-                (pool.map(address, frame, size, attributes).map(|taken| vec![taken]), 1, true)
+            Call::Format { levels, base, tables, second_base, second_tables } => {
+                (pool.reformat_two(levels, base, tables, second_base, second_tables).map(|()| vec![]), 0)
             }
-            Call::Unmap { address, .. } => (pool.unmap(address).map(|r| vec![r.frame, r.size, r.attributes, r.given]), 4, true),
-            Call::Query { address, .. } => (pool.query(address).map(|m| vec![m.base, m.frame, m.size, m.attributes]), 4, false),
-            Call::Audit { .. } => (pool.audit().map(|a| vec![a.tables, a.mappings]), 2, false),
+            Call::Map { address, frame, size, attributes, .. } => {
+                (pool.map(address, frame, size, attributes).map(|taken| vec![taken]), 1)
+            }
+            Call::Unmap { address, .. } => (pool.unmap(address).map(|r| vec![r.frame, r.size, r.attributes, r.given]), 4),
+            Call::Query { address, .. } => (pool.query(address).map(|m| vec![m.base, m.frame, m.size, m.attributes]), 4),
+            Call::Audit { .. } => (pool.audit().map(|a| vec![a.tables, a.mappings]), 2),
+            Call::Add { .. } => unreachable!("it was made before"),
         };
-        let setup = pool.setup();
-        let mut numbers = if hands_back { vec![setup.levels, setup.base, setup.tables, setup.free] } else { vec![] };
+        let mut numbers = if call.hands_back() { from_theirs(pool.setup()).to_vec() } else { vec![] };
         let refusal = result.as_ref().map_or_else(|refusal| refusal.number(), |_| 0);
         match result {
             Ok(values) => numbers.extend(values),

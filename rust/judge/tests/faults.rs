@@ -3,26 +3,35 @@
 //! They are the plain program but for the fault. Among them are the wrong engines and the tempting mistakes that the document
 //! names.
 
-use judge::{Answer, Call, Engine, Judge, Plain, Source};
+use judge::{numbers, Answer, Call, Engine, Judge, Plain, Source, SETUP};
 use plain::{End, Setup, LIMIT};
 
-type Fault = fn(&Call, &mut [u64], &mut [u32]) -> Answer;
+type Fault = fn(&Call, &mut [u64], &mut [u64], &mut [u32]) -> Answer;
 
 struct Faulty(Fault);
 
 impl Engine for Faulty {
-    fn call(&mut self, call: &Call, words: &mut [u64], list: &mut [u32]) -> Answer {
-        (self.0)(call, words, list)
+    fn call(&mut self, call: &Call, words: &mut [u64], second: &mut [u64], list: &mut [u32]) -> Answer {
+        (self.0)(call, words, second, list)
     }
 }
 
 /// The right answer.
-fn right(call: &Call, words: &mut [u64], list: &mut [u32]) -> Answer {
-    Plain.call(call, words, list)
+fn right(call: &Call, words: &mut [u64], second: &mut [u64], list: &mut [u32]) -> Answer {
+    Plain.call(call, words, second, list)
 }
 
-fn numbers(setup: Setup) -> [u64; 4] {
-    [setup.levels, setup.base, setup.tables, setup.free]
+/// The right answer to a call on memory that stays as it is.
+fn right_apart(call: &Call, words: &[u64], second: &[u64], list: &[u32]) -> Answer {
+    right(call, &mut words.to_vec(), &mut second.to_vec(), &mut list.to_vec())
+}
+
+/// The words of a table.
+fn table_of<'a>(setup: Setup, words: &'a mut [u64], second: &'a mut [u64], table: usize) -> &'a mut [u64] {
+    match table.checked_sub(setup.tables as usize) {
+        None => &mut words[512 * table..][..512],
+        Some(table) => &mut second[512 * table..][..512],
+    }
 }
 
 /// The root entry of an address.
@@ -31,10 +40,12 @@ fn root_entry(setup: Setup, address: u64) -> usize {
 }
 
 /// The right answer with another hole, made from the address and the right one.
-fn hole(call: &Call, words: &mut [u64], list: &mut [u32], other: fn(u64, u64, u64) -> (u64, u64)) -> Answer {
-    let mut answer = right(call, words, list);
+fn hole(
+    call: &Call, words: &mut [u64], second: &mut [u64], list: &mut [u32], other: fn(u64, u64, u64) -> (u64, u64),
+) -> Answer {
+    let mut answer = right(call, words, second, list);
     let (address, at) = match *call {
-        Call::Unmap { address, .. } => (address, 8),
+        Call::Unmap { address, .. } => (address, SETUP + 4),
         Call::Query { address, .. } => (address, 4),
         _ => return answer,
     };
@@ -46,211 +57,212 @@ fn hole(call: &Call, words: &mut [u64], list: &mut [u32], other: fn(u64, u64, u6
 }
 
 const FAULTS: &[(&str, Fault)] = &[
-    ("a map that always refuses", |call, words, list| match *call {
+    ("a map that always refuses", |call, words, second, list| match *call {
         Call::Map { setup, .. } => Answer::new(7, &numbers(setup)),
-        _ => right(call, words, list),
+        _ => right(call, words, second, list),
     }),
-    ("a query that always says 9", |call, words, list| match call {
+    ("a query that always says 9", |call, words, second, list| match call {
         Call::Query { .. } => Answer::new(9, &[]),
-        _ => right(call, words, list),
+        _ => right(call, words, second, list),
     }),
-    ("the hole of the level above", |call, words, list| {
-        hole(call, words, list, |address, _, size| (address / (size << 9) * (size << 9), size << 9))
+    ("the hole of the level above", |call, words, second, list| {
+        hole(call, words, second, list, |address, _, size| (address / (size << 9) * (size << 9), size << 9))
     }),
-    ("a hole that is not aligned", |call, words, list| hole(call, words, list, |address, _, size| (address & !4095, size))),
-    ("the address as the hole's base", |call, words, list| hole(call, words, list, |address, _, size| (address, size))),
-    ("the last level's size for every hole", |call, words, list| hole(call, words, list, |_, base, _| (base, 4096))),
-    ("an unmap whose 9 has zeros", |call, words, list| match call {
-        Call::Unmap { .. } => hole(call, words, list, |_, _, _| (0, 0)),
-        _ => right(call, words, list),
+    ("a hole that is not aligned", |call, words, second, list| hole(call, words, second, list, |address, _, size| (address & !4095, size))),
+    ("the address as the hole's base", |call, words, second, list| hole(call, words, second, list, |address, _, size| (address, size))),
+    ("the last level's size for every hole", |call, words, second, list| hole(call, words, second, list, |_, base, _| (base, 4096))),
+    ("an unmap whose 9 has zeros", |call, words, second, list| match call {
+        Call::Unmap { .. } => hole(call, words, second, list, |_, _, _| (0, 0)),
+        _ => right(call, words, second, list),
     }),
-    ("a hole with another refusal", |call, words, list| match (*call, right(call, words, list)) {
+    ("a hole with another refusal", |call, words, second, list| match (*call, right(call, words, second, list)) {
         (Call::Query { address, .. }, mut answer) if answer.refusal == 8 => {
             answer.numbers[4..6].copy_from_slice(&[address & !4095, 4096]);
             answer
         }
         (_, answer) => answer,
     }),
-    ("an unmap that clears nothing", |call, words, list| match call {
-        Call::Unmap { .. } => right(call, &mut words.to_vec(), &mut list.to_vec()),
-        _ => right(call, words, list),
+    ("an unmap that clears nothing", |call, words, second, list| match call {
+        Call::Unmap { .. } => right_apart(call, words, second, list),
+        _ => right(call, words, second, list),
     }),
-    ("an unmap that keeps the tables", |call, words, list| match *call {
+    ("an unmap that keeps the tables", |call, words, second, list| match *call {
         Call::Unmap { setup, address } => {
-            let mut answer = right(call, &mut words.to_vec(), &mut list.to_vec());
+            let mut answer = right_apart(call, words, second, list);
             if answer.refusal == 0 {
-                let walk = plain::walk(setup, words, list, address, 4096).unwrap();
-                let table = walk.tables().last().unwrap();
-                words[512 * table + (address >> (3 + 9 * walk.left)) as usize % 512] = 0;
-                (answer.numbers[3], answer.numbers[7]) = (setup.free, 0);
+                let walk = plain::walk(setup, words, second, list, address, 4096).unwrap();
+                let table = *walk.tables().last().unwrap();
+                table_of(setup, words, second, table)[(address >> (3 + 9 * walk.left)) as usize % 512] = 0;
+                (answer.numbers[3], answer.numbers[SETUP + 3]) = (setup.free, 0);
             }
             answer
         }
-        _ => right(call, words, list),
+        _ => right(call, words, second, list),
     }),
-    ("pruning one level and leaving its parent empty", |call, words, list| match *call {
+    ("pruning one level and leaving its parent empty", |call, words, second, list| match *call {
         Call::Unmap { setup, address } => {
             let before = words.to_vec();
-            let mut answer = right(call, words, list);
-            if answer.refusal == 0 && answer.numbers[7] == 2 {
+            let mut answer = right(call, words, second, list);
+            if answer.refusal == 0 && answer.numbers[SETUP + 3] == 2 {
                 let root = root_entry(setup, address);
                 words[root] = before[root];
                 list[setup.free as usize + 1] = 0;
-                (answer.numbers[3], answer.numbers[7]) = (setup.free + 1, 1);
+                (answer.numbers[3], answer.numbers[SETUP + 3]) = (setup.free + 1, 1);
             }
             answer
         }
-        _ => right(call, words, list),
+        _ => right(call, words, second, list),
     }),
-    ("tables given back in the other order", |call, words, list| {
-        let answer = right(call, words, list);
-        if let (Call::Unmap { setup, .. }, 0, 2) = (call, answer.refusal, answer.numbers[7]) {
+    ("tables given back in the other order", |call, words, second, list| {
+        let answer = right(call, words, second, list);
+        if let (Call::Unmap { setup, .. }, 0, 2) = (call, answer.refusal, answer.numbers[SETUP + 3]) {
             list.swap(setup.free as usize, setup.free as usize + 1);
         }
         answer
     }),
-    ("a table kept by its parent when it is given back", |call, words, list| match *call {
+    ("a table kept by its parent when it is given back", |call, words, second, list| match *call {
         Call::Unmap { setup, address } => {
             let root = root_entry(setup, address);
             let before = words.get(root).copied();
-            let answer = right(call, words, list);
-            if answer.refusal == 0 && answer.numbers[7] + 1 == setup.levels {
+            let answer = right(call, words, second, list);
+            if answer.refusal == 0 && answer.numbers[SETUP + 3] + 1 == setup.levels {
                 words[root] = before.unwrap();
             }
             answer
         }
-        _ => right(call, words, list),
+        _ => right(call, words, second, list),
     }),
-    ("taking tables on the way down to 7", |call, words, list| match *call {
+    ("taking tables on the way down to 7", |call, words, second, list| match *call {
         Call::Map { setup, address, .. } => {
-            let answer = right(call, words, list);
+            let answer = right(call, words, second, list);
             let root = root_entry(setup, address);
             if answer.refusal == 7 && setup.free > 0 && words[root] == 0 {
                 words[root] = setup.base + 4096 * u64::from(list[setup.free as usize - 1]) + 3;
             }
             answer
         }
-        _ => right(call, words, list),
+        _ => right(call, words, second, list),
     }),
-    ("an unmap that rounds down to the frame", |call, words, list| match (*call, right(call, words, list)) {
+    ("an unmap that rounds down to the frame", |call, words, second, list| match (*call, right(call, words, second, list)) {
         (Call::Unmap { setup, address }, Answer { refusal: 10, .. }) => {
-            let address = plain::query(setup, words, list, address).unwrap().base;
-            right(&Call::Unmap { setup, address }, words, list)
+            let address = plain::query(setup, words, second, list, address).unwrap().base;
+            right(&Call::Unmap { setup, address }, words, second, list)
         }
         (_, answer) => answer,
     }),
-    ("an address past the space cut to its low bits", |call, words, list| match *call {
+    ("an address past the space cut to its low bits", |call, words, second, list| match *call {
         Call::Query { setup, address } if setup.levels == 3 => {
-            right(&Call::Query { setup, address: address & ((1 << 39) - 1) }, words, list)
+            right(&Call::Query { setup, address: address & ((1 << 39) - 1) }, words, second, list)
         }
-        _ => right(call, words, list),
+        _ => right(call, words, second, list),
     }),
-    ("a range test that wraps", |call, words, list| match (*call, right(call, words, list)) {
+    ("a range test that wraps", |call, words, second, list| match (*call, right(call, words, second, list)) {
         (Call::FrameWord { base, size, attributes }, Answer { refusal: 4, .. }) if base.wrapping_add(size) <= LIMIT => {
             Answer::of_host(plain::frame_word(0, size, attributes).wrapping_add(base))
         }
         (_, answer) => answer,
     }),
-    ("one table too many in the count taken", |call, words, list| {
-        let mut answer = right(call, words, list);
+    ("one table too many in the count taken", |call, words, second, list| {
+        let mut answer = right(call, words, second, list);
         if matches!(call, Call::Map { .. }) && answer.refusal == 0 {
-            answer.numbers[4] += 1;
+            answer.numbers[SETUP] += 1;
         }
         answer
     }),
-    ("the count given back is always 0", |call, words, list| {
-        let mut answer = right(call, words, list);
+    ("the count given back is always 0", |call, words, second, list| {
+        let mut answer = right(call, words, second, list);
         if matches!(call, Call::Unmap { .. }) {
-            answer.numbers[7] = 0;
+            answer.numbers[SETUP + 3] = 0;
         }
         answer
     }),
-    ("the free count of a refused unmap is 0", |call, words, list| {
-        let mut answer = right(call, words, list);
+    ("the free count of a refused unmap is 0", |call, words, second, list| {
+        let mut answer = right(call, words, second, list);
         if matches!(call, Call::Unmap { .. }) && answer.refusal != 0 {
             answer.numbers[3] = 0;
         }
         answer
     }),
-    ("an audit that always agrees", |call, words, list| match (call, right(call, words, list)) {
+    ("an audit that always agrees", |call, words, second, list| match (call, right(call, words, second, list)) {
         (Call::Audit { .. }, Answer { refusal: 8, .. }) => Answer::new(0, &[1, 0]),
         (_, answer) => answer,
     }),
-    ("an audit that never agrees", |call, words, list| match (call, right(call, words, list)) {
+    ("an audit that never agrees", |call, words, second, list| match (call, right(call, words, second, list)) {
         (Call::Audit { .. }, Answer { refusal: 0, .. }) => Answer::new(8, &[]),
         (_, answer) => answer,
     }),
-    ("an audit that does not look into free tables", |call, words, list| match *call {
+    ("an audit that does not look into free tables", |call, words, second, list| match *call {
         Call::Audit { setup } => {
-            let mut words = words.to_vec();
+            let (mut words, mut second) = (words.to_vec(), second.to_vec());
             for &number in list.iter().take(setup.free as usize) {
-                if let Some(table) = words.chunks_mut(512).nth(number as usize) {
+                if let Some(table) = words.chunks_mut(512).chain(second.chunks_mut(512)).nth(number as usize) {
                     table.fill(0);
                 }
             }
-            right(call, &mut words, list)
+            right(call, &mut words, &mut second, list)
         }
-        _ => right(call, words, list),
+        _ => right(call, words, second, list),
     }),
-    ("a taken table that is not wiped", |call, words, list| {
-        let before = words.to_vec();
-        let answer = right(call, words, list);
-        if let (Call::Map { setup, .. }, 0) = (call, answer.refusal) {
-            for &number in list[..setup.free as usize].iter().rev().take(answer.numbers[4] as usize) {
-                for at in 512 * number as usize..512 * (number as usize + 1) {
-                    words[at] = if words[at] == 0 { before[at] } else { words[at] };
+    ("a taken table that is not wiped", |call, words, second, list| {
+        let (mut was, mut was_second) = (words.to_vec(), second.to_vec());
+        let answer = right(call, words, second, list);
+        if let (&Call::Map { setup, .. }, 0) = (call, answer.refusal) {
+            for &number in list[..setup.free as usize].iter().rev().take(answer.numbers[SETUP] as usize) {
+                let before = table_of(setup, &mut was, &mut was_second, number as usize);
+                for (word, before) in table_of(setup, words, second, number as usize).iter_mut().zip(before) {
+                    *word = if *word == 0 { *before } else { *word };
                 }
             }
         }
         answer
     }),
-    ("a map that does not test the free list", |call, words, list| match (*call, right(call, words, list)) {
+    ("a map that does not test the free list", |call, words, second, list| match (*call, right(call, words, second, list)) {
         (Call::Map { setup, address, size, .. }, mut answer) if answer.refusal == 8 => {
-            let walk = plain::walk(setup, words, list, address, size).unwrap();
+            let walk = plain::walk(setup, words, second, list, address, size).unwrap();
             answer.refusal = if walk.end == End::Empty { 0 } else { 8 };
             answer
         }
         (_, answer) => answer,
     }),
-    ("a free list that may give a table of the path", |call, words, list| match (*call, right(call, words, list)) {
+    ("a free list that may give a table of the path", |call, words, second, list| match (*call, right(call, words, second, list)) {
         (Call::Map { setup, address, size, .. }, mut answer) if answer.refusal == 8 => {
-            let walk = plain::walk(setup, words, list, address, size).unwrap();
+            let walk = plain::walk(setup, words, second, list, address, size).unwrap();
             let first = list[setup.free.max(1) as usize - 1] as usize;
             answer.refusal = if walk.end == End::Empty && walk.tables()[1..].contains(&first) { 0 } else { 8 };
             answer
         }
         (_, answer) => answer,
     }),
-    ("a walk that does not mind a table twice", |call, words, list| match (*call, right(call, words, list)) {
+    ("a walk that does not mind a table twice", |call, words, second, list| match (*call, right(call, words, second, list)) {
         (Call::Query { setup, address }, answer) if answer.refusal == 8 => {
-            let walk = plain::walk(setup, words, list, address, 4096).unwrap();
+            let walk = plain::walk(setup, words, second, list, address, 4096).unwrap();
             Answer::new(if walk.end == End::Again { 9 } else { 8 }, &[])
         }
         (_, answer) => answer,
     }),
-    ("more given back than there is room for", |call, words, list| match (*call, right(call, words, list)) {
+    ("more given back than there is room for", |call, words, second, list| match (*call, right(call, words, second, list)) {
         (Call::Unmap { setup, address }, mut answer) if answer.refusal == 8 => {
-            let walk = plain::walk(setup, words, list, address, 4096).unwrap();
+            let walk = plain::walk(setup, words, second, list, address, 4096).unwrap();
             answer.refusal = if matches!(walk.end, End::Frame(_)) { 0 } else { 8 };
             answer
         }
         (_, answer) => answer,
     }),
-    ("5 before 4", |call, words, list| match (*call, right(call, words, list)) {
+    ("5 before 4", |call, words, second, list| match (*call, right(call, words, second, list)) {
         (Call::Map { address, frame, size, .. }, mut answer) if answer.refusal == 4 => {
             answer.refusal = if address % size != 0 || frame % size != 0 { 5 } else { 4 };
             answer
         }
         (_, answer) => answer,
     }),
-    ("3 before 2", |call, words, list| match (*call, right(call, words, list)) {
+    ("3 before 2", |call, words, second, list| match (*call, right(call, words, second, list)) {
         (Call::Map { attributes, .. }, mut answer) if answer.refusal == 2 => {
             answer.refusal = if attributes > 15 { 3 } else { 2 };
             answer
         }
         (_, answer) => answer,
     }),
-    ("11 before 5", |call, words, list| match (*call, right(call, words, list)) {
+    ("11 before 5", |call, words, second, list| match (*call, right(call, words, second, list)) {
         (Call::Map { setup, frame, .. }, mut answer) if answer.refusal == 5 => {
             let inside = frame >= setup.base && frame < setup.base + 4096 * setup.tables;
             answer.refusal = if inside { 11 } else { 5 };
@@ -258,63 +270,63 @@ const FAULTS: &[(&str, Fault)] = &[
         }
         (_, answer) => answer,
     }),
-    ("11 after the walk", |call, words, list| match (*call, right(call, words, list)) {
+    ("11 after the walk", |call, words, second, list| match (*call, right(call, words, second, list)) {
         (Call::Map { setup, address, size, .. }, mut answer) if answer.refusal == 11 => {
-            let walk = plain::walk(setup, words, list, address, size).unwrap();
+            let walk = plain::walk(setup, words, second, list, address, size).unwrap();
             answer.refusal = if walk.end == End::Empty { 11 } else { 6 };
             answer
         }
         (_, answer) => answer,
     }),
-    ("a frame that starts where the pool ends refused", |call, words, list| match *call {
+    ("a frame that starts where the pool ends refused", |call, words, second, list| match *call {
         Call::Map { setup, frame, .. } if frame == setup.base.wrapping_add(setup.tables.wrapping_mul(4096)) => {
-            let answer = right(call, &mut words.to_vec(), list);
+            let answer = right_apart(call, words, second, list);
             if answer.refusal == 0 {
                 Answer::new(11, &numbers(setup))
             } else {
-                right(call, words, list)
+                right(call, words, second, list)
             }
         }
-        _ => right(call, words, list),
+        _ => right(call, words, second, list),
     }),
-    ("a frame that ends where the pool starts refused", |call, words, list| match *call {
+    ("a frame that ends where the pool starts refused", |call, words, second, list| match *call {
         Call::Map { setup, frame, size, .. } if frame.wrapping_add(size) == setup.base => {
-            let answer = right(call, &mut words.to_vec(), list);
+            let answer = right_apart(call, words, second, list);
             if answer.refusal == 0 {
                 Answer::new(11, &numbers(setup))
             } else {
-                right(call, words, list)
+                right(call, words, second, list)
             }
         }
-        _ => right(call, words, list),
+        _ => right(call, words, second, list),
     }),
-    ("only the frame's first byte tested against the pool", |call, words, list| match (*call, right(call, words, list)) {
+    ("only the frame's first byte tested against the pool", |call, words, second, list| match (*call, right(call, words, second, list)) {
         (Call::Map { setup, address, frame, size, .. }, mut answer) if answer.refusal == 11 && frame < setup.base => {
-            let walk = plain::walk(setup, words, list, address, size).unwrap();
+            let walk = plain::walk(setup, words, second, list, address, size).unwrap();
             answer.refusal = if walk.end == End::Empty { 7 } else { 6 };
             answer
         }
         (_, answer) => answer,
     }),
-    ("an audit that takes frames in the pool", |call, words, list| match *call {
+    ("an audit that takes frames in the pool", |call, words, second, list| match *call {
         Call::Audit { setup } => {
-            let answer = right(call, words, list);
-            // the same words with the pool taken to stand elsewhere: links and frames keep their places
+            let answer = right(call, words, second, list);
+            // the same words with a pool of one region taken to stand elsewhere: links and frames keep their places
             let away = Setup { base: setup.base ^ 1 << 40, ..setup };
             let mut moved = words.to_vec();
             for word in moved.iter_mut().filter(|w| **w % 4096 == 3) {
                 *word = word.wrapping_sub(setup.base).wrapping_add(away.base);
             }
-            let elsewhere = right(&Call::Audit { setup: away }, &mut moved, list);
+            let elsewhere = right(&Call::Audit { setup: away }, &mut moved, second, list);
             if answer.refusal == 8 {
                 elsewhere
             } else {
                 answer
             }
         }
-        _ => right(call, words, list),
+        _ => right(call, words, second, list),
     }),
-    ("a query that takes a frame in the pool for damage", |call, words, list| match (*call, right(call, words, list)) {
+    ("a query that takes a frame in the pool for damage", |call, words, second, list| match (*call, right(call, words, second, list)) {
         (Call::Query { setup, .. }, answer) if answer.refusal == 0 => {
             let frame = answer.numbers[1];
             let inside = frame < setup.base + 4096 * setup.tables && setup.base < frame + answer.numbers[2];
@@ -326,62 +338,211 @@ const FAULTS: &[(&str, Fault)] = &[
         }
         (_, answer) => answer,
     }),
-    ("7 before the walk", |call, words, list| match (*call, right(call, words, list)) {
+    ("7 before the walk", |call, words, second, list| match (*call, right(call, words, second, list)) {
         (Call::Map { setup, .. }, mut answer) if answer.refusal == 6 => {
             answer.refusal = if setup.free == 0 { 7 } else { 6 };
             answer
         }
         (_, answer) => answer,
     }),
-    ("a refusal that writes", |call, words, list| {
-        let answer = right(call, words, list);
+    ("a refusal that writes", |call, words, second, list| {
+        let answer = right(call, words, second, list);
         if let (Call::Unmap { setup, .. }, 9) = (call, answer.refusal) {
             list[setup.free as usize] ^= 1;
         }
         answer
     }),
-    ("a query that writes", |call, words, list| {
-        let answer = right(call, words, list);
+    ("a query that writes", |call, words, second, list| {
+        let answer = right(call, words, second, list);
         if let (Call::Query { .. }, Some(word)) = (call, words.last_mut()) {
             *word ^= 1;
         }
         answer
     }),
-    ("a query that answers the page's base", |call, words, list| match (*call, right(call, words, list)) {
+    ("a query that answers the page's base", |call, words, second, list| match (*call, right(call, words, second, list)) {
         (Call::Query { address, .. }, mut answer) if answer.refusal == 0 => {
             answer.numbers[0] = address & !4095;
             answer
         }
         (_, answer) => answer,
     }),
-    ("a refused query that answers something", |call, words, list| match (*call, right(call, words, list)) {
+    ("a refused query that answers something", |call, words, second, list| match (*call, right(call, words, second, list)) {
         (Call::Query { address, .. }, mut answer) if answer.refusal == 9 => {
             answer.numbers[0] = address;
             answer
         }
         (_, answer) => answer,
     }),
-    ("a format that does not wipe the last word", |call, words, list| {
+    ("a format that does not wipe the last word", |call, words, second, list| {
         let last = words.last().copied();
-        let answer = right(call, words, list);
+        let answer = right(call, words, second, list);
         if let (Call::Format { .. }, 0, Some(last)) = (call, answer.refusal, last) {
             *words.last_mut().unwrap() = last;
         }
         answer
     }),
-    ("a list that is not tested for its length", |call, words, list| match *call {
-        Call::Audit { setup } if list.len() as u64 > setup.tables => right(call, words, &mut list[..setup.tables as usize]),
-        _ => right(call, words, list),
+    ("a list that is not tested for its length", |call, words, second, list| match *call {
+        Call::Audit { setup } if list.len() as u64 > setup.tables && second.is_empty() => {
+            right(call, words, second, &mut list[..setup.tables as usize])
+        }
+        _ => right(call, words, second, list),
     }),
-    ("device memory that may be executed", |call, words, list| match (*call, right(call, words, list)) {
+    ("device memory that may be executed", |call, words, second, list| match (*call, right(call, words, second, list)) {
         (Call::FrameWord { attributes: 8..=11, .. }, answer) if answer.refusal == 0 => {
             Answer::of_host(answer.numbers[0] & !(1 << 54))
         }
         (_, answer) => answer,
     }),
-    ("a word read at a wrong size", |call, words, list| match *call {
-        Call::WordMeaning { word, size } if size == 1 << 30 => right(&Call::WordMeaning { word, size: 1 << 21 }, words, list),
-        _ => right(call, words, list),
+    ("a word read at a wrong size", |call, words, second, list| match *call {
+        Call::WordMeaning { word, size } if size == 1 << 30 => right(&Call::WordMeaning { word, size: 1 << 21 }, words, second, list),
+        _ => right(call, words, second, list),
+    }),
+    ("new tables lowest number first", |call, words, second, list| {
+        let answer = right(call, words, second, list);
+        if let (&Call::Add { setup, tables, .. }, 0) = (call, answer.refusal) {
+            list[setup.free as usize..][..tables as usize].reverse();
+        }
+        answer
+    }),
+    ("a second run that an add does not make zero", |call, words, second, list| {
+        let before = second.to_vec();
+        let answer = right(call, words, second, list);
+        if let (Call::Add { .. }, 0) = (call, answer.refusal) {
+            second.copy_from_slice(&before);
+        }
+        answer
+    }),
+    ("new tables at the end of the list", |call, words, second, list| {
+        let before = list.to_vec();
+        let answer = right(call, words, second, list);
+        if let (&Call::Add { setup, tables, .. }, 0) = (call, answer.refusal) {
+            let new = list[setup.free as usize..][..tables as usize].to_vec();
+            list.copy_from_slice(&before);
+            list[setup.tables as usize..].copy_from_slice(&new);
+        }
+        answer
+    }),
+    ("an add where a region is there", |call, words, second, list| match *call {
+        Call::Add { setup, base, tables } => {
+            let one = Setup { second_base: 0, second_tables: 0, ..setup };
+            let answer = right_apart(call, words, second, list);
+            let other = right_apart(&Call::Add { setup: one, base, tables }, words, second, list);
+            if answer.refusal == 1 && other.refusal == 0 { other } else { right(call, words, second, list) }
+        }
+        _ => right(call, words, second, list),
+    }),
+    ("an add of no table", |call, words, second, list| match (*call, right(call, words, second, list)) {
+        (Call::Add { setup, base: 0, tables: 0 }, answer) if setup.second_tables == 0 && list.len() as u64 == setup.tables => {
+            Answer { refusal: 0, ..answer }
+        }
+        (_, answer) => answer,
+    }),
+    ("an overlap tested one way round", |call, words, second, list| match (*call, right(call, words, second, list)) {
+        (Call::Add { setup, base, .. }, mut answer) if answer.refusal == 1 && base > setup.base && base < setup.base.wrapping_add(setup.tables.wrapping_mul(4096)) => {
+            answer.refusal = 0;
+            answer
+        }
+        (_, answer) => answer,
+    }),
+    ("a region that starts where the first ends refused", |call, words, second, list| match *call {
+        Call::Add { setup, base, .. } if base == setup.base.wrapping_add(setup.tables.wrapping_mul(4096)) => {
+            Answer::new(1, &numbers(setup))
+        }
+        _ => right(call, words, second, list),
+    }),
+    ("a region that ends where the first starts refused by format", |call, words, second, list| match *call {
+        Call::Format { base, second_base, second_tables, .. }
+            if second_tables > 0 && second_base.wrapping_add(second_tables.wrapping_mul(4096)) == base =>
+        {
+            Answer::new(1, &[])
+        }
+        _ => right(call, words, second, list),
+    }),
+    ("11 that covers the first region alone", |call, words, second, list| match (*call, right(call, words, second, list)) {
+        (Call::Map { setup, address, frame, size, .. }, mut answer) if answer.refusal == 11 => {
+            let first = frame < setup.base + 4096 * setup.tables && setup.base < frame + size;
+            let walk = plain::walk(setup, words, second, list, address, size).unwrap();
+            answer.refusal = if first { 11 } else if walk.end == End::Empty { 7 } else { 6 };
+            answer
+        }
+        (_, answer) => answer,
+    }),
+    ("an audit that takes frames in the second region", |call, words, second, list| match (*call, right(call, words, second, list)) {
+        (Call::Audit { setup }, answer) if answer.refusal == 8 => {
+            let in_second = |word: &u64| {
+                let base = word & 0xFFFF_FFFF_F000;
+                word % 4096 != 3 && base >= setup.second_base && base < setup.second_base + 4096 * setup.second_tables
+            };
+            let mut without = [words.to_vec(), second.to_vec()];
+            for word in without.iter_mut().flatten().filter(|word| in_second(word)) {
+                *word = *word & !0xFFFF_FFFF_F000 | (setup.second_base ^ 1 << 41);
+            }
+            let [mut words, mut second] = without;
+            right(call, &mut words, &mut second, list)
+        }
+        (_, answer) => answer,
+    }),
+    ("a table of the second region read from the first run", |call, words, second, list| match *call {
+        Call::Query { setup, .. } if setup.second_tables > 0 && second.len() <= words.len() => {
+            let mut other = words[..second.len()].to_vec();
+            right(call, words, &mut other, list)
+        }
+        _ => right(call, words, second, list),
+    }),
+    ("an add that tests the free count against the new limit", |call, words, second, list| match *call {
+        Call::Add { setup, base, tables } if setup.free >= setup.tables && setup.free - setup.tables < tables => {
+            let room = Setup { free: 0, ..setup };
+            let mut answer = right_apart(&Call::Add { setup: room, base, tables }, words, second, list);
+            answer.numbers[3] += setup.free;
+            answer
+        }
+        _ => right(call, words, second, list),
+    }),
+    ("an add that minds an empty table", |call, words, second, list| match *call {
+        Call::Add { setup, .. } => {
+            let named = |words: &[u64]| words.iter().any(|&word| word == setup.base.wrapping_add(4096 * (setup.tables - 1) + 3));
+            let answer = right_apart(call, words, second, list);
+            let empty = answer.refusal == 0 && named(words) && words[words.len() - 512..].iter().all(|&word| word == 0);
+            if empty { Answer::new(8, &numbers(setup)) } else { right(call, words, second, list) }
+        }
+        _ => right(call, words, second, list),
+    }),
+    ("an add that refuses what the audit refuses", |call, words, second, list| match *call {
+        Call::Add { setup, .. } => {
+            let answer = right_apart(call, words, second, list);
+            let old = right_apart(&Call::Audit { setup }, words, &[], &list[..list.len().min(setup.tables as usize)]);
+            if answer.refusal == 0 && old.refusal == 8 { Answer::new(8, &numbers(setup)) } else { right(call, words, second, list) }
+        }
+        _ => right(call, words, second, list),
+    }),
+    ("an add that does not look for damage", |call, words, second, list| match (*call, right(call, words, second, list)) {
+        (Call::Add { .. }, answer) if answer.refusal == 8 => Answer { refusal: 0, ..answer },
+        (_, answer) => answer,
+    }),
+    ("an add that does not look at frames", |call, words, second, list| match (*call, right(call, words, second, list)) {
+        (Call::Add { .. }, answer) if answer.refusal == 11 => Answer { refusal: 0, ..answer },
+        (_, answer) => answer,
+    }),
+    ("a refused add that hands zeros back", |call, words, second, list| match (*call, right(call, words, second, list)) {
+        (Call::Add { .. }, answer) if answer.refusal != 0 => Answer::new(answer.refusal, &[]),
+        (_, answer) => answer,
+    }),
+    ("a second run without a second region", |call, words, second, list| match *call {
+        Call::Query { setup, .. } if setup.second_tables == 0 && !second.is_empty() => right(call, words, &mut [], list),
+        _ => right(call, words, second, list),
+    }),
+    ("a second base without a second region", |call, words, second, list| match *call {
+        Call::Query { setup, address } if setup.second_tables == 0 => {
+            right(&Call::Query { setup: Setup { second_base: 0, ..setup }, address }, words, second, list)
+        }
+        _ => right(call, words, second, list),
+    }),
+    ("a limit of the free count that forgets the second region", |call, words, second, list| match *call {
+        Call::Query { setup, .. } if setup.free >= setup.tables => {
+            let answer = right(call, words, second, list);
+            if answer.refusal == 1 { answer } else { Answer::new(1, &[]) }
+        }
+        _ => right(call, words, second, list),
     }),
 ];
 

@@ -28,6 +28,12 @@
 //! let hole = pool.query(0x40_1234).unwrap_err().hole();
 //! assert_eq!(hole, Some(Hole { base: 0x40_0000, size: BLOCK_2M }));
 //!
+//! // memory that is found later gives the pool more tables, and the map that got 7 is accepted
+//! let (mut spare, mut longer) = ([0u64; 2 * 512], [0u32; 4 + 2]);
+//! pool.add(0x5000_0000, 2, &mut spare, &mut longer)?;
+//! assert_eq!(pool.map(0x4000_0000, 0x8000_0000, PAGE, READ)?, 2);
+//! assert_eq!(pool.unmap(0x4000_0000)?.given, 2);
+//!
 //! // the table of the two pages is given back with the second of them
 //! assert_eq!(pool.unmap(0)?.given, 0);
 //! assert_eq!(pool.unmap(0x1000)?.given, 1);
@@ -65,7 +71,7 @@ pub const EXECUTE: u64 = 4;
 /// Device memory; normal memory without it.
 pub const DEVICE: u64 = 8;
 
-/// A pool has at most this many tables.
+/// A pool has at most this many tables, those of both regions counted.
 pub const MAX_TABLES: u64 = 512;
 
 /// The setup numbers of a pool.
@@ -74,12 +80,16 @@ pub const MAX_TABLES: u64 = 512;
 pub struct Setup {
     /// 3 or 4 levels: a space of 2^39 or 2^48 bytes.
     pub levels: u64,
-    /// The address of table 0; table t stands at base + 4096 × t.
+    /// The address of table 0; table t of the first region stands at base + 4096 × t.
     pub base: u64,
-    /// The number of tables, 1 to 512.
+    /// The number of tables of the first region: at least 1, and with those of the second at most 512.
     pub tables: u64,
     /// How many tables are free: so many first places of the list count.
     pub free: u64,
+    /// The address of the second region, or 0; its first table has the number `tables`.
+    pub second_base: u64,
+    /// The number of tables of the second region, or 0 where there is none.
+    pub second_tables: u64,
 }
 
 /// A mapping, as [`Pool::query`] answers it.

@@ -12,13 +12,15 @@ const NO_HOLE: Hole = Hole { base: 0, size: 0 };
 /// A pool of tables: a stage 2 page table with the memory it lives in.
 ///
 /// The memory is lent ([`Pool::format`], [`Pool::resume`]) or the pool's own ([`Pool::owned`]). It is the words, 512 for each
-/// table, and the free list, one place for each table. Nothing but these two slices and the setup numbers is kept: a pool can
-/// be taken apart at any time, and go on later from its parts.
+/// table, and the free list, one place for each table. Tables may stand in two regions of memory: the second has its own run of
+/// words, from the start ([`Pool::format_two`]) or from an [`add`](Pool::add) on. Nothing but these slices and the setup numbers is
+/// kept: a pool can be taken apart at any time, and go on later from its parts.
 ///
 /// No call panics, whatever is in the memory.
 pub struct Pool<'a> {
     setup: Setup,
     words: Memory<'a, u64>,
+    second: Memory<'a, u64>,
     list: Memory<'a, u32>,
 }
 
@@ -35,22 +37,102 @@ impl<'a> Pool<'a> {
         Ok(pool)
     }
 
+    /// The same with tables in two regions.
+    ///
+    /// The second keeps the rules of the first and does not overlap it, `second` has 512 words for each of its tables, and `list` a
+    /// place for each table of both. Without a table in it, `second_base` is 0.
+    #[allow(clippy::too_many_arguments)]
+    pub fn format_two(
+        levels: u64, base: u64, tables: u64, second_base: u64, second_tables: u64, words: &'a mut [u64], second: &'a mut [u64],
+        list: &'a mut [u32],
+    ) -> Result<Pool<'a>, Refusal> {
+        let mut pool = Pool::resume_two(Setup::default(), words, second, list);
+        pool.reformat_two(levels, base, tables, second_base, second_tables)?;
+        Ok(pool)
+    }
+
     /// Goes on with a pool that is in lent memory already, with the setup that the last call handed back.
     ///
     /// Nothing is tested here, because each call tests what it needs; [`Pool::audit`] tests everything.
     pub fn resume(setup: Setup, words: &'a mut [u64], list: &'a mut [u32]) -> Pool<'a> {
-        Pool { setup, words: Memory::Lent(words), list: Memory::Lent(list) }
+        Pool::resume_two(setup, words, &mut [], list)
+    }
+
+    /// The same with tables in two regions.
+    pub fn resume_two(setup: Setup, words: &'a mut [u64], second: &'a mut [u64], list: &'a mut [u32]) -> Pool<'a> {
+        Pool { setup, words: Memory::Lent(words), second: Memory::Lent(second), list: Memory::Lent(list) }
     }
 
     /// Empties the pool, possibly with other setup numbers. Where it is refused the pool goes on as it was.
     pub fn reformat(&mut self, levels: u64, base: u64, tables: u64) -> Result<(), Refusal> {
+        self.reformat_two(levels, base, tables, 0, 0)
+    }
+
+    /// The same with tables in two regions.
+    pub fn reformat_two(
+        &mut self, levels: u64, base: u64, tables: u64, second_base: u64, second_tables: u64,
+    ) -> Result<(), Refusal> {
         let mut answer = Setup::default();
-        let (words, list) = (&mut *self.words, &mut *self.list);
-        // SAFETY: the pointers and lengths are those of two slices that are borrowed mutably.
+        let (words, second, list) = (&mut *self.words, &mut *self.second, &mut *self.list);
+        // SAFETY: the pointers and lengths are those of three slices that are borrowed mutably.
         let number = unsafe {
-            raw::oak_format(levels, base, tables, words.as_mut_ptr(), words.len(), list.as_mut_ptr(), list.len(), &mut answer)
+            raw::oak_format(
+                levels,
+                base,
+                tables,
+                second_base,
+                second_tables,
+                words.as_mut_ptr(),
+                words.len(),
+                second.as_mut_ptr(),
+                second.len(),
+                list.as_mut_ptr(),
+                list.len(),
+                &mut answer,
+            )
         };
         self.setup = Refusal::or(number, answer)?;
+        Ok(())
+    }
+
+    /// Gives a pool of one region a second one, of so many `tables` at `base`. No mapping changes, and all new tables are free.
+    ///
+    /// `second` has 512 words for each new table, and `list` is the longer list, with a place for each table of both regions: the
+    /// numbers of the free tables go over to it, and from now on it is the pool's. A second region that is there, no table, numbers
+    /// and lengths that break the rules are [`Refusal::SETUP`]; a damaged word in a table that is reached, or a table that is reached
+    /// twice, is [`Refusal::DAMAGED`]; a mapping whose frame shares a byte with the new region is [`Refusal::IN_POOL`]. Refused, the
+    /// pool goes on with the memory that it had, and all memory is as it was.
+    pub fn add(&mut self, base: u64, tables: u64, second: &'a mut [u64], list: &'a mut [u32]) -> Result<(), Refusal> {
+        self.add_memory(base, tables, Memory::Lent(second), Memory::Lent(list))
+    }
+
+    fn add_memory(
+        &mut self, base: u64, tables: u64, mut second: Memory<'a, u64>, mut list: Memory<'a, u32>,
+    ) -> Result<(), Refusal> {
+        let counted = list.len().min(self.list.len()).min(usize::try_from(self.setup.free).unwrap_or(usize::MAX));
+        let was = list[..counted].to_vec();
+        list[..counted].copy_from_slice(&self.list[..counted]);
+        let mut answer = self.setup;
+        // SAFETY: the pointers and lengths are those of three borrowed slices; the words are only read.
+        let number = unsafe {
+            raw::oak_add(
+                &self.setup,
+                self.words.as_ptr(),
+                self.words.len(),
+                second.as_mut_ptr(),
+                second.len(),
+                list.as_mut_ptr(),
+                list.len(),
+                base,
+                tables,
+                &mut answer,
+            )
+        };
+        if let Err(refusal) = Refusal::or(number, ()) {
+            list[..counted].copy_from_slice(&was);
+            return Err(refusal);
+        }
+        (self.setup, self.second, self.list) = (answer, second, list);
         Ok(())
     }
 
@@ -60,13 +142,15 @@ impl<'a> Pool<'a> {
     /// sum of [`READ`](crate::READ), [`WRITE`](crate::WRITE), [`EXECUTE`](crate::EXECUTE) and [`DEVICE`](crate::DEVICE).
     pub fn map(&mut self, address: u64, frame: u64, size: u64, attributes: u64) -> Result<u64, Refusal> {
         let mut answer = Mapped { setup: self.setup, taken: 0 };
-        let (words, list) = (&mut *self.words, &*self.list);
-        // SAFETY: the pointers and lengths are those of two borrowed slices; the list is only read.
+        let (words, second, list) = (&mut *self.words, &mut *self.second, &*self.list);
+        // SAFETY: the pointers and lengths are those of three borrowed slices; the list is only read.
         let number = unsafe {
             raw::oak_map(
                 &self.setup,
                 words.as_mut_ptr(),
                 words.len(),
+                second.as_mut_ptr(),
+                second.len(),
                 list.as_ptr(),
                 list.len(),
                 address,
@@ -85,10 +169,20 @@ impl<'a> Pool<'a> {
     /// refusal carries the hole ([`Refusal::hole`]).
     pub fn unmap(&mut self, address: u64) -> Result<Removed, Refusal> {
         let mut answer = Unmapped { setup: self.setup, frame: 0, size: 0, attributes: 0, given: 0, hole: NO_HOLE };
-        let (words, list) = (&mut *self.words, &mut *self.list);
-        // SAFETY: the pointers and lengths are those of two slices that are borrowed mutably.
+        let (words, second, list) = (&mut *self.words, &mut *self.second, &mut *self.list);
+        // SAFETY: the pointers and lengths are those of three slices that are borrowed mutably.
         let number = unsafe {
-            raw::oak_unmap(&self.setup, words.as_mut_ptr(), words.len(), list.as_mut_ptr(), list.len(), address, &mut answer)
+            raw::oak_unmap(
+                &self.setup,
+                words.as_mut_ptr(),
+                words.len(),
+                second.as_mut_ptr(),
+                second.len(),
+                list.as_mut_ptr(),
+                list.len(),
+                address,
+                &mut answer,
+            )
         };
         let Unmapped { setup, frame, size, attributes, given, .. } = Refusal::or_hole(number, answer, answer.hole)?;
         self.setup = setup;
@@ -98,19 +192,41 @@ impl<'a> Pool<'a> {
     /// Finds the mapping that holds `address`. Where there is none, the refusal carries the hole ([`Refusal::hole`]).
     pub fn query(&self, address: u64) -> Result<Mapping, Refusal> {
         let mut answer = Found { mapping: Mapping { base: 0, frame: 0, size: 0, attributes: 0 }, hole: NO_HOLE };
-        let (words, list) = (&*self.words, &*self.list);
-        // SAFETY: the pointers and lengths are those of two borrowed slices, which are only read.
-        let number =
-            unsafe { raw::oak_query(&self.setup, words.as_ptr(), words.len(), list.as_ptr(), list.len(), address, &mut answer) };
+        let (words, second, list) = (&*self.words, &*self.second, &*self.list);
+        // SAFETY: the pointers and lengths are those of three borrowed slices, which are only read.
+        let number = unsafe {
+            raw::oak_query(
+                &self.setup,
+                words.as_ptr(),
+                words.len(),
+                second.as_ptr(),
+                second.len(),
+                list.as_ptr(),
+                list.len(),
+                address,
+                &mut answer,
+            )
+        };
         Refusal::or_hole(number, answer.mapping, answer.hole)
     }
 
     /// Tests the whole pool, and counts its tables and mappings. A pool that it accepts never gives [`Refusal::DAMAGED`].
     pub fn audit(&self) -> Result<Audit, Refusal> {
         let mut answer = Audit { tables: 0, mappings: 0 };
-        let (words, list) = (&*self.words, &*self.list);
-        // SAFETY: the pointers and lengths are those of two borrowed slices, which are only read.
-        let number = unsafe { raw::oak_audit(&self.setup, words.as_ptr(), words.len(), list.as_ptr(), list.len(), &mut answer) };
+        let (words, second, list) = (&*self.words, &*self.second, &*self.list);
+        // SAFETY: the pointers and lengths are those of three borrowed slices, which are only read.
+        let number = unsafe {
+            raw::oak_audit(
+                &self.setup,
+                words.as_ptr(),
+                words.len(),
+                second.as_ptr(),
+                second.len(),
+                list.as_ptr(),
+                list.len(),
+                &mut answer,
+            )
+        };
         Refusal::or(number, answer)
     }
 
@@ -119,9 +235,14 @@ impl<'a> Pool<'a> {
         self.setup
     }
 
-    /// The words of all tables, as the processor reads them.
+    /// The words of the first region's tables, as the processor reads them.
     pub fn words(&self) -> &[u64] {
         &self.words
+    }
+
+    /// The words of the second region's tables; none where there is no second region.
+    pub fn second(&self) -> &[u64] {
+        &self.second
     }
 
     /// The free list; its first [`Setup::free`] places are the free tables.
@@ -137,9 +258,16 @@ impl Pool<'static> {
         let room = if tables <= MAX_TABLES { tables as usize } else { 0 };
         let words = Memory::Owned(alloc::vec![0; 512 * room]);
         let list = Memory::Owned(alloc::vec![0; room]);
-        let mut pool = Pool { setup: Setup::default(), words, list };
+        let mut pool = Pool { setup: Setup::default(), words, second: Memory::Owned(Vec::new()), list };
         pool.reformat(levels, base, tables)?;
         Ok(pool)
+    }
+
+    /// Gives a pool of one region a second one in memory of its own, as [`Pool::add`] does in lent memory.
+    pub fn add_owned(&mut self, base: u64, tables: u64) -> Result<(), Refusal> {
+        let room = if tables <= MAX_TABLES { tables as usize } else { 0 };
+        let (second, list) = (alloc::vec![0; 512 * room], alloc::vec![0; self.list.len() + room]);
+        self.add_memory(base, tables, Memory::Owned(second), Memory::Owned(list))
     }
 }
 

@@ -1,7 +1,8 @@
 //! The C surface of the proved library, as its header has it.
 //!
 //! Each function returns 0 or the number of a refusal, and always writes the whole answer: on a refusal zeros, but for the
-//! setup that map and unmap hand back unchanged, and for the hole that goes with 9. Lengths count elements. The safe calls of [`Pool`](crate::Pool) and of this
+//! setup that map, unmap and add hand back unchanged, and for the hole that goes with 9. Lengths count elements. Without a second
+//! region the second run has length 0, and its pointer is any that is aligned and not null. The safe calls of [`Pool`](crate::Pool) and of this
 //! crate are made of these.
 
 use crate::{Audit, Hole, Mapping, Setup};
@@ -54,10 +55,20 @@ extern "C" {
     /// Sets up an empty pool.
     ///
     /// # Safety
-    /// `words` and `list` point to that many elements, which nothing else uses during the call, and `answer` to room for one.
+    /// `words`, `second` and `list` point to that many elements, which nothing else uses during the call, and `answer` to room for
+    /// one.
     pub fn oak_format(
-        levels: u64, base: u64, tables: u64, words: *mut u64, words_len: usize, list: *mut u32, list_len: usize,
-        answer: *mut Setup,
+        levels: u64, base: u64, tables: u64, second_base: u64, second_tables: u64, words: *mut u64, words_len: usize,
+        second: *mut u64, second_len: usize, list: *mut u32, list_len: usize, answer: *mut Setup,
+    ) -> u64;
+
+    /// Gives a pool of one region a second one. The list is the longer one, with places for all tables.
+    ///
+    /// # Safety
+    /// As for [`oak_format`]; the words are only read.
+    pub fn oak_add(
+        setup: *const Setup, words: *const u64, words_len: usize, second: *mut u64, second_len: usize, list: *mut u32,
+        list_len: usize, second_base: u64, second_tables: u64, answer: *mut Setup,
     ) -> u64;
 
     /// Maps a frame at an address.
@@ -65,8 +76,8 @@ extern "C" {
     /// # Safety
     /// As for [`oak_format`]; the list is only read.
     pub fn oak_map(
-        setup: *const Setup, words: *mut u64, words_len: usize, list: *const u32, list_len: usize, address: u64, frame: u64,
-        size: u64, attributes: u64, answer: *mut Mapped,
+        setup: *const Setup, words: *mut u64, words_len: usize, second: *mut u64, second_len: usize, list: *const u32,
+        list_len: usize, address: u64, frame: u64, size: u64, attributes: u64, answer: *mut Mapped,
     ) -> u64;
 
     /// Removes the mapping that starts at an address.
@@ -74,24 +85,25 @@ extern "C" {
     /// # Safety
     /// As for [`oak_format`].
     pub fn oak_unmap(
-        setup: *const Setup, words: *mut u64, words_len: usize, list: *mut u32, list_len: usize, address: u64,
-        answer: *mut Unmapped,
+        setup: *const Setup, words: *mut u64, words_len: usize, second: *mut u64, second_len: usize, list: *mut u32,
+        list_len: usize, address: u64, answer: *mut Unmapped,
     ) -> u64;
 
     /// Finds the mapping that holds an address.
     ///
     /// # Safety
-    /// As for [`oak_format`]; the words and the list are only read.
+    /// As for [`oak_format`]; the words of both runs and the list are only read.
     pub fn oak_query(
-        setup: *const Setup, words: *const u64, words_len: usize, list: *const u32, list_len: usize, address: u64,
-        answer: *mut Found,
+        setup: *const Setup, words: *const u64, words_len: usize, second: *const u64, second_len: usize, list: *const u32,
+        list_len: usize, address: u64, answer: *mut Found,
     ) -> u64;
 
     /// Tests a whole pool.
     ///
     /// # Safety
-    /// As for [`oak_format`]; the words and the list are only read.
+    /// As for [`oak_format`]; the words of both runs and the list are only read.
     pub fn oak_audit(
-        setup: *const Setup, words: *const u64, words_len: usize, list: *const u32, list_len: usize, answer: *mut Audit,
+        setup: *const Setup, words: *const u64, words_len: usize, second: *const u64, second_len: usize, list: *const u32,
+        list_len: usize, answer: *mut Audit,
     ) -> u64;
 }

@@ -7,7 +7,7 @@ use crate::Hole;
 /// Why a call was refused. A refused call leaves all lent memory, and the pool's setup, as they were.
 ///
 /// The calls are tested in the order 1, 2, 3, 4, 5, 11, then the walk from the top (6, 8, 9 or 10, whichever it finds first), then 7,
-/// then 8 for the free list.
+/// then 8 for the free list. An add is tested in the order 1, 8 for the tables that are reached, 11.
 #[derive(Clone, Copy, Debug, PartialEq, Eq, Hash)]
 pub struct Refusal {
     number: u64,
@@ -33,7 +33,7 @@ impl Refusal {
     pub const DAMAGED: Refusal = Refusal::bare(8);
     /// 10: unmap: the walk ends at a frame whose mapping does not start at the address.
     pub const NOT_THE_START: Refusal = Refusal::bare(10);
-    /// 11: map: the frame shares a byte with the pool's tables.
+    /// 11: map: the frame shares a byte with the pool's tables; add: the frame of a mapping shares one with the new region.
     pub const IN_POOL: Refusal = Refusal::bare(11);
 
     /// 9: unmap, query: the walk ends at an empty entry. It carries the largest empty region around the address.
@@ -97,7 +97,9 @@ impl fmt::Display for Refusal {
             Refusal::NO_TABLES => "map: the new tables needed are more than the free ones",
             Refusal::DAMAGED => "the pool, or the word that was asked about, is damaged",
             Refusal::NOT_THE_START => "unmap: the walk ends at a frame whose mapping does not start at the address",
-            Refusal::IN_POOL => "map: the frame shares a byte with the pool's tables",
+            Refusal::IN_POOL => {
+                "map: the frame shares a byte with the pool's tables; add: the frame of a mapping shares one with the new region"
+            }
             _ => "a number that this crate does not know",
         };
         write!(f, "refusal {}, {sentence}", self.number)

@@ -3,11 +3,12 @@
 use oakabut::*;
 
 const P: u64 = 0x4000_0000;
+const Q: u64 = 0x5000_0000;
 const F: u64 = 0x8000_0000;
 
 fn the_eleven_cases(mut pool: Pool) -> Result<(), Refusal> {
     // 1
-    assert_eq!(pool.setup(), Setup { levels: 3, base: P, tables: 4, free: 3 });
+    assert_eq!(pool.setup(), Setup { levels: 3, base: P, tables: 4, free: 3, ..Setup::default() });
     assert_eq!(pool.list(), [3, 2, 1, 0]);
     // 2
     assert_eq!(pool.map(0, F, PAGE, 3)?, 2);
@@ -101,7 +102,7 @@ fn a_pool_goes_on_from_its_parts() {
     assert_eq!(pool.reformat(5, P, 4), Err(Refusal::SETUP));
     assert_eq!((pool.setup(), pool.audit().unwrap().mappings), (setup, 1));
     pool.reformat(3, 0, 4).unwrap();
-    assert_eq!((pool.setup(), pool.audit().unwrap().mappings), (Setup { levels: 3, base: 0, tables: 4, free: 3 }, 0));
+    assert_eq!((pool.setup(), pool.audit().unwrap().mappings), (Setup { levels: 3, base: 0, tables: 4, free: 3, ..Setup::default() }, 0));
 }
 
 #[test]
@@ -113,6 +114,85 @@ fn a_guest_is_never_given_its_own_tables() {
     assert_eq!(pool.map(0, P + 4 * PAGE, PAGE, READ), Ok(2));
     assert_eq!(pool.map(PAGE, P - PAGE, PAGE, READ), Ok(0));
     assert_eq!(pool.audit(), Ok(Audit { tables: 3, mappings: 2 }));
+}
+
+/// The pool one short: a page and a frame of 2 MiB, and one table free.
+fn fill(pool: &mut Pool) {
+    assert_eq!(pool.map(0, F, PAGE, 3), Ok(2));
+    assert_eq!(pool.map(BLOCK_2M, F + BLOCK_2M, BLOCK_2M, 3), Ok(0));
+    assert_eq!(pool.map(BLOCK_1G, F, PAGE, 3), Err(Refusal::NO_TABLES));
+}
+
+/// The map that got 7 is accepted.
+fn goes_on(pool: &mut Pool) {
+    assert_eq!(pool.setup(), Setup { levels: 3, base: P, tables: 4, free: 3, second_base: Q, second_tables: 2 });
+    assert_eq!((pool.list()[..3].to_vec(), pool.audit()), (vec![3, 5, 4], Ok(Audit { tables: 3, mappings: 2 })));
+    assert!(pool.second().len() == 1024 && pool.second().iter().all(|&word| word == 0));
+    assert_eq!(pool.map(BLOCK_1G, F, PAGE, 3), Ok(2));
+    assert_eq!((pool.words()[1], pool.second()[0]), (Q + 3, Q + PAGE + 3));
+    assert_eq!(pool.query(BLOCK_1G + 5).unwrap().frame, F);
+    assert_eq!(pool.audit(), Ok(Audit { tables: 5, mappings: 3 }));
+    assert_eq!(pool.map(2 * BLOCK_1G, Q + PAGE, PAGE, 3), Err(Refusal::IN_POOL));
+}
+
+#[test]
+fn a_second_region_is_added() {
+    let (mut words, mut list) = ([7; 512 * 4], [7; 4]);
+    let (mut second, mut longer) = ([7; 512 * 2], [9; 6]);
+    let mut pool = Pool::format(3, P, 4, &mut words, &mut list).unwrap();
+    fill(&mut pool);
+    pool.add(Q, 2, &mut second, &mut longer).unwrap();
+    goes_on(&mut pool);
+    assert_eq!(pool.list(), [3, 5, 4, 9, 9, 9]);
+    let mut pool = Pool::owned(3, P, 4).unwrap();
+    fill(&mut pool);
+    for (base, tables) in [(Q, 0), (P, 2), (Q + 1, 2), (Q, 509), (Q, u64::MAX)] {
+        assert_eq!(pool.add_owned(base, tables), Err(Refusal::SETUP));
+    }
+    pool.add_owned(Q, 2).unwrap();
+    goes_on(&mut pool);
+    assert_eq!(pool.add_owned(Q + BLOCK_1G, 2), Err(Refusal::SETUP));
+}
+
+#[test]
+fn a_refused_add_changes_nothing() {
+    let (mut words, mut list) = ([7; 512 * 4], [7; 4]);
+    let (mut second, mut longer) = ([7; 512 * 2], [9; 6]);
+    let (mut short, mut few) = ([7; 511], [9; 5]);
+    let mut pool = Pool::format(3, P, 4, &mut words, &mut list).unwrap();
+    fill(&mut pool);
+    pool.map(PAGE, Q, PAGE, READ).unwrap();
+    let setup = pool.setup();
+    assert_eq!(pool.add(Q, 2, &mut second, &mut longer), Err(Refusal::IN_POOL));
+    assert_eq!(pool.add(Q, 1, &mut short, &mut few), Err(Refusal::SETUP));
+    assert_eq!((pool.setup(), pool.second().len(), pool.list().len()), (setup, 0, 4));
+    assert_eq!(pool.audit(), Ok(Audit { tables: 3, mappings: 3 }));
+    assert!(second == [7; 512 * 2] && longer == [9; 6] && short == [7; 511] && few == [9; 5]);
+    // a damaged word in a table that is reached
+    words[1024 + 9] = 5;
+    let mut pool = Pool::resume(setup, &mut words, &mut list);
+    assert_eq!(pool.add(2 * Q, 2, &mut second, &mut longer), Err(Refusal::DAMAGED));
+    assert!(second == [7; 512 * 2] && longer == [9; 6]);
+}
+
+#[test]
+fn tables_in_two_regions_from_the_start() {
+    let (mut words, mut second, mut list) = ([7; 512 * 2], [7; 512 * 3], [7; 5]);
+    assert_eq!(Pool::format_two(3, P, 2, P + PAGE, 3, &mut words, &mut second, &mut list).unwrap_err(), Refusal::SETUP);
+    assert!(words == [7; 512 * 2] && second == [7; 512 * 3] && list == [7; 5]);
+    let mut pool = Pool::format_two(3, P, 2, Q, 3, &mut words, &mut second, &mut list).unwrap();
+    assert_eq!(pool.list(), [4, 3, 2, 1, 0]);
+    // one table of each region
+    assert_eq!(pool.map(0, F, PAGE, 3), Ok(2));
+    assert_eq!((pool.words()[512], pool.second()[0]), (Q + 3, 0x0040_0000_8000_07FF));
+    let setup = pool.setup();
+    let mut pool = Pool::resume_two(setup, &mut words, &mut second, &mut list);
+    assert_eq!(pool.audit(), Ok(Audit { tables: 3, mappings: 1 }));
+    assert_eq!(pool.unmap(0).unwrap().given, 2);
+    // one region needs an empty second run
+    assert_eq!(pool.reformat(3, P, 2), Err(Refusal::SETUP));
+    pool.reformat_two(4, P, 2, P + 2 * PAGE, 3).unwrap();
+    assert_eq!(pool.setup(), Setup { levels: 4, base: P, tables: 2, free: 4, second_base: P + 2 * PAGE, second_tables: 3 });
 }
 
 #[test]

@@ -20,13 +20,20 @@ pub struct Ledger {
     levels: u64,
     base: u64,
     tables: u64,
+    second_base: u64,
+    second_tables: u64,
     mappings: Vec<Mapping>,
+}
+
+/// Whether a frame shares a byte with so many tables from an address on.
+fn meets(frame: u64, size: u64, base: u64, tables: u64) -> bool {
+    frame.max(base) < (frame + size).min(base + 4096 * tables)
 }
 
 impl Ledger {
     /// The ledger of a freshly formatted pool.
-    pub fn new(levels: u64, base: u64, tables: u64) -> Ledger {
-        Ledger { levels, base, tables, mappings: Vec::new() }
+    pub fn new(levels: u64, base: u64, tables: u64, second_base: u64, second_tables: u64) -> Ledger {
+        Ledger { levels, base, tables, second_base, second_tables, mappings: Vec::new() }
     }
 
     pub fn mappings(&self) -> &[Mapping] {
@@ -35,7 +42,30 @@ impl Ledger {
 
     /// The number of free tables: all but the root and the needed ones.
     pub fn free(&self) -> u64 {
-        self.tables - 1 - self.needed(&self.mappings)
+        self.tables + self.second_tables - 1 - self.needed(&self.mappings)
+    }
+
+    /// A second region of so many tables, with so many words lent for it and a list of so many places. The mappings stay, and all new
+    /// tables are free.
+    pub fn add(&mut self, base: u64, tables: u64, words: u64, places: u64) -> Result<(), Refusal> {
+        let (end, total) = (u128::from(base) + 4096 * u128::from(tables), u128::from(self.tables) + u128::from(tables));
+        let good = self.second_base == 0
+            && self.second_tables == 0
+            && tables != 0
+            && total <= 512
+            && base % 4096 == 0
+            && end <= 1 << 48
+            && (end <= self.base.into() || base >= self.base + 4096 * self.tables)
+            && words == 512 * tables
+            && u128::from(places) == total;
+        if !good {
+            return Err(Refusal::Setup);
+        }
+        if self.mappings.iter().any(|m| meets(m.frame, m.size, base, tables)) {
+            return Err(Refusal::InPool);
+        }
+        (self.second_base, self.second_tables) = (base, tables);
+        Ok(())
     }
 
     /// Answers the number of tables taken.
@@ -53,7 +83,7 @@ impl Ledger {
         if address % size != 0 || frame % size != 0 {
             return Err(Refusal::Alignment);
         }
-        if frame.max(self.base) < (frame + size).min(self.base + 4096 * self.tables) {
+        if meets(frame, size, self.base, self.tables) || meets(frame, size, self.second_base, self.second_tables) {
             return Err(Refusal::InPool);
         }
         if self.mappings.iter().any(|m| m.address < address + size && address < m.address + m.size) {

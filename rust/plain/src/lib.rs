@@ -3,9 +3,11 @@
 //! The proved library is compared with it call by call: every answer, every word, every place of the free list. It is written
 //! from the same document and from nothing else, so that a wrong reading in one shows as a difference from the other.
 //!
-//! A pool of `n` tables is lent as two slices: `words`, 512 for each table, and `list`, one place for each table. Table `t`
-//! starts at word 512 t and stands at address base + 4096 t; table 0 is the root. The first `free` places of the list are the
-//! free tables. The four setup numbers go in by value and come back by value.
+//! The tables of a pool stand in one region or in two. Its memory is lent as three slices: `words`, 512 for each table of the first
+//! region, `second`, 512 for each of the second, and `list`, one place for each table of both. With `n` tables in the first region,
+//! table `t` below `n` starts at word 512 t of the first run and stands at base + 4096 t; the others start at word 512 (t - n) of the
+//! second run and stand at second_base + 4096 (t - n). Table 0 is the root. The first `free` places of the list are the free tables.
+//! The setup numbers go in by value and come back by value.
 //!
 //! No call panics, whatever the numbers and the memory are, and a refusal leaves all lent memory as it was.
 
@@ -25,10 +27,33 @@ pub struct Setup {
     pub levels: u64,
     /// The address of table 0.
     pub base: u64,
-    /// 1 to 512.
+    /// How many tables the first region has: at least 1, and with those of the second at most 512.
     pub tables: u64,
-    /// How many places of the list count, at most `tables` - 1.
+    /// How many places of the list count: at most one less than there are tables.
     pub free: u64,
+    /// The address of the first table of the second region; 0 where there is none.
+    pub second_base: u64,
+    /// How many tables the second region has; 0 where there is none.
+    pub second_tables: u64,
+}
+
+impl Setup {
+    /// The tables of both regions. Numbers of tables are below this.
+    #[inline]
+    pub fn total(&self) -> u64 {
+        self.tables + self.second_tables
+    }
+
+    /// Where a table stands.
+    #[inline]
+    fn address_of(&self, table: usize) -> u64 {
+        let table = table as u64;
+        if table < self.tables {
+            self.base + PAGE * table
+        } else {
+            self.second_base + PAGE * (table - self.tables)
+        }
+    }
 }
 
 /// The largest empty region around an address: that of the empty entry where a walk ended.
@@ -127,7 +152,7 @@ pub struct Walk {
     /// The first `depth` of these are the tables come to, root first.
     path: [usize; MAX_LEVELS as usize],
     depth: usize,
-    /// The place among the words of the entry that was read last.
+    /// The place of the entry that was read last, where the words of the second run are counted after those of the first.
     place: usize,
     /// The levels left where the walk stopped, 1 at the last level.
     pub left: u64,
@@ -162,24 +187,80 @@ impl Walk {
 
 /// Sets up an empty pool: all words zero, and every table but the root free.
 #[inline]
-pub fn format(levels: u64, base: u64, tables: u64, words: &mut [u64], list: &mut [u32]) -> (Setup, Result<(), Refusal>) {
-    let setup = Setup { levels, base, tables, free: 0 };
-    if !is_good(&setup, words, list) {
+pub fn format(
+    levels: u64, base: u64, tables: u64, second_base: u64, second_tables: u64, words: &mut [u64], second: &mut [u64], list: &mut [u32],
+) -> (Setup, Result<(), Refusal>) {
+    let setup = Setup { levels, base, tables, free: 0, second_base, second_tables };
+    if !is_good(&setup, words, second, list) {
         return (Setup::default(), Err(Refusal::Setup));
     }
     words.fill(0);
-    for (place, number) in list.iter_mut().enumerate() {
-        *number = tables as u32 - 1 - place as u32;
+    second.fill(0);
+    for (number, table) in list.iter_mut().zip((0..setup.total() as u32).rev()) {
+        *number = table;
     }
-    (Setup { free: tables - 1, ..setup }, Ok(()))
+    (Setup { free: setup.total() - 1, ..setup }, Ok(()))
+}
+
+/// Gives a pool with one region a second one. The list is the longer one, of which the first `free` places count. The new tables go
+/// on it, highest number first, and become zero; no mapping changes.
+#[inline]
+pub fn add(
+    setup: Setup, words: &[u64], second: &mut [u64], list: &mut [u32], second_base: u64, second_tables: u64,
+) -> (Setup, Result<(), Refusal>) {
+    match add_or_refuse(&setup, words, second, list, second_base, second_tables) {
+        Ok(grown) => (grown, Ok(())),
+        Err(refusal) => (setup, Err(refusal)),
+    }
+}
+
+fn add_or_refuse(
+    setup: &Setup, words: &[u64], second: &mut [u64], list: &mut [u32], second_base: u64, second_tables: u64,
+) -> Result<Setup, Refusal> {
+    let grown = Setup { second_base, second_tables, ..*setup };
+    let one_region = setup.second_base == 0 && setup.second_tables == 0;
+    let good = one_region && second_tables > 0 && setup.free < setup.tables && is_good(&grown, words, second, list);
+    refuse_if(!good, Refusal::Setup)?;
+
+    // the words are read under the old setup, under which no word names a new table
+    let mut seen = [false; MAX_TABLES as usize];
+    let inside = meets_region(setup, words, 0, setup.levels, &mut seen, second_base, PAGE * second_tables)?;
+    refuse_if(inside, Refusal::InPool)?;
+
+    // nothing was written so far, and nothing is refused from here
+    second.fill(0);
+    let new = (setup.tables as u32..grown.total() as u32).rev();
+    for (number, table) in list[setup.free as usize..].iter_mut().zip(new) {
+        *number = table;
+    }
+    Ok(Setup { free: setup.free + second_tables, ..grown })
+}
+
+/// Whether a frame in a table or below it shares a byte with so many bytes from an address on. A damaged word or a table that was seen
+/// is refused, wherever it is found; an empty table is not, nor a frame in the pool.
+fn meets_region(
+    setup: &Setup, words: &[u64], table: usize, left: u64, seen: &mut [bool], base: u64, bytes: u64,
+) -> Result<bool, Refusal> {
+    refuse_if(seen[table], Refusal::Damaged)?;
+    seen[table] = true;
+    let mut inside = false;
+    for &word in table_of(words, &[], table) {
+        inside |= match read_entry(setup, word, left) {
+            Entry::Empty => false,
+            Entry::Frame(frame) => share(frame.base, region(left), base, bytes),
+            Entry::Table(child) => meets_region(setup, words, child, left - 1, seen, base, bytes)?,
+            Entry::Damaged => return Err(Refusal::Damaged),
+        };
+    }
+    Ok(inside)
 }
 
 /// Maps a frame at an address. Answers the number of tables taken.
 #[inline]
 pub fn map(
-    setup: Setup, words: &mut [u64], list: &[u32], address: u64, frame: u64, size: u64, attributes: u64,
+    setup: Setup, words: &mut [u64], second: &mut [u64], list: &[u32], address: u64, frame: u64, size: u64, attributes: u64,
 ) -> (Setup, Result<u64, Refusal>) {
-    match map_or_refuse(&setup, words, list, address, frame, size, attributes) {
+    match map_or_refuse(&setup, words, second, list, address, frame, size, attributes) {
         Ok(taken) => (Setup { free: setup.free - taken, ..setup }, Ok(taken)),
         Err(refusal) => (setup, Err(refusal)),
     }
@@ -187,9 +268,9 @@ pub fn map(
 
 #[inline(always)]
 fn map_or_refuse(
-    setup: &Setup, words: &mut [u64], list: &[u32], address: u64, frame: u64, size: u64, attributes: u64,
+    setup: &Setup, words: &mut [u64], second: &mut [u64], list: &[u32], address: u64, frame: u64, size: u64, attributes: u64,
 ) -> Result<u64, Refusal> {
-    refuse_if(!is_good(setup, words, list), Refusal::Setup)?;
+    refuse_if(!is_good(setup, words, second, list), Refusal::Setup)?;
     refuse_if(!SIZES.contains(&size), Refusal::Size)?;
     refuse_if(attributes > 15, Refusal::Attributes)?;
     let space = space(setup.levels);
@@ -198,7 +279,7 @@ fn map_or_refuse(
     refuse_if(is_in_pool(setup, frame, size), Refusal::InPool)?;
 
     let target = level_of(size);
-    let walk = descend(setup, words, address, target);
+    let walk = descend(setup, words, second, address, target);
     match walk.end {
         End::Empty => {}
         End::Frame(_) | End::Table => return Err(Refusal::InUse),
@@ -208,14 +289,16 @@ fn map_or_refuse(
     refuse_if(needed > setup.free, Refusal::NoTables)?;
     let place = match needed {
         0 => walk.place,
-        _ => take_tables(setup, words, list, address, walk, target)?,
+        _ => take_tables(setup, words, second, list, address, walk, target)?,
     };
-    words[place] = write_frame(frame, size, attributes);
+    *place_in(words, second, place) = write_frame(frame, size, attributes);
     Ok(needed)
 }
 
 /// Takes the tables that are missing between the end of a walk and the target, and links them. Answers the target's place.
-fn take_tables(setup: &Setup, words: &mut [u64], list: &[u32], address: u64, walk: Walk, target: u64) -> Result<usize, Refusal> {
+fn take_tables(
+    setup: &Setup, words: &mut [u64], second: &mut [u64], list: &[u32], address: u64, walk: Walk, target: u64,
+) -> Result<usize, Refusal> {
     // the whole path that the mapping will have: the tables come to, then the tables to be taken
     let mut full = walk;
     let needed = (walk.left - target) as usize;
@@ -228,8 +311,8 @@ fn take_tables(setup: &Setup, words: &mut [u64], list: &[u32], address: u64, wal
     // nothing was written so far, and nothing is refused from here
     let mut place = walk.place;
     for (&table, left) in full.tables()[walk.depth..].iter().zip((target..walk.left).rev()) {
-        words[table * ENTRIES..][..ENTRIES].fill(0);
-        words[place] = setup.base + PAGE * table as u64 + 3;
+        table_in(words, second, table).fill(0);
+        *place_in(words, second, place) = setup.address_of(table) + 3;
         place = place_of(table, address, left);
     }
     Ok(place)
@@ -237,20 +320,24 @@ fn take_tables(setup: &Setup, words: &mut [u64], list: &[u32], address: u64, wal
 
 /// Removes the mapping that starts at an address, and gives back each table that this leaves empty.
 #[inline]
-pub fn unmap(setup: Setup, words: &mut [u64], list: &mut [u32], address: u64) -> (Setup, Result<Removed, Refusal>) {
-    match unmap_or_refuse(&setup, words, list, address) {
+pub fn unmap(
+    setup: Setup, words: &mut [u64], second: &mut [u64], list: &mut [u32], address: u64,
+) -> (Setup, Result<Removed, Refusal>) {
+    match unmap_or_refuse(&setup, words, second, list, address) {
         Ok(removed) => (Setup { free: setup.free + removed.given, ..setup }, Ok(removed)),
         Err(refusal) => (setup, Err(refusal)),
     }
 }
 
 #[inline(always)]
-fn unmap_or_refuse(setup: &Setup, words: &mut [u64], list: &mut [u32], address: u64) -> Result<Removed, Refusal> {
-    refuse_if(!is_good(setup, words, list), Refusal::Setup)?;
+fn unmap_or_refuse(
+    setup: &Setup, words: &mut [u64], second: &mut [u64], list: &mut [u32], address: u64,
+) -> Result<Removed, Refusal> {
+    refuse_if(!is_good(setup, words, second, list), Refusal::Setup)?;
     refuse_if(address >= space(setup.levels), Refusal::Range)?;
     refuse_if(!is_multiple(address, PAGE), Refusal::Alignment)?;
 
-    let walk = descend(setup, words, address, 1);
+    let walk = descend(setup, words, second, address, 1);
     let Frame { base: frame, attributes } = frame_at(&walk, address)?;
     let size = region(walk.left);
     refuse_if(!is_multiple(address, size), Refusal::NotTheStart)?;
@@ -258,16 +345,16 @@ fn unmap_or_refuse(setup: &Setup, words: &mut [u64], list: &mut [u32], address: 
     // from the deepest table of the path upward: those that hold nothing but their entry of the path
     let mut given = 0;
     let mut place = walk.place;
-    while given + 1 < walk.depth && is_alone(words, place) {
+    while given + 1 < walk.depth && is_alone(words, second, place) {
         given += 1;
         place = walk.place_above(given, address);
     }
-    refuse_if(setup.free + given as u64 > setup.tables - 1, Refusal::Damaged)?;
+    refuse_if(setup.free + given as u64 > setup.total() - 1, Refusal::Damaged)?;
 
     // nothing was written so far, and nothing is refused from here
-    words[walk.place] = 0;
+    *place_in(words, second, walk.place) = 0;
     for i in 0..given {
-        words[walk.place_above(i + 1, address)] = 0;
+        *place_in(words, second, walk.place_above(i + 1, address)) = 0;
         list[setup.free as usize + i] = walk.table_above(i) as u32;
     }
     Ok(Removed { frame, size, attributes, given: given as u64 })
@@ -275,36 +362,38 @@ fn unmap_or_refuse(setup: &Setup, words: &mut [u64], list: &mut [u32], address: 
 
 /// Finds the mapping that holds an address.
 #[inline]
-pub fn query(setup: Setup, words: &[u64], list: &[u32], address: u64) -> Result<Found, Refusal> {
-    refuse_if(!is_good(&setup, words, list), Refusal::Setup)?;
+pub fn query(setup: Setup, words: &[u64], second: &[u64], list: &[u32], address: u64) -> Result<Found, Refusal> {
+    refuse_if(!is_good(&setup, words, second, list), Refusal::Setup)?;
     refuse_if(address >= space(setup.levels), Refusal::Range)?;
-    let walk = descend(&setup, words, address, 1);
+    let walk = descend(&setup, words, second, address, 1);
     let Frame { base: frame, attributes } = frame_at(&walk, address)?;
     let size = region(walk.left);
     Ok(Found { base: address & !(size - 1), frame, size, attributes })
 }
 
 /// Tests the whole pool. Each table is visited at most once, so this ends on any words.
-pub fn audit(setup: Setup, words: &[u64], list: &[u32]) -> Result<Counts, Refusal> {
-    refuse_if(!is_good(&setup, words, list), Refusal::Setup)?;
+pub fn audit(setup: Setup, words: &[u64], second: &[u64], list: &[u32]) -> Result<Counts, Refusal> {
+    refuse_if(!is_good(&setup, words, second, list), Refusal::Setup)?;
     let mut seen = [false; MAX_TABLES as usize];
-    let mappings = audit_table(&setup, words, 0, setup.levels, &mut seen)?;
+    let mappings = audit_table(&setup, words, second, 0, setup.levels, &mut seen)?;
     let tables = seen.iter().filter(|&&reached| reached).count() as u64;
     for &number in &list[..setup.free as usize] {
         let table = number as usize;
-        let good = is_child(&setup, number.into()) && !seen[table] && are_zero(table_of(words, table));
+        let good = is_child(&setup, number.into()) && !seen[table] && are_zero(table_of(words, second, table));
         refuse_if(!good, Refusal::Damaged)?;
         seen[table] = true;
     }
-    refuse_if(setup.free + tables != setup.tables, Refusal::Damaged)?;
+    refuse_if(setup.free + tables != setup.total(), Refusal::Damaged)?;
     Ok(Counts { tables, mappings })
 }
 
 /// Audits a table and all below it, marks them as seen and counts their mappings.
-fn audit_table(setup: &Setup, words: &[u64], table: usize, left: u64, seen: &mut [bool]) -> Result<u64, Refusal> {
+fn audit_table(
+    setup: &Setup, words: &[u64], second: &[u64], table: usize, left: u64, seen: &mut [bool],
+) -> Result<u64, Refusal> {
     refuse_if(seen[table], Refusal::Damaged)?;
     seen[table] = true;
-    let entries = table_of(words, table);
+    let entries = table_of(words, second, table);
     if left == 1 {
         return audit_pages(setup, entries);
     }
@@ -315,54 +404,65 @@ fn audit_table(setup: &Setup, words: &[u64], table: usize, left: u64, seen: &mut
             Entry::Empty => 0,
             Entry::Frame(frame) if is_in_pool(setup, frame.base, region(left)) => return Err(Refusal::Damaged),
             Entry::Frame(_) => 1,
-            Entry::Table(child) => audit_table(setup, words, child, left - 1, seen)?,
+            Entry::Table(child) => audit_table(setup, words, second, child, left - 1, seen)?,
             Entry::Damaged => return Err(Refusal::Damaged),
         };
     }
     Ok(mappings)
 }
 
-/// Audits a table of pages. The loop has no branch, so it is done on several words at once. A page and the tables stand at
-/// multiples of one size: one difference, which wraps for a page below them, tells whether it is one of them.
+/// Audits a table of pages. A page and the tables stand at multiples of one size: one difference for each region, which wraps for a
+/// page below it, tells whether it is one of them.
 fn audit_pages(setup: &Setup, entries: &[u64]) -> Result<u64, Refusal> {
-    let (mut in_use, mut frames) = (0, 0);
-    let (base, pool) = (setup.base, PAGE * setup.tables);
-    for &word in entries {
-        in_use += u64::from(word != 0);
-        let outside = u64::from((word & (LIMIT - PAGE)).wrapping_sub(base) >= pool);
-        frames += u64::from(read_frame(word, PAGE).is_some()) & outside;
-    }
+    let Setup { base, second_base, .. } = *setup;
+    let (first, second) = (PAGE * setup.tables, PAGE * setup.second_tables);
+    let (in_use, frames) = match second {
+        0 => count_pages(entries, |page| page.wrapping_sub(base) >= first),
+        _ => count_pages(entries, |page| (page.wrapping_sub(base) >= first) & (page.wrapping_sub(second_base) >= second)),
+    };
     refuse_if(in_use == 0 || frames != in_use, Refusal::Damaged)?;
     Ok(frames)
 }
 
+/// The entries of a table of pages that are in use, and those that are pages outside. The loop has no branch, so it is done on several
+/// words at once.
+#[inline(always)]
+fn count_pages(entries: &[u64], is_outside: impl Fn(u64) -> bool) -> (u64, u64) {
+    let (mut in_use, mut frames) = (0, 0);
+    for &word in entries {
+        in_use += u64::from(word != 0);
+        frames += u64::from(read_frame(word, PAGE).is_some_and(|page| is_outside(page.base)));
+    }
+    (in_use, frames)
+}
+
 /// The walk that a map of this size at this address makes; that of unmap and query is the one for size 4096.
-pub fn walk(setup: Setup, words: &[u64], list: &[u32], address: u64, size: u64) -> Result<Walk, Refusal> {
-    refuse_if(!is_good(&setup, words, list), Refusal::Setup)?;
+pub fn walk(setup: Setup, words: &[u64], second: &[u64], list: &[u32], address: u64, size: u64) -> Result<Walk, Refusal> {
+    refuse_if(!is_good(&setup, words, second, list), Refusal::Setup)?;
     refuse_if(!SIZES.contains(&size), Refusal::Size)?;
     refuse_if(address >= space(setup.levels), Refusal::Range)?;
-    Ok(descend(&setup, words, address, level_of(size)))
+    Ok(descend(&setup, words, second, address, level_of(size)))
 }
 
 /// Descends from the root until an entry is not a table or the target level is reached.
 #[inline(always)]
-fn descend(setup: &Setup, words: &[u64], address: u64, target: u64) -> Walk {
+fn descend(setup: &Setup, words: &[u64], second: &[u64], address: u64, target: u64) -> Walk {
     // the loop is unrolled where the levels are a constant
     match setup.levels {
-        MIN_LEVELS => descend_from(MIN_LEVELS as usize, setup, words, address, target),
-        _ => descend_from(MAX_LEVELS as usize, setup, words, address, target),
+        MIN_LEVELS => descend_from(MIN_LEVELS as usize, setup, words, second, address, target),
+        _ => descend_from(MAX_LEVELS as usize, setup, words, second, address, target),
     }
 }
 
 #[inline(always)]
-fn descend_from(levels: usize, setup: &Setup, words: &[u64], address: u64, target: u64) -> Walk {
+fn descend_from(levels: usize, setup: &Setup, words: &[u64], second: &[u64], address: u64, target: u64) -> Walk {
     let mut path = [0; MAX_LEVELS as usize];
     let mut table = 0;
     for depth in 1..=levels {
         let left = (levels - depth + 1) as u64;
         let place = place_of(table, address, left);
         path[depth - 1] = table;
-        let end = match read_entry(setup, words[place], left) {
+        let end = match read_entry(setup, word_at(words, second, place), left) {
             Entry::Table(child) if left > target => {
                 if (1..depth).any(|above| path[above] == child) {
                     return Walk { path, depth, left: left - 1, place, end: End::Again };
@@ -407,9 +507,17 @@ fn read_entry(setup: &Setup, word: u64, left: u64) -> Entry {
         return Entry::Empty;
     }
     // The word of a table is its address + 3. What is no multiple of a page gives no number of a table, as the low bits come high.
-    let child = word.wrapping_sub(setup.base + 3).rotate_right(PAGE.trailing_zeros());
-    if left > 1 && is_child(setup, child) {
-        return Entry::Table(child as usize);
+    if left > 1 {
+        let number = |base: u64| word.wrapping_sub(base + 3).rotate_right(PAGE.trailing_zeros());
+        // the root's wraps and is too large
+        let first = number(setup.base);
+        if first.wrapping_sub(1) < setup.tables - 1 {
+            return Entry::Table(first as usize);
+        }
+        let second = number(setup.second_base);
+        if second < setup.second_tables {
+            return Entry::Table((setup.tables + second) as usize);
+        }
     }
     match read_frame(word, region(left)) {
         Some(frame) if left <= SIZES.len() as u64 => Entry::Frame(frame),
@@ -417,28 +525,54 @@ fn read_entry(setup: &Setup, word: u64, left: u64) -> Entry {
     }
 }
 
-/// Whether a number is that of a table below the root: 1 to n - 1. The root's wraps and is too large.
+/// Whether a number is that of a table below the root, of either region. The root's wraps and is too large.
 #[inline]
 fn is_child(setup: &Setup, number: u64) -> bool {
-    number.wrapping_sub(1) < setup.tables - 1
+    number.wrapping_sub(1) < setup.total() - 1
 }
 
 /// Whether a frame that ends at 2^48 or below shares a byte with the tables of a pool whose numbers are good; then refusal 11.
 #[inline(always)]
 fn is_in_pool(setup: &Setup, frame: u64, size: u64) -> bool {
-    frame < setup.base + PAGE * setup.tables && setup.base < frame + size
+    share(frame, size, setup.base, PAGE * setup.tables) || share(frame, size, setup.second_base, PAGE * setup.second_tables)
+}
+
+/// Whether so many bytes from an address on, of which there is one, share a byte with those of a region, which may have none. Both end
+/// at 2^48 or below.
+#[inline(always)]
+fn share(frame: u64, size: u64, base: u64, bytes: u64) -> bool {
+    bytes > 0 && frame < base + bytes && base < frame + size
 }
 
 /// Whether the setup numbers and the lengths keep the rules; else refusal 1.
 #[inline(always)]
-fn is_good(setup: &Setup, words: &[u64], list: &[u32]) -> bool {
+fn is_good(setup: &Setup, words: &[u64], second: &[u64], list: &[u32]) -> bool {
     (MIN_LEVELS..=MAX_LEVELS).contains(&setup.levels)
         && (1..=MAX_TABLES).contains(&setup.tables)
-        && is_multiple(setup.base, PAGE)
-        && setup.base <= LIMIT - PAGE * setup.tables
-        && setup.free < setup.tables
+        && is_region(setup.base, setup.tables)
         && words.len() as u64 == ENTRIES as u64 * setup.tables
-        && list.len() as u64 == setup.tables
+        && if setup.second_tables == 0 {
+            setup.second_base == 0 && second.is_empty()
+        } else {
+            is_good_second(setup, second)
+        }
+        && setup.free < setup.total()
+        && list.len() as u64 == setup.total()
+}
+
+/// Whether a second region that has a table keeps the rules, beside a good first one.
+fn is_good_second(setup: &Setup, second: &[u64]) -> bool {
+    setup.second_tables <= MAX_TABLES - setup.tables
+        && is_region(setup.second_base, setup.second_tables)
+        && (setup.base + PAGE * setup.tables <= setup.second_base
+            || setup.second_base + PAGE * setup.second_tables <= setup.base)
+        && second.len() as u64 == ENTRIES as u64 * setup.second_tables
+}
+
+/// Whether so many tables, at most 512, may stand from an address on.
+#[inline(always)]
+fn is_region(base: u64, tables: u64) -> bool {
+    is_multiple(base, PAGE) && base <= LIMIT - PAGE * tables
 }
 
 #[inline]
@@ -450,15 +584,50 @@ fn refuse_if(refused: bool, refusal: Refusal) -> Result<(), Refusal> {
     }
 }
 
+/// The words of a table: a part of whichever run holds it. Tables of the second run are counted after those of the first.
 #[inline]
-fn table_of(words: &[u64], table: usize) -> &[u64] {
-    &words[table * ENTRIES..][..ENTRIES]
+fn table_of<'a>(words: &'a [u64], second: &'a [u64], table: usize) -> &'a [u64] {
+    let at = table * ENTRIES;
+    match words.get(at..at + ENTRIES) {
+        Some(part) => part,
+        None => &second[at - words.len()..][..ENTRIES],
+    }
+}
+
+/// The same, to be written.
+#[inline]
+fn table_in<'a>(words: &'a mut [u64], second: &'a mut [u64], table: usize) -> &'a mut [u64] {
+    let at = table * ENTRIES;
+    if at < words.len() {
+        &mut words[at..][..ENTRIES]
+    } else {
+        &mut second[at - words.len()..][..ENTRIES]
+    }
+}
+
+/// The word at a place. Those of the second run are counted after those of the first.
+#[inline(always)]
+fn word_at(words: &[u64], second: &[u64], place: usize) -> u64 {
+    match words.get(place) {
+        Some(&word) => word,
+        None => second[place - words.len()],
+    }
+}
+
+/// The same, to be written.
+#[inline(always)]
+fn place_in<'a>(words: &'a mut [u64], second: &'a mut [u64], place: usize) -> &'a mut u64 {
+    if place < words.len() {
+        &mut words[place]
+    } else {
+        &mut second[place - words.len()]
+    }
 }
 
 /// Whether all words of a table are zero but for the one at a place.
 #[inline]
-fn is_alone(words: &[u64], place: usize) -> bool {
-    let (table, entry) = (table_of(words, place / ENTRIES), place % ENTRIES);
+fn is_alone(words: &[u64], second: &[u64], place: usize) -> bool {
+    let (table, entry) = (table_of(words, second, place / ENTRIES), place % ENTRIES);
     are_zero(&table[..entry]) && are_zero(&table[entry + 1..])
 }
 

@@ -16,7 +16,7 @@ struct Pool {
 impl Pool {
     fn new(levels: u64, tables: usize) -> Pool {
         let (mut words, mut list) = (vec![7; 512 * tables], vec![7; tables]);
-        let (setup, answer) = format(levels, P, tables as u64, &mut words, &mut list);
+        let (setup, answer) = format(levels, P, tables as u64, 0, 0, &mut words, &mut [], &mut list);
         assert_eq!(answer, Ok(()));
         Pool { setup, words, list }
     }
@@ -35,19 +35,19 @@ impl Pool {
     }
 
     fn map(&mut self, address: u64, frame: u64, size: u64, attributes: u64) -> Result<u64, u64> {
-        self.call(|setup, words, list| map(setup, words, list, address, frame, size, attributes))
+        self.call(|setup, words, list| map(setup, words, &mut [], list, address, frame, size, attributes))
     }
 
     fn unmap(&mut self, address: u64) -> Result<Removed, u64> {
-        self.call(|setup, words, list| unmap(setup, words, list, address))
+        self.call(|setup, words, list| unmap(setup, words, &mut [], list, address))
     }
 
     fn query(&self, address: u64) -> Result<Found, u64> {
-        query(self.setup, &self.words, &self.list, address).map_err(Refusal::number)
+        query(self.setup, &self.words, &[], &self.list, address).map_err(Refusal::number)
     }
 
     fn audit(&self) -> Result<Counts, u64> {
-        audit(self.setup, &self.words, &self.list).map_err(Refusal::number)
+        audit(self.setup, &self.words, &[], &self.list).map_err(Refusal::number)
     }
 
     /// The words that are not zero, with their places.
@@ -61,7 +61,7 @@ fn the_eleven_cases() {
     // 1
     let mut pool = Pool::new(3, 4);
     assert_eq!(pool.list, [3, 2, 1, 0]);
-    assert_eq!(pool.setup, Setup { levels: 3, base: P, tables: 4, free: 3 });
+    assert_eq!(pool.setup, Setup { levels: 3, base: P, tables: 4, free: 3, ..Setup::default() });
     assert_eq!(pool.used(), []);
     // 2
     assert_eq!(pool.map(0, F, 4096, 3), Ok(2));
@@ -111,7 +111,7 @@ fn further_cases() {
 
 #[test]
 fn holes() {
-    let hole = |pool: &Pool, address| query(pool.setup, &pool.words, &pool.list, address).unwrap_err().hole();
+    let hole = |pool: &Pool, address| query(pool.setup, &pool.words, &[], &pool.list, address).unwrap_err().hole();
     let sized = |base, size| Some(Hole { base, size });
     let mut pool = Pool::new(3, 4);
     assert_eq!(hole(&pool, 0), sized(0, 1 << 30));
@@ -119,7 +119,7 @@ fn holes() {
     pool.map(0, F, 4096, 3).unwrap();
     assert_eq!(hole(&pool, MIB2), sized(MIB2, MIB2));
     assert_eq!(hole(&pool, 0x2FFF), sized(0x2000, 4096));
-    assert_eq!(unmap(pool.setup, &mut pool.words, &mut pool.list, 0x2000).1.unwrap_err().hole(), sized(0x2000, 4096));
+    assert_eq!(unmap(pool.setup, &mut pool.words, &mut [], &mut pool.list, 0x2000).1.unwrap_err().hole(), sized(0x2000, 4096));
     pool.unmap(0).unwrap();
     assert_eq!(hole(&pool, 0), sized(0, 1 << 30));
     assert_eq!(hole(&Pool::new(4, 4), 5 << 39), sized(5 << 39, 1 << 39));
@@ -195,23 +195,23 @@ fn setup_numbers_and_lengths() {
     let refused = |setup: Setup, words: usize, places: usize| {
         let (mut words, mut list) = (vec![7; words], vec![7; places]);
         let answers = [
-            map(setup, &mut words, &list, 0, 0, 0, 99).1.err(),
-            unmap(setup, &mut words, &mut list, u64::MAX).1.err(),
-            query(setup, &words, &list, u64::MAX).err(),
-            audit(setup, &words, &list).err(),
-            walk(setup, &words, &list, u64::MAX, 0).err(),
+            map(setup, &mut words, &mut [], &list, 0, 0, 0, 99).1.err(),
+            unmap(setup, &mut words, &mut [], &mut list, u64::MAX).1.err(),
+            query(setup, &words, &[], &list, u64::MAX).err(),
+            audit(setup, &words, &[], &list).err(),
+            walk(setup, &words, &[], &list, u64::MAX, 0).err(),
         ];
         let all = answers.iter().all(|&answer| answer == Some(Refusal::Setup));
         assert_eq!(all, answers.contains(&Some(Refusal::Setup)));
         // format does not look at the free count
-        let (zeros, answer) = format(setup.levels, setup.base, setup.tables, &mut words, &mut list);
+        let (zeros, answer) = format(setup.levels, setup.base, setup.tables, 0, 0, &mut words, &mut [], &mut list);
         if answer.is_err() {
             assert_eq!(zeros, Setup::default());
             assert!(words.iter().all(|&word| word == 7) && list.iter().all(|&number| number == 7));
         }
         (all, answer.is_err())
     };
-    let good = Setup { levels: 3, base: P, tables: 4, free: 3 };
+    let good = Setup { levels: 3, base: P, tables: 4, free: 3, ..Setup::default() };
     let (both, fine) = ((true, true), (false, false));
     assert_eq!(refused(good, 2048, 4), fine);
     for levels in [0, 1, 2, 5, 1 << 32, u64::MAX] {

@@ -17,9 +17,9 @@ struct Pool {
 impl Pool {
     fn new() -> Pool {
         let (mut words, mut list) = (vec![0; 512 * 8], vec![0; 8]);
-        let (mut setup, _) = format(3, P, 8, &mut words, &mut list);
+        let (mut setup, _) = format(3, P, 8, 0, 0, &mut words, &mut [], &mut list);
         for (address, size) in [(0, PAGE), (PAGE, PAGE), (MIB2, MIB2), (GIB, PAGE)] {
-            let (next, answer) = map(setup, &mut words, &list, address, 0, size, 7);
+            let (next, answer) = map(setup, &mut words, &mut [], &list, address, 0, size, 7);
             answer.unwrap();
             setup = next;
         }
@@ -42,24 +42,24 @@ impl Pool {
 
     fn map(&self, address: u64, size: u64) -> Result<u64, u64> {
         let mut words = self.words.clone();
-        let (setup, answer) = map(self.setup, &mut words, &self.list, address, 0, size, 0);
+        let (setup, answer) = map(self.setup, &mut words, &mut [], &self.list, address, 0, size, 0);
         assert!(answer.is_ok() || setup == self.setup && words == self.words);
         answer.map_err(Refusal::number)
     }
 
     fn unmap(&self, address: u64) -> Result<u64, u64> {
         let (mut words, mut list) = (self.words.clone(), self.list.clone());
-        let (setup, answer) = unmap(self.setup, &mut words, &mut list, address);
+        let (setup, answer) = unmap(self.setup, &mut words, &mut [], &mut list, address);
         assert!(answer.is_ok() || setup == self.setup && words == self.words && list == self.list);
         answer.map(|removed| removed.given).map_err(Refusal::number)
     }
 
     fn query(&self, address: u64) -> Result<u64, u64> {
-        query(self.setup, &self.words, &self.list, address).map(|found| found.base).map_err(Refusal::number)
+        query(self.setup, &self.words, &[], &self.list, address).map(|found| found.base).map_err(Refusal::number)
     }
 
     fn audit(&self) -> Result<(u64, u64), u64> {
-        audit(self.setup, &self.words, &self.list).map(|counts| (counts.tables, counts.mappings)).map_err(Refusal::number)
+        audit(self.setup, &self.words, &[], &self.list).map(|counts| (counts.tables, counts.mappings)).map_err(Refusal::number)
     }
 }
 
@@ -188,7 +188,7 @@ fn tables_to_be_taken() {
 fn a_taken_table_is_wiped() {
     let mut pool = Pool::with(512 * 5 + 77, 5);
     assert_eq!(pool.audit(), Err(8));
-    let (setup, answer) = map(pool.setup, &mut pool.words, &pool.list, 2 * MIB2, 0, PAGE, 0);
+    let (setup, answer) = map(pool.setup, &mut pool.words, &mut [], &pool.list, 2 * MIB2, 0, PAGE, 0);
     pool.setup = setup;
     assert_eq!((answer, pool.audit()), (Ok(1), Ok((6, 5))));
 }

@@ -17,14 +17,14 @@ use Rattle.armwalk.proofs.+descend.{statement}
 use Rattle.armwalk.proofs.+descend.Tie.{close}
 
 -- the height
-abbrev μ : Measures 1 kinds.ps ℕ
-μ κs a = a .1 .1 .1 .0
+abbrev μ : Measures 2 kinds.ps ℕ
+μ κs a = a .1 .1 .1 .1 .1 .0
 
-abbrev at : ℕ → In 1 kinds.ps
-at t = and 1 kinds.ps (is 1 kinds.ps μ t) descend.Pre
+abbrev at : ℕ → In 2 kinds.ps
+at t = and 2 kinds.ps (is 2 kinds.ps μ t) descend.Pre
 
-abbrev below : ℕ → In 1 kinds.ps
-below t = and 1 kinds.ps (falls 1 kinds.ps _<_ μ t) descend.Pre
+abbrev below : ℕ → In 2 kinds.ps
+below t = and 2 kinds.ps (falls 2 kinds.ps _<_ μ t) descend.Pre
 
 abbrev claims : ℕ → lts.Claims
 claims t = (
@@ -42,7 +42,7 @@ size-at-requires : (t : ℕ) → lts.Need-size-at-requires (claims t) (at t) des
 size-at-requires t c κs = search needs
 
 div-index : (t : ℕ) → lts.Need-div-index (claims t) (at t) descend.Post
-div-index t c = let s = c .before .before in omega (arith, size-some (s .args .height) (c .size-at .result) (s .pre .1 .0) (c .size-at .ensures))
+div-index t c = let s = c .before .before .before in omega (arith, size-some (s .args .height) (c .size-at .result) (s .pre .1 .0) (c .size-at .ensures))
 
 mul-word-at : (t : ℕ) → lts.Need-mul-word-at (claims t) (at t) descend.Post
 mul-word-at t c = omega arith
@@ -67,11 +67,11 @@ enum-known-s-2 t c = search needs
 
 returns : (t : ℕ) → lts.Need-returns (claims t) (at t) descend.Post
 returns t c =
-    let s = c .before .before .before .before .before .before .before .before in
+    let s = c .before .before .before .before .before .before .before .before .before in
     let size = c .before .before .before .before .before .before .size-at in
     let word = c .before .before .before .before .before .word-at in
     let by = c .before .before .before .before .step-by .ensures in
-    walk-last (s .args .base) (s .args .words .now) (s .args .address) (s .args .height) (size .result) (s .args .table) (word .result) (size .ensures) (word .ensures)
+    walk-last (s .args .base) (s .args .words .now) (s .args .base2) (s .args .second .now) (s .args .address) (s .args .height) (size .result) (s .args .table) (word .result) (size .ensures) (word .ensures)
     _ (c .if1 .taken) (ap saysStep (sym (c .before .before .s2 .given .1)) ∙ by)
 
 sub-descend : (t : ℕ) → lts.Need-sub-descend (claims t) (at t) descend.Post
@@ -79,37 +79,37 @@ sub-descend t c = search needs
 
 descend-requires : (t : ℕ) → lts.Need-descend-requires (claims t) (at t) descend.Post
 descend-requires t c κs =
-    let s = c .before .before .before .before .before .before .before .before in
+    let s = c .before .before .before .before .before .before .before .before .before in
     let by = ap saysStep (sym (c .before .before .s2 .given .1)) ∙ c .before .before .before .before .step-by .ensures in
     let low = next-low (s .args .address) (c .before .before .before .before .before .word-at .result) (c .before .before .s2 .given .0 .0) (s .args .height) by in
     (omega arith, (omega arith, low))
 
 returns-2 : (t : ℕ) → lts.Need-returns-2 (claims t) (at t) descend.Post
 returns-2 t c =
-    let s = c .before .before .before .before .before .before in
+    let s = c .before .before .before .before .before .before .before in
     let size = c .before .before .before .before .size-at in
     let word = c .before .before .before .word-at in
     let by = c .before .before .step-by .ensures in
-    walk-step (s .args .base) (s .args .words .now) (s .args .address) (s .args .height) (size .result) (s .args .table) (word .result) (size .ensures) (word .ensures)
+    walk-step (s .args .base) (s .args .words .now) (s .args .base2) (s .args .second .now) (s .args .address) (s .args .height) (size .result) (s .args .table) (word .result) (size .ensures) (word .ensures)
     _ (ap saysStep (sym (c .enum-told .given .1)) ∙ by)
 
 returns-3 : (t : ℕ) → lts.Need-returns-3 (claims t) (at t) descend.Post
 returns-3 t c =
-    let s = c .before .before .before .before .before .before .before in
+    let s = c .before .before .before .before .before .before .before .before in
     let size = c .before .before .before .before .before .size-at in
     let word = c .before .before .before .before .word-at in
     let by = c .before .before .before .step-by .ensures in
-    walk-step (s .args .base) (s .args .words .now) (s .args .address) (s .args .height) (size .result) (s .args .table) (word .result) (size .ensures) (word .ensures)
+    walk-step (s .args .base) (s .args .words .now) (s .args .base2) (s .args .second .now) (s .args .address) (s .args .height) (size .result) (s .args .table) (word .result) (size .ensures) (word .ensures)
     _ (ap saysStep (sym (c .before .s .given .1)) ∙ by)
 
 returns-4 : (t : ℕ) → lts.Need-returns-4 (claims t) (at t) descend.Post
 returns-4 t c =
-    let s = c .before .before .before .before .before .before .before .before .before in
+    let s = c .before .before .before .before .before .before .before .before .before .before in
     let size = c .before .before .before .before .before .before .before .size-at in
     let word = c .before .before .before .before .before .before .word-at in
     let by = c .before .before .before .before .before .step-by .ensures in
     c .descend .ensures
-    ∙ walk-down (s .args .base) (s .args .words .now) (s .args .address) (s .args .height) (size .result) (s .args .table) (word .result) (size .ensures) (word .ensures)
+    ∙ walk-down (s .args .base) (s .args .words .now) (s .args .base2) (s .args .second .now) (s .args .address) (s .args .height) (size .result) (s .args .table) (word .result) (size .ensures) (word .ensures)
     _ (c .before .if1 .left) (ap saysStep (sym (c .before .before .before .s2 .given .1)) ∙ by)
 
 pub +descend-spec : {M : Type 1} → statement M

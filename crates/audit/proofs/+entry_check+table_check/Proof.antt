@@ -1,14 +1,17 @@
 -- `table_check` and `entry_check`, which call each other, meet their contracts.
 use Prim.Native.Nat.{ℕ, _+_, _-_, _*_, _<_}
-use mathlib.Core.Path.{refl, sym, _∙_}
+use mathlib.Core.Path.{_≡_, refl, sym, ap, subst, _∙_}
+use mathlib.Core.List.{List, _++_}
 use native.Mathlib.Omega.{arith}
-use lib.ListN.{length-set}
+use lib.ListN.{length, length-set}
 use borrow.Author.Needs.{needs}
 use borrow.Author.Tests.{not-true, not-false}
 use borrow.Fn.Kinds.{In}
-use Rattle.path.specs.Areas.{areaAt}
 use borrow.Fn.PlainCycle.{Measures, is, falls, and}
-use Rattle.audit.proofs.Tables.{Loop, loop-skip, loop-bad, loop-few, loop-more, loop-end, table-stale, table-fresh, table-starts, table-entry, entry-empty, entry-frame, entry-inside, entry-damaged, entry-child, met-by-size, entry-fit}
+use Rattle.path.specs.Geometry.{four}
+use Rattle.model.specs.Audit.{tableWords}
+use Rattle.audit.specs.Checks.{areaIn, keptIn}
+use Rattle.audit.proofs.Tables.{Loop, loop-skip, loop-bad, loop-few, loop-more, loop-end, table-stale, table-fresh, table-starts, table-entry, part-long, part-word, part-skips, at-word, entry-empty, entry-frame, entry-inside, entry-damaged, entry-child, met-by-size, entry-fit}
 use Rattle.audit.proofs.entry_check.Reads as entry-check
 use Rattle.audit.proofs.entry_check.Kinds as entry-check-kinds
 use Rattle.audit.proofs.+entry_check+table_check.Lts-entry_check as entry-check-lts
@@ -21,16 +24,16 @@ use Rattle.audit.proofs.skip_empty.Reads as skip-empty-reads
 use Rattle.entry.proofs.read_word.Reads as read-word-reads
 use Rattle.path.proofs.meets_area.Reads as meets-area-reads
 use Rattle.path.proofs.size_at.Reads as size-at-reads
-use Rattle.pool.proofs.word.Reads as word-reads
+use Rattle.pool.proofs.table_part.Reads as table-part-reads
 use Rattle.audit.proofs.+entry_check+table_check.{statement}
 use Rattle.audit.proofs.+entry_check+table_check.Tie.{close}
 
--- 513 for each level left, and one for each entry left, of which a table has 512
+-- two for each level left, and one more for a table
 abbrev μ-entry-check : Measures 2 entry-check-kinds.ps ℕ
-μ-entry-check κs a = a .1 .1 .1 .1 .1 .0 * 513 + a .1 .1 .1 .1 .1 .1 .0
+μ-entry-check κs a = a .1 .1 .1 .1 .1 .0 * 2 + 1
 
 abbrev μ-table-check : Measures 2 table-check-kinds.ps ℕ
-μ-table-check κs a = a .1 .1 .1 .1 .1 .0 * 513 + 513
+μ-table-check κs a = a .1 .1 .1 .1 .1 .0 * 2 + 2
 
 abbrev entry-check-at : ℕ → In 2 entry-check-kinds.ps
 entry-check-at t = and 2 entry-check-kinds.ps (is 2 entry-check-kinds.ps μ-entry-check t) entry-check.Pre
@@ -47,8 +50,6 @@ table-check-below t = and 2 table-check-kinds.ps (falls 2 table-check-kinds.ps _
 -- what the calls of `entry_check` and of `table_check` ask and tell
 abbrev entry-claims : ℕ → entry-check-lts.Claims
 entry-claims t = (
-  word-reads.Asked,
-  word-reads.Learnt,
   read-word-reads.Asked,
   read-word-reads.Learnt,
   size-at-reads.Asked,
@@ -63,6 +64,8 @@ abbrev table-claims : ℕ → table-check-lts.Claims
 table-claims t = (
   is-fresh-reads.Asked,
   is-fresh-reads.Learnt,
+  table-part-reads.Asked,
+  table-part-reads.Learnt,
   pages-check-reads.Asked,
   pages-check-reads.Learnt,
   skip-empty-reads.Asked,
@@ -70,18 +73,6 @@ table-claims t = (
   entry-check-below t,
   entry-check.Post,
 )
-
-entry-check-mul-word : (t : ℕ) → entry-check-lts.Need-mul-word (entry-claims t) (entry-check-at t) entry-check.Post
-entry-check-mul-word t c = search needs
-
-entry-check-sub-word : (t : ℕ) → entry-check-lts.Need-sub-word (entry-claims t) (entry-check-at t) entry-check.Post
-entry-check-sub-word t c = search needs
-
-entry-check-add-word : (t : ℕ) → entry-check-lts.Need-add-word (entry-claims t) (entry-check-at t) entry-check.Post
-entry-check-add-word t c = search needs
-
-entry-check-word-requires : (t : ℕ) → entry-check-lts.Need-word-requires (entry-claims t) (entry-check-at t) entry-check.Post
-entry-check-word-requires t c κs = search needs
 
 entry-check-read-word-requires : (t : ℕ) → entry-check-lts.Need-read-word-requires (entry-claims t) (entry-check-at t) entry-check.Post
 entry-check-read-word-requires t c κs = search needs
@@ -95,152 +86,159 @@ entry-check-enum-known-e t c = c .match .keys2
 entry-check-size-at-requires : (t : ℕ) → entry-check-lts.Need-size-at-requires (entry-claims t) (entry-check-at t) entry-check.Post
 entry-check-size-at-requires t c κs = search needs
 
+entry-check-cast-first : (t : ℕ) → entry-check-lts.Need-cast-first (entry-claims t) (entry-check-at t) entry-check.Post
+entry-check-cast-first t c = search needs
+
+entry-check-cast-more : (t : ℕ) → entry-check-lts.Need-cast-more (entry-claims t) (entry-check-at t) entry-check.Post
+entry-check-cast-more t c = search needs
+
 entry-check-meets-area-requires : (t : ℕ) → entry-check-lts.Need-meets-area-requires (entry-claims t) (entry-check-at t) entry-check.Post
 entry-check-meets-area-requires t c κs = search needs
 
 entry-check-returns : (t : ℕ) → entry-check-lts.Need-returns (entry-claims t) (entry-check-at t) entry-check.Post
 entry-check-returns t c =
-    let a = c .before .before .before .before .before .before .before .before .before .before .args in
-    entry-inside (a .words .now) (a .marks .now) _ _ (a .t) (512 - a .left) _ (c .before .before .before .before .before .before .before .word .ensures) _ (a .marks .now) _ _ (sym (c .before .before .before .before .before .before .read-word .ensures) ∙ c .before .before .before .before .e .given .1)
-    (met-by-size _ _ (c .before .before .before .before .before .before .before .before .before .before .pre .1 .0 .low) (c .before .before .size-at .ensures) (c .before .meets-area .ensures) (c .if1 .taken)) refl
+    entry-inside (c .before .before .before .before .before .before .before .before .before .before .before .before .args .words .now ++ c .before .before .before .before .before .before .before .before .before .before .before .before .args .second .now) (c .before .before .before .before .before .before .before .before .before .before .before .before .args .marks .now) (c .before .before .before .before .before .before .before .before .before .before .before .before .args .look) _ (c .before .before .before .before .before .before .before .before .before .before .before .before .args .w) _ (c .before .before .before .before .before .before .before .before .before .before .before .before .args .marks .now) _ _ (sym (c .before .before .before .before .before .before .before .before .read-word .ensures) ∙ c .before .before .before .before .before .before .e .given .1)
+    (met-by-size (keptIn (c .before .before .before .before .before .before .before .before .before .before .before .before .args .look)) _ (c .before .before .before .before .before .before .before .before .before .before .before .before .pre .1 .0 .low) (c .before .before .before .before .size-at .ensures) (c .before .meets-area .ensures) (c .if1 .taken)) refl
 
 entry-check-enum-known-e-2 : (t : ℕ) → entry-check-lts.Need-enum-known-e-2 (entry-claims t) (entry-check-at t) entry-check.Post
 entry-check-enum-known-e-2 t c = c .match .keys3
 
 entry-check-sub-table-check : (t : ℕ) → entry-check-lts.Need-sub-table-check (entry-claims t) (entry-check-at t) entry-check.Post
-entry-check-sub-table-check t c = omega (arith, entry-fit (c .before .before .before .before .before .before .before .before .pre .1 .0) _ _ _ (sym (c .before .before .before .before .read-word .ensures) ∙ c .before .before .e2 .given .1) .0)
+entry-check-sub-table-check t c = omega (arith, entry-fit (c .before .before .before .before .before .before .before .before .pre .1 .0) _ _ (sym (c .before .before .before .before .read-word .ensures) ∙ c .before .before .e2 .given .1) .0)
 
 entry-check-table-check-requires : (t : ℕ) → entry-check-lts.Need-table-check-requires (entry-claims t) (entry-check-at t) entry-check.Post
 entry-check-table-check-requires t c κs =
-    let fit = entry-fit (c .before .before .before .before .before .before .before .before .pre .1 .0) _ _ _ (sym (c .before .before .before .before .read-word .ensures) ∙ c .before .before .e2 .given .1) in
-    (omega (arith, fit .0, c .before .before .before .before .before .before .before .before .pre .0, c .before .before .before .before .before .before .before .before .pre .1 .0 .some-left), (fit .1, c .before .before .before .before .before .before .before .before .pre .1 .1))
+    let fit = entry-fit (c .before .before .before .before .before .before .before .before .pre .1 .0) _ _ (sym (c .before .before .before .before .read-word .ensures) ∙ c .before .before .e2 .given .1) in
+    (omega (arith, fit .0, c .before .before .before .before .before .before .before .before .pre .0), (fit .1, c .before .before .before .before .before .before .before .before .pre .1 .1))
 
 entry-check-enum-told-2 : (t : ℕ) → entry-check-lts.Need-enum-told-2 (entry-claims t) (entry-check-at t) entry-check.Post
 entry-check-enum-told-2 t c = c .match .keys4
 
 entry-check-returns-2 : (t : ℕ) → entry-check-lts.Need-returns-2 (entry-claims t) (entry-check-at t) entry-check.Post
 entry-check-returns-2 t c =
-    let a = c .before .before .before .before .before .before .args in
-    entry-empty (a .words .now) (a .marks .now) _ _ (a .t) (512 - a .left) _ (c .before .before .before .word .ensures) _ (a .marks .now) (sym (c .before .before .read-word .ensures) ∙ c .enum-told .given .1) refl refl
+    entry-empty (c .before .before .before .before .before .before .args .words .now ++ c .before .before .before .before .before .before .args .second .now) (c .before .before .before .before .before .before .args .marks .now) (c .before .before .before .before .before .before .args .look) _ (c .before .before .before .before .before .before .args .w) _ (c .before .before .before .before .before .before .args .marks .now) (sym (c .before .before .read-word .ensures) ∙ c .enum-told .given .1) refl refl
 
 entry-check-returns-3 : (t : ℕ) → entry-check-lts.Need-returns-3 (entry-claims t) (entry-check-at t) entry-check.Post
 entry-check-returns-3 t c =
-    let a = c .before .before .before .before .before .before .before .before .before .before .args in
-    entry-frame (a .words .now) (a .marks .now) _ _ (a .t) (512 - a .left) _ (c .before .before .before .before .before .before .before .word .ensures) _ (a .marks .now) _ _ (sym (c .before .before .before .before .before .before .read-word .ensures) ∙ c .before .before .before .before .e .given .1)
-    (met-by-size _ _ (c .before .before .before .before .before .before .before .before .before .before .pre .1 .0 .low) (c .before .before .size-at .ensures) (c .before .meets-area .ensures) (c .if1 .left)) refl refl
+    entry-frame (c .before .before .before .before .before .before .before .before .before .before .before .before .args .words .now ++ c .before .before .before .before .before .before .before .before .before .before .before .before .args .second .now) (c .before .before .before .before .before .before .before .before .before .before .before .before .args .marks .now) (c .before .before .before .before .before .before .before .before .before .before .before .before .args .look) _ (c .before .before .before .before .before .before .before .before .before .before .before .before .args .w) _ (c .before .before .before .before .before .before .before .before .before .before .before .before .args .marks .now) _ _ (sym (c .before .before .before .before .before .before .before .before .read-word .ensures) ∙ c .before .before .before .before .before .before .e .given .1)
+    (met-by-size (keptIn (c .before .before .before .before .before .before .before .before .before .before .before .before .args .look)) _ (c .before .before .before .before .before .before .before .before .before .before .before .before .pre .1 .0 .low) (c .before .before .before .before .size-at .ensures) (c .before .meets-area .ensures) (c .if1 .left)) refl refl
 
 entry-check-same-length : (t : ℕ) → entry-check-lts.Need-same-length (entry-claims t) (entry-check-at t) entry-check.Post
-entry-check-same-length t c = c .before .before .table-check .kept .1 .0
+entry-check-same-length t c = c .before .before .table-check .kept .1 .1 .0
 
 entry-check-returns-4 : (t : ℕ) → entry-check-lts.Need-returns-4 (entry-claims t) (entry-check-at t) entry-check.Post
 entry-check-returns-4 t c =
-    entry-child _ _ _ _ _ _ _ (c .before .before .before .before .before .before .before .before .word .ensures) _ _ _ (sym (c .before .before .before .before .before .before .before .read-word .ensures) ∙ c .before .before .before .before .before .e2 .given .1)
-    (c .before .before .table-check .ensures)
+    entry-child (c .before .before .before .before .before .before .before .before .before .before .before .args .words .now ++ c .before .before .before .before .before .before .before .before .before .before .before .args .second .now) _ (c .before .before .before .before .before .before .before .before .before .before .before .args .look) _ (c .before .before .before .before .before .before .before .before .before .before .before .args .w) _ _ _ (sym (c .before .before .before .before .before .before .before .read-word .ensures) ∙ c .before .before .before .before .before .e2 .given .1) (c .before .before .table-check .ensures)
 
 entry-check-returns-5 : (t : ℕ) → entry-check-lts.Need-returns-5 (entry-claims t) (entry-check-at t) entry-check.Post
 entry-check-returns-5 t c =
-    let a = c .before .before .before .before .before .before .args in
-    entry-damaged (a .words .now) (a .marks .now) _ _ (a .t) (512 - a .left) _ (c .before .before .before .word .ensures) _ (a .marks .now) (sym (c .before .before .read-word .ensures) ∙ c .enum-told2 .given .1) refl
+    entry-damaged (c .before .before .before .before .before .before .args .words .now ++ c .before .before .before .before .before .before .args .second .now) (c .before .before .before .before .before .before .args .marks .now) (c .before .before .before .before .before .before .args .look) _ (c .before .before .before .before .before .before .args .w) _ (c .before .before .before .before .before .before .args .marks .now) (sym (c .before .before .read-word .ensures) ∙ c .enum-told2 .given .1) refl
 
 abbrev table-check-Inv-loop : table-check-lts.InvT-loop
-table-check-Inv-loop words marks₀ base n t height tables₀ mappings₀ left₀ marks tables mappings left =
-    Loop words (areaAt base n) height t marks₀ tables₀ mappings₀ marks tables mappings left
+table-check-Inv-loop words second marks₀ look t height part tables₀ mappings₀ left₀ marks tables mappings left =
+    Loop (words ++ second) look height t marks₀ tables₀ mappings₀ marks tables mappings left
 
 abbrev table-check-μ-loop : table-check-lts.MeasureT-loop
-table-check-μ-loop words marks₀ base n t height tables₀ mappings₀ left₀ marks tables mappings left = left
+table-check-μ-loop words second marks₀ look t height part tables₀ mappings₀ left₀ marks tables mappings left = left
 
 table-check-is-fresh-requires : (t : ℕ) → table-check-lts.Need-is-fresh-requires (table-claims t) (table-check-at t) table-check.Post table-check-Inv-loop table-check-μ-loop
-table-check-is-fresh-requires t c κs = search needs
+table-check-is-fresh-requires t c κs = omega (arith, c .before .before .before .before .pre .1 .0 .marked, c .before .before .before .before .pre .1 .0 .inside)
 
 table-check-same-length : (t : ℕ) → table-check-lts.Need-same-length (table-claims t) (table-check-at t) table-check.Post table-check-Inv-loop table-check-μ-loop
 table-check-same-length t c = search needs
 
 table-check-returns : (t : ℕ) → table-check-lts.Need-returns (table-claims t) (table-check-at t) table-check.Post table-check-Inv-loop table-check-μ-loop
-table-check-returns t c =
-    table-stale _ _ _ _ _ (sym (c .before .is-fresh .ensures) ∙ not-true _ (c .if1 .taken))
+table-check-returns t c = table-stale _ _ _ _ _ (sym (c .before .is-fresh .ensures (c .before .before .before .before .before .before .args .look .tables) (c .before .before .before .before .before .before .pre .1 .1 .cut-is)) ∙ not-true _ (c .if1 .taken))
 
 table-check-slice-write-marks : (t : ℕ) → table-check-lts.Need-slice-write-marks (table-claims t) (table-check-at t) table-check.Post table-check-Inv-loop table-check-μ-loop
-table-check-slice-write-marks t c = search needs
+table-check-slice-write-marks t c = omega (arith, c .before .before .before .before .before .before .pre .1 .0 .marked, c .before .before .before .before .before .before .pre .1 .0 .inside)
+
+table-check-table-part-requires : (t : ℕ) → table-check-lts.Need-table-part-requires (table-claims t) (table-check-at t) table-check.Post table-check-Inv-loop table-check-μ-loop
+table-check-table-part-requires t c κs = search needs
 
 table-check-pages-check-requires : (t : ℕ) → table-check-lts.Need-pages-check-requires (table-claims t) (table-check-at t) table-check.Post table-check-Inv-loop table-check-μ-loop
-table-check-pages-check-requires t c κs =
-    (omega (arith, c .before .before .before .before .before .before .pre .1 .1, c .before .before .before .before .before .before .pre .1 .0 .inside), c .before .before .before .before .before .before .pre .1 .0 .placed)
+table-check-pages-check-requires t c κs = ((ap length (c .before .table-part .ensures (c .before .before .before .before .before .before .before .before .args .look .tables) (c .before .before .before .before .before .before .before .before .pre .1 .1 .cut-is)) ∙ part-long (c .before .before .before .before .before .before .before .before .args .words .now) (c .before .before .before .before .before .before .before .before .args .second .now) (c .before .before .before .before .before .before .before .before .pre .1 .0) (c .before .before .before .before .before .before .before .before .pre .1 .1)), c .before .before .before .before .before .before .before .before .pre .1 .0 .placed)
 
 table-check-same-length-2 : (t : ℕ) → table-check-lts.Need-same-length-2 (table-claims t) (table-check-at t) table-check.Post table-check-Inv-loop table-check-μ-loop
 table-check-same-length-2 t c = simp length-set
 
 table-check-returns-2 : (t : ℕ) → table-check-lts.Need-returns-2 (table-claims t) (table-check-at t) table-check.Post table-check-Inv-loop table-check-μ-loop
 table-check-returns-2 t c =
-    rw (c .before .if2 .taken) (c .pages-check .ensures _ (sym (c .before .before .before .is-fresh .ensures) ∙ not-false _ (c .before .before .if1 .left)))
+    rw (c .before .if2 .taken) (c .pages-check .ensures _ _ (c .before .before .table-part .ensures (c .before .before .before .before .before .before .before .before .before .args .look .tables) (c .before .before .before .before .before .before .before .before .before .pre .1 .1 .cut-is)) _ (sym (c .before .before .before .before .is-fresh .ensures (c .before .before .before .before .before .before .before .before .before .args .look .tables) (c .before .before .before .before .before .before .before .before .before .pre .1 .1 .cut-is)) ∙ not-false _ (c .before .before .before .if1 .left)))
 
 table-check-skip-empty-requires : (t : ℕ) → table-check-lts.Need-skip-empty-requires (table-claims t) (table-check-at t) table-check.Post table-check-Inv-loop table-check-μ-loop
-table-check-skip-empty-requires t c κs = (omega arith, omega (arith, c .before .before .before .before .before .before .pre .1 .1, c .before .before .before .before .before .before .pre .1 .0 .inside))
+table-check-skip-empty-requires t c κs = (omega arith, (ap length (c .before .table-part .ensures (c .before .before .before .before .before .before .before .before .args .look .tables) (c .before .before .before .before .before .before .before .before .pre .1 .1 .cut-is)) ∙ part-long (c .before .before .before .before .before .before .before .before .args .words .now) (c .before .before .before .before .before .before .before .before .args .second .now) (c .before .before .before .before .before .before .before .before .pre .1 .0) (c .before .before .before .before .before .before .before .before .pre .1 .1)))
 
 table-check-loop-holds : (t : ℕ) → table-check-lts.Need-loop-holds (table-claims t) (table-check-at t) table-check.Post table-check-Inv-loop table-check-μ-loop
-table-check-loop-holds t c = loop-skip (table-starts _ _ _ _ _ (c .before .before .before .before .before .before .before .pre .1 .0 .low)) _ (c .skip-empty .ensures)
+table-check-loop-holds t c =
+    loop-skip (table-starts (c .before .before .before .before .before .before .before .before .before .args .words .now ++ c .before .before .before .before .before .before .before .before .before .args .second .now) (c .before .before .before .before .before .before .before .before .before .args .look) _ _ _ (c .before .before .before .before .before .before .before .before .before .pre .1 .0 .low)) _ (part-skips (c .before .before .before .before .before .before .before .before .before .args .words .now ++ c .before .before .before .before .before .before .before .before .before .args .second .now) _ _ (c .before .before .table-part .ensures (c .before .before .before .before .before .before .before .before .before .args .look .tables) (c .before .before .before .before .before .before .before .before .before .pre .1 .1 .cut-is)) _ _ (omega arith) (c .skip-empty .ensures))
+
+table-check-sub-w : (t : ℕ) → table-check-lts.Need-sub-w (table-claims t) (table-check-at t) table-check.Post table-check-Inv-loop table-check-μ-loop
+table-check-sub-w t c = omega (arith, c .before .loop .inv .few-left)
+
+table-check-mul-w : (t : ℕ) → table-check-lts.Need-mul-w (table-claims t) (table-check-at t) table-check.Post table-check-Inv-loop table-check-μ-loop
+table-check-mul-w t c = search needs
+
+table-check-shared-slice-read-w : (t : ℕ) → table-check-lts.Need-shared-slice-read-w (table-claims t) (table-check-at t) table-check.Post table-check-Inv-loop table-check-μ-loop
+table-check-shared-slice-read-w t c = omega (arith, c .before .loop-test .taken, (ap length (c .before .before .before .before .before .table-part .ensures (c .before .before .before .before .before .before .before .before .before .before .before .before .args .look .tables) (c .before .before .before .before .before .before .before .before .before .before .before .before .pre .1 .1 .cut-is)) ∙ part-long (c .before .before .before .before .before .before .before .before .before .before .before .before .args .words .now) (c .before .before .before .before .before .before .before .before .before .before .before .before .args .second .now) (c .before .before .before .before .before .before .before .before .before .before .before .before .pre .1 .0) (c .before .before .before .before .before .before .before .before .before .before .before .before .pre .1 .1)))
 
 table-check-entry-check-requires : (t : ℕ) → table-check-lts.Need-entry-check-requires (table-claims t) (table-check-at t) table-check.Post table-check-Inv-loop table-check-μ-loop
 table-check-entry-check-requires t c κs =
-    let fit = table-entry (c .before .before .before .before .before .before .before .before .before .before .pre .1 .0) (c .before .before .loop .inv) (c .before .loop-test .taken) in
-    (omega (arith, fit .few-left, c .before .before .before .before .before .before .before .before .before .before .pre .0), (fit, c .before .before .before .before .before .before .before .before .before .before .pre .1 .1))
+    (omega (arith, c .before .before .before .before .before .before .before .before .before .before .before .before .before .pre .0), (table-entry (c .before .before .before .before .before .before .before .before .before .before .before .before .before .pre .1 .0) (c .before .before .before .loop .inv), c .before .before .before .before .before .before .before .before .before .before .before .before .before .pre .1 .1))
 
 table-check-enum-known-r : (t : ℕ) → table-check-lts.Need-enum-known-r (table-claims t) (table-check-at t) table-check.Post table-check-Inv-loop table-check-μ-loop
 table-check-enum-known-r t c = c .match .keys1
 
 table-check-add-tables : (t : ℕ) → table-check-lts.Need-add-tables (table-claims t) (table-check-at t) table-check.Post table-check-Inv-loop table-check-μ-loop
-table-check-add-tables t c = record { fits = loop-few (c .before .before .before .before .before .before .before .before .loop .inv) (c .before .before .before .before .before .before .before .loop-test .taken) _ _ _ (rw (c .before .r .given .1) at (c .before .before .before .before .before .entry-check .ensures)) .0 }
+table-check-add-tables t c = record { fits = loop-few (c .before .before .before .before .before .before .before .before .before .loop .inv) (c .before .before .before .before .before .before .before .before .loop-test .taken) _ _ _ (at-word (c .before .before .before .before .before .before .before .before .before .before .before .before .before .before .before .before .before .before .before .args .words .now ++ c .before .before .before .before .before .before .before .before .before .before .before .before .before .before .before .before .before .before .before .args .second .now) (c .before .before .before .before .before .before .before .before .before .before .before .before .before .before .before .before .before .before .before .args .look) (c .before .before .before .before .before .before .before .before .before .before .before .before .before .before .before .before .before .before .before .args .height) (c .before .before .before .before .before .before .before .before .before .before .before .before .before .before .before .before .before .before .before .args .t) (512 - c .before .before .before .before .before .before .before .before .before .loop .left) _ _ _ (part-word (c .before .before .before .before .before .before .before .before .before .before .before .before .before .before .before .before .before .before .before .args .words .now ++ c .before .before .before .before .before .before .before .before .before .before .before .before .before .before .before .before .before .before .before .args .second .now) _ (c .before .before .before .before .before .before .before .before .before .before .before .before .before .before .before .before .before .before .before .args .t) (c .before .before .before .before .before .before .before .before .before .before .before .before .table-part .ensures (c .before .before .before .before .before .before .before .before .before .before .before .before .before .before .before .before .before .before .before .args .look .tables) (c .before .before .before .before .before .before .before .before .before .before .before .before .before .before .before .before .before .before .before .pre .1 .1 .cut-is)) _ (omega (arith, c .before .before .before .before .before .before .before .before .loop-test .taken))) (rw (c .before .r .given .1) at (c .before .before .before .before .before .entry-check .ensures))) .0 }
 
 table-check-add-mappings : (t : ℕ) → table-check-lts.Need-add-mappings (table-claims t) (table-check-at t) table-check.Post table-check-Inv-loop table-check-μ-loop
-table-check-add-mappings t c = record { fits = loop-few (c .before .before .before .before .before .before .before .before .loop .inv) (c .before .before .before .before .before .before .before .loop-test .taken) _ _ _ (rw (c .before .r .given .1) at (c .before .before .before .before .before .entry-check .ensures)) .1 }
+table-check-add-mappings t c = record { fits = loop-few (c .before .before .before .before .before .before .before .before .before .loop .inv) (c .before .before .before .before .before .before .before .before .loop-test .taken) _ _ _ (at-word (c .before .before .before .before .before .before .before .before .before .before .before .before .before .before .before .before .before .before .before .args .words .now ++ c .before .before .before .before .before .before .before .before .before .before .before .before .before .before .before .before .before .before .before .args .second .now) (c .before .before .before .before .before .before .before .before .before .before .before .before .before .before .before .before .before .before .before .args .look) (c .before .before .before .before .before .before .before .before .before .before .before .before .before .before .before .before .before .before .before .args .height) (c .before .before .before .before .before .before .before .before .before .before .before .before .before .before .before .before .before .before .before .args .t) (512 - c .before .before .before .before .before .before .before .before .before .loop .left) _ _ _ (part-word (c .before .before .before .before .before .before .before .before .before .before .before .before .before .before .before .before .before .before .before .args .words .now ++ c .before .before .before .before .before .before .before .before .before .before .before .before .before .before .before .before .before .before .before .args .second .now) _ (c .before .before .before .before .before .before .before .before .before .before .before .before .before .before .before .before .before .before .before .args .t) (c .before .before .before .before .before .before .before .before .before .before .before .before .table-part .ensures (c .before .before .before .before .before .before .before .before .before .before .before .before .before .before .before .before .before .before .before .args .look .tables) (c .before .before .before .before .before .before .before .before .before .before .before .before .before .before .before .before .before .before .before .pre .1 .1 .cut-is)) _ (omega (arith, c .before .before .before .before .before .before .before .before .loop-test .taken))) (rw (c .before .r .given .1) at (c .before .before .before .before .before .entry-check .ensures))) .1 }
 
 table-check-enum-told : (t : ℕ) → table-check-lts.Need-enum-told (table-claims t) (table-check-at t) table-check.Post table-check-Inv-loop table-check-μ-loop
 table-check-enum-told t c = c .match .keys2
 
 table-check-same-length-3 : (t : ℕ) → table-check-lts.Need-same-length-3 (table-claims t) (table-check-at t) table-check.Post table-check-Inv-loop table-check-μ-loop
-table-check-same-length-3 t c =
-    c .before .before .before .before .entry-check .kept .1 .0 ∙ c .before .before .before .before .before .before .before .loop .inv .carried .long ∙ simp length-set
+table-check-same-length-3 t c = c .before .before .before .before .entry-check .kept .1 .1 .0 ∙ c .before .before .before .before .before .before .before .before .loop .inv .carried .long ∙ simp length-set
 
 table-check-returns-3 : (t : ℕ) → table-check-lts.Need-returns-3 (table-claims t) (table-check-at t) table-check.Post table-check-Inv-loop table-check-μ-loop
 table-check-returns-3 t c =
-    table-fresh _ _ _ _ _ (sym (c .before .before .before .before .before .before .before .before .before .before .before .is-fresh .ensures) ∙ not-false _ (c .before .before .before .before .before .before .before .before .before .before .if1 .left)) _ _
-    (loop-bad (c .before .before .before .before .before .before .before .loop .inv) (c .before .before .before .before .before .before .loop-test .taken) _ _ (rw (c .enum-told .given .1) at (c .before .before .before .before .entry-check .ensures)))
+    table-fresh _ _ _ _ _ (sym (c .before .before .before .before .before .before .before .before .before .before .before .before .before .is-fresh .ensures (c .before .before .before .before .before .before .before .before .before .before .before .before .before .before .before .before .before .before .args .look .tables) (c .before .before .before .before .before .before .before .before .before .before .before .before .before .before .before .before .before .before .pre .1 .1 .cut-is)) ∙ not-false _ (c .before .before .before .before .before .before .before .before .before .before .before .before .if1 .left)) _ _
+    (loop-bad (c .before .before .before .before .before .before .before .before .loop .inv) (c .before .before .before .before .before .before .before .loop-test .taken) _ _ (at-word (c .before .before .before .before .before .before .before .before .before .before .before .before .before .before .before .before .before .before .args .words .now ++ c .before .before .before .before .before .before .before .before .before .before .before .before .before .before .before .before .before .before .args .second .now) (c .before .before .before .before .before .before .before .before .before .before .before .before .before .before .before .before .before .before .args .look) (c .before .before .before .before .before .before .before .before .before .before .before .before .before .before .before .before .before .before .args .height) (c .before .before .before .before .before .before .before .before .before .before .before .before .before .before .before .before .before .before .args .t) (512 - c .before .before .before .before .before .before .before .before .loop .left) _ _ _ (part-word (c .before .before .before .before .before .before .before .before .before .before .before .before .before .before .before .before .before .before .args .words .now ++ c .before .before .before .before .before .before .before .before .before .before .before .before .before .before .before .before .before .before .args .second .now) _ (c .before .before .before .before .before .before .before .before .before .before .before .before .before .before .before .before .before .before .args .t) (c .before .before .before .before .before .before .before .before .before .before .before .table-part .ensures (c .before .before .before .before .before .before .before .before .before .before .before .before .before .before .before .before .before .before .args .look .tables) (c .before .before .before .before .before .before .before .before .before .before .before .before .before .before .before .before .before .before .pre .1 .1 .cut-is)) _ (omega (arith, c .before .before .before .before .before .before .before .loop-test .taken))) (rw (c .enum-told .given .1) at (c .before .before .before .before .entry-check .ensures))))
 
 table-check-sub-skip-empty : (t : ℕ) → table-check-lts.Need-sub-skip-empty (table-claims t) (table-check-at t) table-check.Post table-check-Inv-loop table-check-μ-loop
 table-check-sub-skip-empty t c = search needs
 
 table-check-skip-empty-requires-2 : (t : ℕ) → table-check-lts.Need-skip-empty-requires-2 (table-claims t) (table-check-at t) table-check.Post table-check-Inv-loop table-check-μ-loop
-table-check-skip-empty-requires-2 t c κs =
-    (omega (arith, c .before .before .before .before .before .before .before .before .loop .inv .few-left), omega (arith, c .before .before .before .before .before .before .before .before .before .before .before .before .before .before .before .before .pre .1 .1, c .before .before .before .before .before .before .before .before .before .before .before .before .before .before .before .before .pre .1 .0 .inside))
+table-check-skip-empty-requires-2 t c κs = (omega (arith, c .before .before .before .before .before .before .before .before .before .loop .inv .few-left), (ap length (c .before .before .before .before .before .before .before .before .before .before .before .before .table-part .ensures (c .before .before .before .before .before .before .before .before .before .before .before .before .before .before .before .before .before .before .before .args .look .tables) (c .before .before .before .before .before .before .before .before .before .before .before .before .before .before .before .before .before .before .before .pre .1 .1 .cut-is)) ∙ part-long (c .before .before .before .before .before .before .before .before .before .before .before .before .before .before .before .before .before .before .before .args .words .now) (c .before .before .before .before .before .before .before .before .before .before .before .before .before .before .before .before .before .before .before .args .second .now) (c .before .before .before .before .before .before .before .before .before .before .before .before .before .before .before .before .before .before .before .pre .1 .0) (c .before .before .before .before .before .before .before .before .before .before .before .before .before .before .before .before .before .before .before .pre .1 .1)))
 
 table-check-loop-less : (t : ℕ) → table-check-lts.Need-loop-less (table-claims t) (table-check-at t) table-check.Post table-check-Inv-loop table-check-μ-loop
-table-check-loop-less t c = omega (arith, c .skip-empty2 .ensures .0, c .before .before .before .before .before .before .before .before .loop-test .taken)
+table-check-loop-less t c = omega (arith, c .skip-empty2 .ensures .0, c .before .before .before .before .before .before .before .before .before .loop-test .taken)
 
 table-check-loop-again : (t : ℕ) → table-check-lts.Need-loop-again (table-claims t) (table-check-at t) table-check.Post table-check-Inv-loop table-check-μ-loop
 table-check-loop-again t c =
     loop-skip
-    (loop-more (c .before .before .before .before .before .before .before .before .before .loop .inv) (c .before .before .before .before .before .before .before .before .loop-test .taken) _ _ _ (rw (c .before .before .r .given .1) at (c .before .before .before .before .before .before .entry-check .ensures)) (c .before .before .before .before .before .before .entry-check .kept .1 .0))
-    _ (c .skip-empty2 .ensures)
+    (loop-more (c .before .before .before .before .before .before .before .before .before .before .loop .inv) (c .before .before .before .before .before .before .before .before .before .loop-test .taken) _ _ _ (at-word (c .before .before .before .before .before .before .before .before .before .before .before .before .before .before .before .before .before .before .before .before .args .words .now ++ c .before .before .before .before .before .before .before .before .before .before .before .before .before .before .before .before .before .before .before .before .args .second .now) (c .before .before .before .before .before .before .before .before .before .before .before .before .before .before .before .before .before .before .before .before .args .look) (c .before .before .before .before .before .before .before .before .before .before .before .before .before .before .before .before .before .before .before .before .args .height) (c .before .before .before .before .before .before .before .before .before .before .before .before .before .before .before .before .before .before .before .before .args .t) (512 - c .before .before .before .before .before .before .before .before .before .before .loop .left) _ _ _ (part-word (c .before .before .before .before .before .before .before .before .before .before .before .before .before .before .before .before .before .before .before .before .args .words .now ++ c .before .before .before .before .before .before .before .before .before .before .before .before .before .before .before .before .before .before .before .before .args .second .now) _ (c .before .before .before .before .before .before .before .before .before .before .before .before .before .before .before .before .before .before .before .before .args .t) (c .before .before .before .before .before .before .before .before .before .before .before .before .before .table-part .ensures (c .before .before .before .before .before .before .before .before .before .before .before .before .before .before .before .before .before .before .before .before .args .look .tables) (c .before .before .before .before .before .before .before .before .before .before .before .before .before .before .before .before .before .before .before .before .pre .1 .1 .cut-is)) _ (omega (arith, c .before .before .before .before .before .before .before .before .before .loop-test .taken))) (rw (c .before .before .r .given .1) at (c .before .before .before .before .before .before .entry-check .ensures))) (c .before .before .before .before .before .before .entry-check .kept .1 .1 .0))
+    _ (part-skips (c .before .before .before .before .before .before .before .before .before .before .before .before .before .before .before .before .before .before .before .before .args .words .now ++ c .before .before .before .before .before .before .before .before .before .before .before .before .before .before .before .before .before .before .before .before .args .second .now) _ _ (c .before .before .before .before .before .before .before .before .before .before .before .before .before .table-part .ensures (c .before .before .before .before .before .before .before .before .before .before .before .before .before .before .before .before .before .before .before .before .args .look .tables) (c .before .before .before .before .before .before .before .before .before .before .before .before .before .before .before .before .before .before .before .before .pre .1 .1 .cut-is)) _ _ (omega (arith, c .before .before .before .before .before .before .before .before .before .before .loop .inv .few-left)) (c .skip-empty2 .ensures))
 
 table-check-same-length-4 : (t : ℕ) → table-check-lts.Need-same-length-4 (table-claims t) (table-check-at t) table-check.Post table-check-Inv-loop table-check-μ-loop
 table-check-same-length-4 t c = c .before .loop .inv .carried .long ∙ simp length-set
 
 table-check-returns-4 : (t : ℕ) → table-check-lts.Need-returns-4 (table-claims t) (table-check-at t) table-check.Post table-check-Inv-loop table-check-μ-loop
 table-check-returns-4 t c =
-    table-fresh _ _ _ _ _ (sym (c .before .before .before .before .before .is-fresh .ensures) ∙ not-false _ (c .before .before .before .before .if1 .left)) _ _
+    table-fresh _ _ _ _ _ (sym (c .before .before .before .before .before .before .is-fresh .ensures (c .before .before .before .before .before .before .before .before .before .before .before .args .look .tables) (c .before .before .before .before .before .before .before .before .before .before .before .pre .1 .1 .cut-is)) ∙ not-false _ (c .before .before .before .before .before .if1 .left)) _ _
     (loop-end (c .before .loop .inv) (c .loop-test .left))
 
 pub +entry-check+table-check-spec : {M : Type 1} → statement M
 +entry-check+table-check-spec =
     close μ-entry-check μ-table-check
     (λ t. entry-check-lts.spec (entry-claims t) (entry-check-at t) entry-check.Post
-    (entry-check-mul-word t)
-    (entry-check-sub-word t)
-    (entry-check-add-word t)
-    (entry-check-word-requires t)
     (entry-check-read-word-requires t)
     (entry-check-enum-told t)
     (entry-check-enum-known-e t)
     (entry-check-size-at-requires t)
+    (entry-check-cast-first t)
+    (entry-check-cast-more t)
     (entry-check-meets-area-requires t)
     (entry-check-returns t)
     (entry-check-enum-known-e-2 t)
@@ -257,11 +255,15 @@ pub +entry-check+table-check-spec : {M : Type 1} → statement M
     (table-check-same-length t)
     (table-check-returns t)
     (table-check-slice-write-marks t)
+    (table-check-table-part-requires t)
     (table-check-pages-check-requires t)
     (table-check-same-length-2 t)
     (table-check-returns-2 t)
     (table-check-skip-empty-requires t)
     (table-check-loop-holds t)
+    (table-check-sub-w t)
+    (table-check-mul-w t)
+    (table-check-shared-slice-read-w t)
     (table-check-entry-check-requires t)
     (table-check-enum-known-r t)
     (table-check-add-tables t)

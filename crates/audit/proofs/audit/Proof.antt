@@ -1,8 +1,9 @@
 -- `audit` meets its contract.
-use mathlib.Core.Path.{_≡_, sym, _∙_}
+use mathlib.Core.Path.{_≡_, refl, sym, _∙_}
 use mathlib.Core.Bool.{true}
+use mathlib.Core.List.{_++_}
 use native.Mathlib.Omega.{arith}
-use lib.ListN.{length}
+use lib.ListN.{length, length-append}
 use borrow.Author.Needs.{needs}
 use borrow.Author.Tests.{not-true, not-false}
 use Rattle.path.specs.Geometry.{four}
@@ -11,7 +12,8 @@ use Rattle.path.specs.Laws.{good-setup}
 use Rattle.model.specs.Answers.{Pool, pool}
 use Rattle.model.specs.Calls.{goodPool}
 use Rattle.model.specs.AuditLaws.{audit-bad}
-use Rattle.audit.proofs.Whole.{root-fit, whole-clash, whole-miscount, whole-unfree, whole-sound}
+use Rattle.model.specs.Refusing.{good-both}
+use Rattle.audit.proofs.Whole.{strictly, rooted, root-fit, whole-clash, whole-miscount, whole-unfree, whole-sound}
 use Rattle.audit.proofs.audit.Statement.{statement}
 use Rattle.audit.proofs.audit.Tie as tie
 use Rattle.audit.proofs.audit.Reads as reads
@@ -35,68 +37,81 @@ abbrev Past : Type 0
 Past = lts.Else1 claims reads.Pre reads.Post
 
 abbrev at : Past → Pool
-at c = pool (c .before .before .before .before .args .s) (c .before .before .before .before .args .words .now) (c .before .before .before .before .args .list .now)
+at c =
+    let a = c .before .before .before .before .before .args in
+    pool (a .s) (a .words .now ++ a .second .now) (length (a .words .now)) (a .list .now)
 
 good : (c : Past) → goodPool four (at c) ≡ true
-good c = sym (c .before .good-setup .ensures) ∙ not-false _ (c .if1 .left)
+good c =
+    let a = c .before .before .before .before .before .args in
+    sym (good-both (a .s) (a .words .now) (a .second .now) (a .list .now) (c .before .good-setup .ensures)) ∙ not-false _ (c .if1 .left)
 
-numbers : (c : Past) → GoodSetup four (at c .numbers) (length (at c .words)) (length (at c .list))
+numbers : (c : Past) → GoodSetup four (at c .numbers) (at c .cut) (length (at c .words)) (length (at c .list))
 numbers c = good-setup (good c)
 
 good-setup-requires : tie.Need-good-setup-requires
 good-setup-requires c κs = search needs
 
 returns : tie.Need-returns
-returns c = sym (audit-bad four _ (sym (c .before .good-setup .ensures) ∙ not-true _ (c .if1 .taken)))
+returns c =
+    let a = c .before .before .before .before .before .args in
+    sym (audit-bad four (pool (a .s) (a .words .now ++ a .second .now) (length (a .words .now)) (a .list .now)) (sym (good-both (a .s) (a .words .now) (a .second .now) (a .list .now) (c .before .good-setup .ensures)) ∙ not-true _ (c .if1 .taken)))
 
 cast-n : tie.Need-cast-n
 cast-n c = omega (arith, numbers (c .before) .numbers .few)
+
+cast-m : tie.Need-cast-m
+cast-m c = omega (arith, numbers (c .before .before) .numbers .few)
+
+add-all : tie.Need-add-all
+add-all c = omega (arith, numbers (c .before .before .before) .numbers .few)
 
 slice-aggregate-table-check : tie.Need-slice-aggregate-table-check
 slice-aggregate-table-check c = search needs
 
 sub-table-check : tie.Need-sub-table-check
-sub-table-check c = omega (arith, numbers (c .before .before .before) .numbers .enough)
+sub-table-check c = omega (arith, numbers (c .before .before .before .before .before) .numbers .enough)
 
 table-check-requires : tie.Need-table-check-requires
 table-check-requires c κs =
-    let p = c .before .before .before in
-    (root-fit (at p) (good p), omega (arith, numbers p .numbers .words-are))
+    let p = c .before .before .before .before .before in
+    root-fit {look = strictly (c .before .before .before .before .before .before .before .before .before .before .args .s)} (rooted (at p) (good p) _ (length-append (c .before .before .before .before .before .before .before .before .before .before .args .words .now) (c .before .before .before .before .before .before .before .before .before .before .args .second .now))) refl refl (numbers p .numbers .placed)
 
 enum-known-r : tie.Need-enum-known-r
 enum-known-r c = search needs
 
 sub-if2 : tie.Need-sub-if2
-sub-if2 c = omega (arith, numbers (c .before .before .before .before .before .before .before .before .before) .room)
+sub-if2 c = omega (arith, numbers (c .before .before .before .before .before .before .before .before .before .before .before) .room)
 
 returns-2 : tie.Need-returns-2
 returns-2 c =
-    whole-miscount (at (c .before .before .before .before .before .before .before .before .before .before)) (good (c .before .before .before .before .before .before .before .before .before .before)) _ _ _ (rw (c .before .before .before .r .given .1) at (c .before .before .before .before .before .before .table-check .ensures)) (λ e. omega (arith, e, c .if2 .taken))
+    whole-miscount (at (c .before .before .before .before .before .before .before .before .before .before .before .before)) (good (c .before .before .before .before .before .before .before .before .before .before .before .before)) _ _ _ (rw (c .before .before .before .r .given .1) at (c .before .before .before .before .before .before .table-check .ensures)) (λ e. omega (arith, e, c .if2 .taken))
 
 slice-aggregate-free-check : tie.Need-slice-aggregate-free-check
 slice-aggregate-free-check c = search needs
 
+cast-free-check : tie.Need-cast-free-check
+cast-free-check c = omega (arith, numbers (c .before .before .before .before .before .before .before .before .before .before .before .before .before) .numbers .few)
+
 free-check-requires : tie.Need-free-check-requires
 free-check-requires c κs =
-    let s = numbers (c .before .before .before .before .before .before .before .before .before .before .before) in
-    (omega (arith, s .numbers .few, c .before .before .before .before .before .before .before .table-check .kept .1 .0), omega (arith, s .room, s .numbers .places-are))
+    let s = numbers (c .before .before .before .before .before .before .before .before .before .before .before .before .before) in
+    (omega (arith, s .numbers .few, c .before .before .before .before .before .before .before .table-check .kept .1 .1 .0), (omega (arith, s .room, s .numbers .places-are), record { tables = c .before .before .before .before .before .before .before .before .before .before .before .before .before .before .before .before .before .before .args .s .tables; whole = s .numbers .cut-is }))
 
 returns-3 : tie.Need-returns-3
 returns-3 c =
-    whole-unfree (at (c .before .before .before .before .before .before .before .before .before .before .before .before .before .before)) (good (c .before .before .before .before .before .before .before .before .before .before .before .before .before .before)) _ _ _ (rw (c .before .before .before .before .before .before .before .r .given .1) at (c .before .before .before .before .before .before .before .before .before .before .table-check .ensures))
-    (sym (not-true _ (c .if3 .taken)) ∙ c .before .before .free-check .ensures)
+    whole-unfree (at (c .before .before .before .before .before .before .before .before .before .before .before .before .before .before .before .before)) (good (c .before .before .before .before .before .before .before .before .before .before .before .before .before .before .before .before)) _ _ _ (rw (c .before .before .before .before .before .before .before .r .given .1) at (c .before .before .before .before .before .before .before .before .before .before .table-check .ensures)) (sym (not-true _ (c .if3 .taken)) ∙ c .before .before .free-check .ensures)
 
 enum-told : tie.Need-enum-told
 enum-told c = search needs
 
 returns-4 : tie.Need-returns-4
 returns-4 c =
-    whole-sound (at (c .before .before .before .before .before .before .before .before .before .before .before .before .before .before)) (good (c .before .before .before .before .before .before .before .before .before .before .before .before .before .before)) _ _ _ (rw (c .before .before .before .before .before .before .before .r .given .1) at (c .before .before .before .before .before .before .before .before .before .before .table-check .ensures))
-    (omega (arith, c .before .before .before .before .if2 .left))
-    (sym (not-false _ (c .if3 .left)) ∙ c .before .before .free-check .ensures)
+    whole-sound (at (c .before .before .before .before .before .before .before .before .before .before .before .before .before .before .before .before)) (good (c .before .before .before .before .before .before .before .before .before .before .before .before .before .before .before .before)) _ _ _ (rw (c .before .before .before .before .before .before .before .r .given .1) at (c .before .before .before .before .before .before .before .before .before .before .table-check .ensures)) (c .before .before .before .before .if2 .left) (sym (not-false _ (c .if3 .left)) ∙ c .before .before .free-check .ensures)
 
 returns-5 : tie.Need-returns-5
-returns-5 c = whole-clash (at (c .before .before .before .before .before .before .before)) (good (c .before .before .before .before .before .before .before)) _ (rw (c .enum-told .given .1) at (c .before .before .before .table-check .ensures))
+returns-5 c =
+    whole-clash (at (c .before .before .before .before .before .before .before .before .before)) (good (c .before .before .before .before .before .before .before .before .before)) _ (rw (c .enum-told .given .1) at (c .before .before .before .table-check .ensures))
 
 pub audit-spec : {M : Type 1} → statement M
 audit-spec =
@@ -105,6 +120,8 @@ audit-spec =
     good-setup-requires
     returns
     cast-n
+    cast-m
+    add-all
     slice-aggregate-table-check
     sub-table-check
     table-check-requires
@@ -112,6 +129,7 @@ audit-spec =
     sub-if2
     returns-2
     slice-aggregate-free-check
+    cast-free-check
     free-check-requires
     returns-3
     enum-told

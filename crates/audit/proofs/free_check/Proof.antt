@@ -1,5 +1,6 @@
 -- `free_check` meets its contract.
 use Prim.Native.Nat.{_-_}
+use mathlib.Core.List.{_++_}
 use mathlib.Core.Path.{sym, _∙_}
 use native.Mathlib.Omega.{arith}
 use borrow.Author.Needs.{needs}
@@ -9,10 +10,10 @@ use Rattle.audit.proofs.free_check.Statement.{statement}
 use Rattle.audit.proofs.free_check.Tie as tie
 
 abbrev Inv-loop : tie.InvT-loop
-Inv-loop words marks₀ list n f i₀ marks i = Run words n marks₀ list f marks i
+Inv-loop words second marks₀ list n f i₀ marks i = Run (words ++ second) n marks₀ list f marks i
 
 abbrev μ-loop : tie.MeasureT-loop
-μ-loop words marks₀ list n f i₀ marks i = f - i
+μ-loop words second marks₀ list n f i₀ marks i = f - i
 
 loop-holds : tie.Need-loop-holds Inv-loop μ-loop
 loop-holds c = run-starts _ _ _ _ _
@@ -27,7 +28,7 @@ same-length : tie.Need-same-length Inv-loop μ-loop
 same-length c = search needs
 
 returns : tie.Need-returns Inv-loop μ-loop
-returns c = run-out (c .before .before .before .loop .inv) (c .before .before .loop-test .taken) (c .before .before .before .before .before .before .before .pre .1) (omega (arith, c .if1 .taken))
+returns c = run-out (c .before .before .before .loop .inv) (c .before .before .loop-test .taken) (c .before .before .before .before .before .before .before .before .pre .1 .0) (omega (arith, c .if1 .taken))
 
 cast-place : tie.Need-cast-place Inv-loop μ-loop
 cast-place c = search needs
@@ -39,7 +40,7 @@ same-length-2 : tie.Need-same-length-2 Inv-loop μ-loop
 same-length-2 c = search needs
 
 returns-2 : tie.Need-returns-2 Inv-loop μ-loop
-returns-2 c = run-marked (c .before .before .before .before .before .loop .inv) (c .before .before .before .before .loop-test .taken) (c .before .before .before .before .before .before .before .before .before .pre .1) (omega (arith, c .before .before .if1 .left)) (c .if2 .taken)
+returns-2 c = run-marked (c .before .before .before .before .before .loop .inv) (c .before .before .before .before .loop-test .taken) (c .before .before .before .before .before .before .before .before .before .before .pre .1 .0) (omega (arith, c .before .before .if1 .left)) (c .if2 .taken)
 
 is-table-empty-requires : tie.Need-is-table-empty-requires Inv-loop μ-loop
 is-table-empty-requires c κs = search needs
@@ -49,8 +50,8 @@ same-length-3 c = search needs
 
 returns-3 : tie.Need-returns-3 Inv-loop μ-loop
 returns-3 c =
-    run-full (c .before .before .before .before .before .before .before .loop .inv) (c .before .before .before .before .before .before .loop-test .taken) (c .before .before .before .before .before .before .before .before .before .before .before .pre .1) (omega (arith, c .before .before .before .before .if1 .left)) (c .before .before .if2 .left)
-    (sym (c .before .is-table-empty .ensures) ∙ not-true _ (c .if3 .taken))
+    run-full (c .before .before .before .before .before .before .before .loop .inv) (c .before .before .before .before .before .before .loop-test .taken) (c .before .before .before .before .before .before .before .before .before .before .before .before .pre .1 .0) (omega (arith, c .before .before .before .before .if1 .left)) (c .before .before .if2 .left)
+    (sym (c .before .is-table-empty .ensures (c .before .before .before .before .before .before .before .before .before .before .before .before .pre .1 .1 .tables) (c .before .before .before .before .before .before .before .before .before .before .before .before .pre .1 .1 .whole)) ∙ not-true _ (c .if3 .taken))
 
 slice-write-marks : tie.Need-slice-write-marks Inv-loop μ-loop
 slice-write-marks c = search needs
@@ -63,8 +64,8 @@ loop-less c = search needs
 
 loop-again : tie.Need-loop-again Inv-loop μ-loop
 loop-again c =
-    run-more (c .before .before .before .before .before .before .before .loop .inv) (c .before .before .before .before .before .before .loop-test .taken) (c .before .before .before .before .before .before .before .before .before .before .before .pre .1) (omega (arith, c .before .before .before .before .if1 .left)) (c .before .before .if2 .left)
-    (sym (c .before .is-table-empty .ensures) ∙ not-false _ (c .if3 .left))
+    run-more (c .before .before .before .before .before .before .before .loop .inv) (c .before .before .before .before .before .before .loop-test .taken) (c .before .before .before .before .before .before .before .before .before .before .before .before .pre .1 .0) (omega (arith, c .before .before .before .before .if1 .left)) (c .before .before .if2 .left)
+    (sym (c .before .is-table-empty .ensures (c .before .before .before .before .before .before .before .before .before .before .before .before .pre .1 .1 .tables) (c .before .before .before .before .before .before .before .before .before .before .before .before .pre .1 .1 .whole)) ∙ not-false _ (c .if3 .left))
 
 same-length-4 : tie.Need-same-length-4 Inv-loop μ-loop
 same-length-4 c = search needs

@@ -1,7 +1,7 @@
 -- `is_page` meets its contract: the tables, and what the word is beside them.
-use native.Mathlib.Omega.{arith}
+use mathlib.Core.Path.{ap, subst}
 use borrow.Author.Needs.{needs}
-use Rattle.audit.proofs.Pages.{page-inside, page-beside}
+use Rattle.audit.proofs.Pages.{first-fit, second-fit, page-first, page-second, page-beside}
 use Rattle.audit.proofs.is_page.Statement.{statement}
 use Rattle.audit.proofs.is_page.Tie as tie
 
@@ -11,23 +11,29 @@ is-frame-requires c κs = search needs
 base-in-requires : tie.Need-base-in-requires
 base-in-requires c κs = search needs
 
-wrapping-sub-u64-requires : tie.Need-wrapping-sub-u64-requires
-wrapping-sub-u64-requires c κs = search needs
-
-mul-inside : tie.Need-mul-inside
-mul-inside c = search needs
+is-within-requires : tie.Need-is-within-requires
+is-within-requires c κs = rw (c .base-in .ensures) (first-fit (c .before .before .args .w) (c .before .before .args .look) (c .before .before .pre))
 
 returns : tie.Need-returns
-returns c =
-    let a = c .before .before .before .before .args in
-    page-inside (a .w) (a .base) (a .n) (c .before .before .before .before .pre) (c .before .before .base-in .ensures) (omega arith) (c .before .wrapping-sub-u64 .ensures) (c .if1 .taken)
+returns c = page-first (c .before .before .before .before .args .w) (c .before .before .before .before .args .look) (c .before .before .base-in .ensures) (c .before .is-within .ensures) (c .if1 .taken)
+
+is-within-requires-2 : tie.Need-is-within-requires-2
+is-within-requires-2 c κs = rw (c .before .before .base-in .ensures) (second-fit (c .before .before .before .before .args .w) (c .before .before .before .before .args .look) (c .before .before .before .before .pre))
 
 returns-2 : tie.Need-returns-2
-returns-2 c =
-    let a = c .before .before .before .before .args in
-    page-beside (a .w) (a .base) (a .n) (c .before .before .before .before .pre) (c .before .before .base-in .ensures) (omega arith) (c .before .wrapping-sub-u64 .ensures)
-    (c .before .before .before .is-frame .ensures) (c .if1 .left)
+returns-2 c = page-second (c .before .before .before .before .before .before .args .w) (c .before .before .before .before .before .before .args .look) (c .before .before .before .before .base-in .ensures) (c .before .before .before .is-within .ensures) (c .before .before .if1 .left) (c .before .is-within2 .ensures) (c .if2 .taken)
+
+returns-3 : tie.Need-returns-3
+returns-3 c = page-beside (c .before .before .before .before .before .before .args .w) (c .before .before .before .before .before .before .args .look) (c .before .before .before .before .base-in .ensures) (c .before .before .before .is-within .ensures) (c .before .before .if1 .left) (c .before .is-within2 .ensures) (c .if2 .left) (c .before .before .before .before .before .is-frame .ensures)
 
 pub is-page-spec : {M : Type 1} → statement M
 is-page-spec =
-    tie.close (tie.spec is-frame-requires base-in-requires wrapping-sub-u64-requires mul-inside returns returns-2)
+    tie.close
+    (tie.spec
+    is-frame-requires
+    base-in-requires
+    is-within-requires
+    returns
+    is-within-requires-2
+    returns-2
+    returns-3)

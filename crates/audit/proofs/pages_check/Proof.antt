@@ -1,39 +1,35 @@
 -- `pages_check` meets its contract, whatever the marks are.
-use Prim.Native.Nat.{ℕ}
-use mathlib.Core.Path.{refl, ap}
+use Prim.Native.Nat.{ℕ, _-_}
+use mathlib.Core.Path.{_≡_, refl, ap}
 use mathlib.Core.List.{List, []}
 use native.Mathlib.Omega.{arith}
 use borrow.Author.Needs.{needs}
 use lib.ListN.{getD, set}
-use Rattle.path.specs.Areas.{areaAt}
-use Rattle.audit.proofs.Tables.{table-fresh}
+use Rattle.path.specs.Geometry.{four}
+use Rattle.model.specs.Audit.{tableWords}
+use Rattle.audit.proofs.Tables.{table-fresh, part-own, part-word}
 use Rattle.audit.proofs.Pages.{Pages, pages-start, pages-more, pages-good, pages-bad}
 use Rattle.audit.proofs.pages_check.Statement.{statement}
 use Rattle.audit.proofs.pages_check.Tie as tie
 
+-- whatever table these are the words of
 abbrev Inv-loop : tie.InvT-loop
-Inv-loop words base n t end empty₀ pages₀ left₀ empty pages left = (M : List ℕ) → Pages words (areaAt base n) t M empty pages left
+Inv-loop part look empty₀ pages₀ left₀ empty pages left = (ws : List ℕ) (t : ℕ) → part ≡ tableWords four ws t → (M : List ℕ) → Pages ws look t M empty pages left
 
 abbrev μ-loop : tie.MeasureT-loop
-μ-loop words base n t end empty₀ pages₀ left₀ empty pages left = left
-
-mul-end : tie.Need-mul-end Inv-loop μ-loop
-mul-end c = search needs
-
-add-end : tie.Need-add-end Inv-loop μ-loop
-add-end c = search needs
+μ-loop part look empty₀ pages₀ left₀ empty pages left = left
 
 loop-holds : tie.Need-loop-holds Inv-loop μ-loop
-loop-holds c = λ M. pages-start _ _ _ M
+loop-holds c = λ ws t e M. pages-start ws _ t M
 
 sub-w : tie.Need-sub-w Inv-loop μ-loop
-sub-w c = omega (arith, c .before .loop .inv [])
+sub-w c = omega (arith, c .before .loop .inv (c .before .before .before .args .part .now) 0 (part-own (c .before .before .before .args .part .now) (c .before .before .before .pre .0)) [])
 
 mul-w : tie.Need-mul-w Inv-loop μ-loop
 mul-w c = search needs
 
 shared-slice-read-w : tie.Need-shared-slice-read-w Inv-loop μ-loop
-shared-slice-read-w c = search needs
+shared-slice-read-w c = omega (arith, c .before .before .before .before .pre .0)
 
 is-page-requires : tie.Need-is-page-requires Inv-loop μ-loop
 is-page-requires c κs = c .before .before .before .before .pre .1
@@ -42,20 +38,19 @@ loop-again : tie.Need-loop-again Inv-loop μ-loop
 loop-again c =
     let a = c .before .before .before .before .before .args in
     let l = c .before .before .before .loop in
-    λ M. pages-more (l .inv M) (c .before .before .loop-test .taken) _
-    (ap (λ (i : ℕ). getD (a .words .now) i 0) (omega (arith, l .inv M))) _ (c .is-page .ensures)
+    λ ws t e M. pages-more (l .inv ws t e M) (c .before .before .loop-test .taken) _ (part-word ws (a .part .now) t e (512 - l .left) (omega arith)) _ (c .is-page .ensures)
 
 cast-empty : tie.Need-cast-empty Inv-loop μ-loop
 cast-empty c = search needs
 
 add-empty : tie.Need-add-empty Inv-loop μ-loop
-add-empty c = record { fits = omega (arith, loop-again c []) }
+add-empty c = record { fits = omega (arith, loop-again c (c .before .before .before .before .before .args .part .now) 0 (part-own (c .before .before .before .before .before .args .part .now) (c .before .before .before .before .before .pre .0)) []) }
 
 cast-pages : tie.Need-cast-pages Inv-loop μ-loop
 cast-pages c = search needs
 
 add-pages : tie.Need-add-pages Inv-loop μ-loop
-add-pages c = record { fits = omega (arith, loop-again c []) }
+add-pages c = record { fits = omega (arith, loop-again c (c .before .before .before .before .before .args .part .now) 0 (part-own (c .before .before .before .before .before .args .part .now) (c .before .before .before .before .before .pre .0)) []) }
 
 sub-left : tie.Need-sub-left Inv-loop μ-loop
 sub-left c = search needs
@@ -64,17 +59,15 @@ loop-less : tie.Need-loop-less Inv-loop μ-loop
 loop-less c = search needs
 
 add-if1 : tie.Need-add-if1 Inv-loop μ-loop
-add-if1 c = record { fits = omega (arith, c .before .loop .inv []) }
+add-if1 c = record { fits = omega (arith, c .before .loop .inv (c .before .before .before .args .part .now) 0 (part-own (c .before .before .before .args .part .now) (c .before .before .before .pre .0)) []) }
 
 returns : tie.Need-returns Inv-loop μ-loop
 returns c =
-    let a = c .before .before .before .before .args in
-    λ M e. table-fresh (a .words .now) (areaAt (a .base) (a .n)) 0 (a .t) M e _ _ (pages-bad (c .before .before .loop .inv (set M (a .t) 1)) (c .before .loop-test .left) (c .if1 .taken))
+    λ ws t e M f. table-fresh ws (c .before .before .before .before .args .look) 0 t M f _ _ (pages-bad (c .before .before .loop .inv ws t e (set M t 1)) (c .before .loop-test .left) (c .if1 .taken))
 
 returns-2 : tie.Need-returns-2 Inv-loop μ-loop
 returns-2 c =
-    let a = c .before .before .before .before .args in
-    λ M e. table-fresh (a .words .now) (areaAt (a .base) (a .n)) 0 (a .t) M e _ _ (pages-good (c .before .before .loop .inv (set M (a .t) 1)) (c .before .loop-test .left) (c .if1 .left))
+    λ ws t e M f. table-fresh ws (c .before .before .before .before .args .look) 0 t M f _ _ (pages-good (c .before .before .loop .inv ws t e (set M t 1)) (c .before .loop-test .left) (c .if1 .left))
 
 pub pages-check-spec : {M : Type 1} → statement M
 pages-check-spec =
@@ -82,8 +75,6 @@ pages-check-spec =
     (tie.spec
     Inv-loop
     μ-loop
-    mul-end
-    add-end
     loop-holds
     sub-w
     mul-w

@@ -1,26 +1,17 @@
 -- `skip_empty`: the entries passed are empty.
 use Prim.Native.Nat.{ℕ, _-_, _≤_, _<_}
 use mathlib.Core.Path.{_≡_, ap, _∙_}
-use native.Mathlib.Decide.{ℕ-discrete}
 use native.Mathlib.Omega.{arith}
 use borrow.Author.Needs.{needs}
-use lib.ListN.{getD}
-use Rattle.path.specs.Geometry.{four}
-use Rattle.audit.proofs.Tables.{Skips, skips-more}
+use Rattle.audit.proofs.Tables.{Passes, passes-more}
 use Rattle.audit.proofs.skip_empty.Statement.{statement}
 use Rattle.audit.proofs.skip_empty.Tie as tie
 
 abbrev Inv-loop : tie.InvT-loop
-Inv-loop words t left end rest₀ rest = Skips four words t left rest
+Inv-loop part left rest₀ rest = Passes part left rest
 
 abbrev μ-loop : tie.MeasureT-loop
-μ-loop words t left end rest₀ rest = rest
-
-mul-end : tie.Need-mul-end Inv-loop μ-loop
-mul-end c = search needs
-
-add-end : tie.Need-add-end Inv-loop μ-loop
-add-end c = search needs
+μ-loop part left rest₀ rest = rest
 
 loop-holds : tie.Need-loop-holds Inv-loop μ-loop
 loop-holds c = (search needs, λ k a b. absurd (omega arith))
@@ -44,10 +35,7 @@ loop-less : tie.Need-loop-less Inv-loop μ-loop
 loop-less c = search needs
 
 loop-again : tie.Need-loop-again Inv-loop μ-loop
-loop-again c =
-    let a = c .before .before .before .before .args in
-    skips-more four (a .words .now) (a .t) (a .left) _ (c .before .before .before .loop .inv)
-    (ap (λ (i : ℕ). getD (a .words .now) i 0) (omega arith) ∙ c .if1 .left)
+loop-again c = passes-more (c .before .before .before .before .args .part .now) (c .before .before .before .before .args .left) _ (c .before .before .before .loop .inv) (c .if1 .left)
 
 returns-2 : tie.Need-returns-2 Inv-loop μ-loop
 returns-2 c = let l = c .before .loop in (search needs, λ k a b. l .inv .1 k (omega arith) b)
@@ -58,8 +46,6 @@ skip-empty-spec =
     (tie.spec
     Inv-loop
     μ-loop
-    mul-end
-    add-end
     loop-holds
     sub-if1
     mul-if1

@@ -6,10 +6,10 @@ use Rattle.cases.proofs.run.Statement.{statement}
 use Rattle.cases.proofs.run.Tie as tie
 
 abbrev Inv-loop : tie.InvT-loop
-Inv-loop text words₀ list₀ line₀ s₀ i₀ words list line s i = i ≤ length text
+Inv-loop text words₀ more₀ list₀ line₀ s₀ i₀ words more list line s i = i ≤ length text
 
 abbrev μ-loop : tie.MeasureT-loop
-μ-loop text words₀ list₀ line₀ s₀ i₀ words list line s i = length text - i
+μ-loop text words₀ more₀ list₀ line₀ s₀ i₀ words more list line s i = length text - i
 
 start-requires : tie.Need-start-requires Inv-loop μ-loop
 start-requires c κs = search needs

@@ -1,67 +1,68 @@
--- `entry::child_in` meets its contract: what fails a test is no table's word, and the rest is that of the child.
-use Prim.Native.Nat.{ℕ, _+_, _*_, _/_, _%_, _^_, _≤_, _<_}
-use mathlib.Core.Path.{_≡_, sym, ap, _∙_}
-use mathlib.Core.Logic.{_⊎_, inl, inr, ⊎-elim}
+-- `entry::child_in` meets its contract: a table of the first region that is not the root, else one of the second.
+use Prim.Native.Nat.{ℕ, _+_}
+use mathlib.Core.Path.{sym, ap, _∙_}
+use mathlib.Core.Logic.{⊎-elim}
 use native.Mathlib.Omega.{arith}
 use borrow.Author.Needs.{needs}
-use Rattle.path.specs.Geometry.{four, physical}
+use Rattle.path.specs.Geometry.{four}
 use Rattle.path.specs.Areas.{areaAt}
-use Rattle.entry.specs.Words.{tableWord, childAt}
-use Rattle.entry.specs.Laws.{child-none, child-back}
+use Rattle.entry.specs.Laws.{child-first, child-second, child-neither}
 use Rattle.entry.proofs.child_in.Statement.{statement}
 use Rattle.entry.proofs.child_in.Tie as tie
 
--- the difference modulo 2^64 of a word and a base that is at most 2^48 or at most the word
-module _ {w P off : ℕ} (low : (P ≤ physical) ⊎ (P ≤ w)) (wide : off < 2 ^ 64) (e : (off + P) % 2 ^ 64 ≡ w) where
-  -- is that of a table's word exactly where the word is the table's
-  table-off : (n k : ℕ) → n < 2 ^ 32 → k < n → w ≡ P + 4096 * k + 3 → off ≡ 4096 * k + 3
-  table-off n k few lt z = go low
-    where
-      go : (P ≤ physical) ⊎ (P ≤ w) → off ≡ 4096 * k + 3
-      go (inl l) = omega arith
-      go (inr l) = omega arith
-
-  off-table : (n k : ℕ) → n < 2 ^ 32 → k < n → off ≡ 4096 * k + 3 → w ≡ P + 4096 * k + 3
-  off-table n k few lt z = go low
-    where
-      go : (P ≤ physical) ⊎ (P ≤ w) → w ≡ P + 4096 * k + 3
-      go (inl l) = omega arith
-      go (inr l) = omega arith
+named-in-requires : tie.Need-named-in-requires
+named-in-requires c κs = search needs
 
 returns : tie.Need-returns
-unfolding tableWord
-returns c = sym (child-none four _ _ (λ k some lt e. omega arith))
-
-wrapping-sub-u64-requires : tie.Need-wrapping-sub-u64-requires
-wrapping-sub-u64-requires c κs = search needs
+returns c =
+    let a = c .before .before .before .args in
+    let e = c .before .before .named-in .ensures in
+    e ∙ sym (child-first four (areaAt (a .base) (a .tables) (a .base2) (a .tables2)) (a .w) (omega arith) (omega arith))
 
 returns-2 : tie.Need-returns-2
-unfolding tableWord
 returns-2 c =
     let a = c .before .before .before .args in
+    let e = c .before .before .named-in .ensures in
     sym
-    (child-none four _ _
-    (λ k some lt z. omega (arith, table-off (⊎-elim (λ way. inr (omega (arith, way .1 .left))) (λ way. inl (omega (arith, way .left))) (c .before .before .if1 .came)) (omega arith) (c .before .wrapping-sub-u64 .ensures) (a .tables) k (omega arith) lt z)))
+    (child-neither four (areaAt (a .base) (a .tables) (a .base2) (a .tables2)) (a .w)
+    (⊎-elim (λ way x y. omega (arith, way .1 .left)) (λ way x y. omega (arith, way .left)) (c .before .if1 .came))
+    (omega arith))
+
+named-in-requires-2 : tie.Need-named-in-requires-2
+named-in-requires-2 c κs = search needs
 
 returns-3 : tie.Need-returns-3
-unfolding tableWord
 returns-3 c =
-    let a = c .before .before .before .before .args in
+    let a = c .before .before .before .before .before .args in
+    let e = c .before .before .before .before .named-in .ensures in
+    let d = c .before .named-in2 .ensures in
     sym
-    (child-none four _ _
-    (λ k some lt z. omega (arith, table-off (⊎-elim (λ way. inr (omega (arith, way .1 .left))) (λ way. inl (omega (arith, way .left))) (c .before .before .before .if1 .came)) (omega arith) (c .before .before .wrapping-sub-u64 .ensures) (a .tables) k (omega arith) lt z)))
+    (child-neither four (areaAt (a .base) (a .tables) (a .base2) (a .tables2)) (a .w)
+    (⊎-elim (λ way x y. omega (arith, way .1 .left)) (λ way x y. omega (arith, way .left)) (c .before .before .before .if1 .came))
+    (omega arith))
 
-cast-result : tie.Need-cast-result
-cast-result c = search needs
+add-result : tie.Need-add-result
+add-result c = search needs
 
 returns-4 : tie.Need-returns-4
-unfolding tableWord
 returns-4 c =
-    let a = c .before .before .before .before .args in
-    let k = c .before .before .wrapping-sub-u64 .result / 4096 in
-    let e = off-table (⊎-elim (λ way. inr (omega (arith, way .1 .left))) (λ way. inl (omega (arith, way .left))) (c .before .before .before .if1 .came)) (omega arith) (c .before .before .wrapping-sub-u64 .ensures) (a .tables) k (omega arith) (omega arith) (omega arith) in
-    sym (ap (childAt four (areaAt (a .base) (a .tables))) e ∙ child-back four (areaAt (a .base) (a .tables)) k (omega arith))
+    let a = c .before .before .before .before .before .args in
+    let e = c .before .before .before .before .named-in .ensures in
+    let d = c .before .named-in2 .ensures in
+    ap (λ (x : ℕ). a .tables + x) d
+    ∙ sym
+    (child-second four (areaAt (a .base) (a .tables) (a .base2) (a .tables2)) (a .w)
+    (⊎-elim (λ way x y. omega (arith, way .1 .left)) (λ way x y. omega (arith, way .left)) (c .before .before .before .if1 .came))
+    (omega arith))
 
 pub child-in-spec : {M : Type 1} → statement M
 child-in-spec =
-    tie.close (tie.spec returns wrapping-sub-u64-requires returns-2 returns-3 cast-result returns-4)
+    tie.close
+    (tie.spec
+    named-in-requires
+    returns
+    returns-2
+    named-in-requires-2
+    returns-3
+    add-result
+    returns-4)

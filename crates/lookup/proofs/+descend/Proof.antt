@@ -1,5 +1,6 @@
 -- The walk from a table down meets its contract, by the levels left, which fall at each call.
 use Prim.Native.Nat.{ℕ, _-_, _<_}
+use mathlib.Core.List.{_++_}
 use mathlib.Core.Path.{_≡_, sym, ap, _∙_}
 use native.Mathlib.Omega.{arith}
 use mir.Syntax.{w16}
@@ -22,14 +23,14 @@ use Rattle.lookup.proofs.+descend.{statement}
 use Rattle.lookup.proofs.+descend.Tie.{close}
 
 -- the levels left
-abbrev μ : Measures 1 kinds.ps ℕ
-μ κs a = a .1 .1 .1 .1 .1 .0
+abbrev μ : Measures 2 kinds.ps ℕ
+μ κs a = a .1 .1 .1 .1 .1 .1 .1 .1 .0
 
-abbrev at : ℕ → In 1 kinds.ps
-at t = and 1 kinds.ps (is 1 kinds.ps μ t) descend.Pre
+abbrev at : ℕ → In 2 kinds.ps
+at t = and 2 kinds.ps (is 2 kinds.ps μ t) descend.Pre
 
-abbrev below : ℕ → In 1 kinds.ps
-below t = and 1 kinds.ps (falls 1 kinds.ps _<_ μ t) descend.Pre
+abbrev below : ℕ → In 2 kinds.ps
+below t = and 2 kinds.ps (falls 2 kinds.ps _<_ μ t) descend.Pre
 
 abbrev claims : ℕ → lts.Claims
 claims t = (
@@ -48,11 +49,11 @@ claims t = (
 -- the entry that is read
 entry :
     (t : ℕ) (s : lts.Start (claims t) (at t) descend.Post) {w : ℕ} {e : Entry}
-    → e ≡ entryAt four (areaAt (s .args .base) (s .args .tables)) (s .args .height) w
-    → w ≡ wordOf four (s .args .words .now) (areaAt (s .args .base) (s .args .tables)) (s .args .target) (s .args .t5) (s .args .height) (s .args .t)
-    → e ≡ entryOf four (s .args .words .now) (areaAt (s .args .base) (s .args .tables)) (s .args .target) (s .args .t5) (s .args .height) (s .args .t)
+    → e ≡ entryAt four (areaAt (s .args .base) (s .args .tables) (s .args .base2) (s .args .tables2)) (s .args .height) w
+    → w ≡ wordOf four (s .args .words .now ++ s .args .second .now) (areaAt (s .args .base) (s .args .tables) (s .args .base2) (s .args .tables2)) (s .args .target) (s .args .t8) (s .args .height) (s .args .t)
+    → e ≡ entryOf four (s .args .words .now ++ s .args .second .now) (areaAt (s .args .base) (s .args .tables) (s .args .base2) (s .args .tables2)) (s .args .target) (s .args .t8) (s .args .height) (s .args .t)
 entry t s =
-    known-entry four (s .args .words .now) (areaAt (s .args .base) (s .args .tables)) (s .args .target) (s .args .t5) (s .args .height) (s .args .t)
+    known-entry four (s .args .words .now ++ s .args .second .now) (areaAt (s .args .base) (s .args .tables) (s .args .base2) (s .args .tables2)) (s .args .target) (s .args .t8) (s .args .height) (s .args .t)
 
 sub-at : (t : ℕ) → lts.Need-sub-at (claims t) (at t) descend.Post
 sub-at t c = search needs
@@ -76,7 +77,7 @@ cast-word : (t : ℕ) → lts.Need-cast-word (claims t) (at t) descend.Post
 cast-word t c = search needs
 
 add-word : (t : ℕ) → lts.Need-add-word (claims t) (at t) descend.Post
-add-word t c = omega (arith, elem-fits w16 w16 (c .before .args .t5) _ (3 - c .before .args .height) (c .before .good .1 .1 .1 .1 .0 .1 .1) tt)
+add-word t c = omega (arith, elem-fits w16 w16 (c .before .before .args .t8) _ (3 - c .before .before .args .height) (c .before .before .good .1 .1 .1 .1 .1 .1 .1 .0 .1 .1) tt)
 
 word-requires : (t : ℕ) → lts.Need-word-requires (claims t) (at t) descend.Post
 word-requires t c κs = search needs
@@ -92,9 +93,9 @@ ended-requires t c κs = search needs
 
 returns : (t : ℕ) → lts.Need-returns (claims t) (at t) descend.Post
 returns t c =
-    let s = c .before .before .before .before .before .before .before .before in
+    let s = c .before .before .before .before .before .before .before .before .before in
     c .ended .ensures
-    ∙ walk-reaches four (s .args .words .now) (areaAt (s .args .base) (s .args .tables)) (s .args .target) (s .args .t5)
+    ∙ walk-reaches four (s .args .words .now ++ s .args .second .now) (areaAt (s .args .base) (s .args .tables) (s .args .base2) (s .args .tables2)) (s .args .target) (s .args .t8)
     (s .args .height) (s .args .above) (s .args .t)
     (sym (c .before .before .before .e .given .1) ∙ entry t s (c .before .before .before .before .before .read-word .ensures) (c .before .before .before .before .before .before .word .ensures))
     (c .before .if1 .taken)
@@ -110,9 +111,9 @@ ended-requires-2 t c κs = search needs
 
 returns-2 : (t : ℕ) → lts.Need-returns-2 (claims t) (at t) descend.Post
 returns-2 t c =
-    let s = c .before .before .before .before .before .before .before .before .before .before in
+    let s = c .before .before .before .before .before .before .before .before .before .before .before in
     c .ended2 .ensures
-    ∙ walk-again four (s .args .words .now) (areaAt (s .args .base) (s .args .tables)) (s .args .target) (s .args .t5)
+    ∙ walk-again four (s .args .words .now ++ s .args .second .now) (areaAt (s .args .base) (s .args .tables) (s .args .base2) (s .args .tables2)) (s .args .target) (s .args .t8)
     (s .args .height) (s .args .above) (s .args .t)
     (sym (c .before .before .before .before .before .e .given .1) ∙ entry t s (c .before .before .before .before .before .before .before .read-word .ensures) (c .before .before .before .before .before .before .before .before .word .ensures))
     (c .before .before .before .if1 .left)
@@ -141,9 +142,9 @@ ended-requires-5 t c κs = search needs
 
 returns-3 : (t : ℕ) → lts.Need-returns-3 (claims t) (at t) descend.Post
 returns-3 t c =
-    let s = c .before .before .before .before .before .before .before .before .before .before in
+    let s = c .before .before .before .before .before .before .before .before .before .before .before in
     c .descend .ensures
-    ∙ walk-down four (s .args .words .now) (areaAt (s .args .base) (s .args .tables)) (s .args .target) (s .args .t5)
+    ∙ walk-down four (s .args .words .now ++ s .args .second .now) (areaAt (s .args .base) (s .args .tables) (s .args .base2) (s .args .tables2)) (s .args .target) (s .args .t8)
     (s .args .height) (s .args .above) (s .args .t)
     (sym (c .before .before .before .before .before .e .given .1) ∙ entry t s (c .before .before .before .before .before .before .before .read-word .ensures) (c .before .before .before .before .before .before .before .before .word .ensures))
     (c .before .before .before .if1 .left)
@@ -151,27 +152,27 @@ returns-3 t c =
 
 returns-4 : (t : ℕ) → lts.Need-returns-4 (claims t) (at t) descend.Post
 returns-4 t c =
-    let s = c .before .before .before .before .before .before in
+    let s = c .before .before .before .before .before .before .before in
     c .ended3 .ensures
-    ∙ walk-ends four (s .args .words .now) (areaAt (s .args .base) (s .args .tables)) (s .args .target) (s .args .t5)
+    ∙ walk-ends four (s .args .words .now ++ s .args .second .now) (areaAt (s .args .base) (s .args .tables) (s .args .base2) (s .args .tables2)) (s .args .target) (s .args .t8)
     (s .args .height) (s .args .above) (s .args .t)
     (ap isTable (c .before .enum-told .given .1))
     (entry t s (c .before .before .before .read-word .ensures) (c .before .before .before .before .word .ensures))
 
 returns-5 : (t : ℕ) → lts.Need-returns-5 (claims t) (at t) descend.Post
 returns-5 t c =
-    let s = c .before .before .before .before .before .before in
+    let s = c .before .before .before .before .before .before .before in
     c .ended4 .ensures
-    ∙ walk-ends four (s .args .words .now) (areaAt (s .args .base) (s .args .tables)) (s .args .target) (s .args .t5)
+    ∙ walk-ends four (s .args .words .now ++ s .args .second .now) (areaAt (s .args .base) (s .args .tables) (s .args .base2) (s .args .tables2)) (s .args .target) (s .args .t8)
     (s .args .height) (s .args .above) (s .args .t)
     (ap isTable (c .before .enum-told2 .given .1))
     (entry t s (c .before .before .before .read-word .ensures) (c .before .before .before .before .word .ensures))
 
 returns-6 : (t : ℕ) → lts.Need-returns-6 (claims t) (at t) descend.Post
 returns-6 t c =
-    let s = c .before .before .before .before .before .before in
+    let s = c .before .before .before .before .before .before .before in
     c .ended5 .ensures
-    ∙ walk-ends four (s .args .words .now) (areaAt (s .args .base) (s .args .tables)) (s .args .target) (s .args .t5)
+    ∙ walk-ends four (s .args .words .now ++ s .args .second .now) (areaAt (s .args .base) (s .args .tables) (s .args .base2) (s .args .tables2)) (s .args .target) (s .args .t8)
     (s .args .height) (s .args .above) (s .args .t)
     (ap isTable (c .before .enum-told3 .given .1))
     (entry t s (c .before .before .before .read-word .ensures) (c .before .before .before .before .word .ensures))

@@ -1,4 +1,5 @@
 -- The walk from the root meets its contract.
+use mathlib.Core.List.{_++_}
 use mathlib.Core.Path.{sym, _∙_}
 use borrow.Author.Needs.{needs}
 use Rattle.path.specs.Areas.{areaAt}
@@ -12,18 +13,18 @@ ended-requires c κs = search needs
 
 returns : tie.Need-returns
 returns c =
-    let s = c .before .before .before in
+    let s = c .before .before .before .before in
     c .ended .ensures
-    ∙ sym (walk-too-high four (s .args .words .now) (areaAt (s .args .base) (s .args .tables)) (s .args .target) (s .args .path) (c .before .if1 .taken))
+    ∙ sym (walk-too-high four (s .args .words .now ++ s .args .second .now) (areaAt (s .args .base) (s .args .tables) (s .args .base2) (s .args .tables2)) (s .args .target) (s .args .path) (c .before .if1 .taken))
 
 descend-requires : tie.Need-descend-requires
 descend-requires c κs = search needs
 
 returns-2 : tie.Need-returns-2
 returns-2 c =
-    let s = c .before .before .before in
+    let s = c .before .before .before .before in
     c .descend .ensures
-    ∙ sym (walk-root four (s .args .words .now) (areaAt (s .args .base) (s .args .tables)) (s .args .target) (s .args .path) (c .before .if1 .left))
+    ∙ sym (walk-root four (s .args .words .now ++ s .args .second .now) (areaAt (s .args .base) (s .args .tables) (s .args .base2) (s .args .tables2)) (s .args .target) (s .args .path) (c .before .if1 .left))
 
 pub walk-spec : {M : Type 1} → statement M
 walk-spec = tie.close (tie.spec ended-requires returns descend-requires returns-2)

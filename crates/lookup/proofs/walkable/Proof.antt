@@ -24,11 +24,19 @@ returns-4 c = sym (cannot-walk (λ w. omega arith))
 returns-5 : tie.Need-returns-5
 returns-5 c = sym (cannot-walk (λ w. omega arith))
 
+add-tables : tie.Need-add-tables
+add-tables c = search needs
+
+returns-6 : tie.Need-returns-6
+returns-6 c = sym (cannot-walk (λ w. omega arith))
+
 mul-result : tie.Need-mul-result
 mul-result c = search needs
 
-returns-6 : tie.Need-returns-6
-returns-6 c = same-truth _ _ (λ e. walk-can (omega (arith, eqb-true))) (λ e. eq-eqb _ _ (can-walk e .whole))
+returns-7 : tie.Need-returns-7
+returns-7 c = same-truth _ _ (λ e. walk-can (omega (arith, eqb-true))) (λ e. eq-eqb _ _ (can-walk e .whole))
 
 pub walkable-spec : {M : Type 1} → statement M
-walkable-spec = tie.close (tie.spec returns returns-2 returns-3 returns-4 returns-5 mul-result returns-6)
+walkable-spec =
+    tie.close
+    (tie.spec returns returns-2 returns-3 returns-4 returns-5 add-tables returns-6 mul-result returns-7)

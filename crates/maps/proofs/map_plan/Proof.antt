@@ -2,22 +2,22 @@
 use Prim.Native.Nat.{_-_}
 use mathlib.Core.Path.{_∙_}
 use native.Mathlib.Omega.{arith}
-use borrow.Author.Tests.{le-leb}
 use Rattle.path.specs.Geometry.{four}
-use Rattle.maps.proofs.Links.{Linking, linking-start, linking-next, linking-end}
+use Rattle.path.specs.Areas.{areaAt}
+use Rattle.maps.proofs.Links.{link-word, Linking, linking-start, linking-next, linking-end}
 use Rattle.maps.proofs.map_plan.Statement.{statement}
 use Rattle.maps.proofs.map_plan.Tie as tie
 
 abbrev Inv-loop : tie.InvT-loop
-Inv-loop base list height word table free need path plan₀ t₀ i₀ plan t i = Linking four base path list height word table free need plan t i
+Inv-loop base tables base2 list height word table free need path plan₀ t₀ i₀ plan t i = Linking four base tables base2 path list height word table free need plan t i
 
 abbrev μ-loop : tie.MeasureT-loop
-μ-loop base list height word table free need path plan₀ t₀ i₀ plan t i = need - i
+μ-loop base tables base2 list height word table free need path plan₀ t₀ i₀ plan t i = need - i
 
 loop-holds : tie.Need-loop-holds Inv-loop μ-loop
 loop-holds c =
     let a = c .before .args in
-    linking-start four (a .base) (a .t2) (a .list .now) (a .height) (a .word) (a .table) (a .free) (a .need)
+    linking-start four (a .base) (a .tables) (a .base2) (a .t4) (a .list .now) (a .height) (a .word) (a .table) (a .free) (a .need)
 
 sub-place : tie.Need-sub-place Inv-loop μ-loop
 sub-place c = omega arith
@@ -81,7 +81,7 @@ loop-again c =
     let a = c .before .before .before .before .before .before .args in
     let l = c .before .before .before .before .loop in
     linking-next (l .inv) (omega arith) (c .before .before .before .loop-test .taken) (c .before .before .place .ensures) (c .before .entry-place .ensures)
-    (λ n. c .table-word .ensures n ∙ rw (le-leb _ _ (c .before .before .before .before .before .before .pre .0)))
+    (λ m. link-word (areaAt (a .base) (a .tables) (a .base2) m) _ (c .before .before .before .before .before .before .pre .0 .0) (c .before .before .before .before .before .before .pre .0 .1) (c .table-word .ensures m))
 
 sub-at-3 : tie.Need-sub-at-3 Inv-loop μ-loop
 sub-at-3 c = omega arith

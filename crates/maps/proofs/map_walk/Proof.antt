@@ -1,6 +1,8 @@
 -- `maps::map_walk`: by where the walk ended.
 use Prim.Native.Nat.{_%_, _/_}
 use mathlib.Core.Path.{refl, ap, _∙_}
+use mathlib.Core.List.{_++_}
+use lib.ListN.{length, length-append}
 use native.Mathlib.Omega.{arith}
 use borrow.Author.Needs.{needs}
 use Rattle.path.specs.Laws.{four-sane, good-setup}
@@ -17,18 +19,21 @@ use Rattle.maps.proofs.map_walk.Tie as tie
 
 -- the walk is done
 came : (c : tie.After-reach)
-    → let a = c .before .before .before .before .before .args in
-    Came four (pool (a .s) (a .words .now) (a .list .now)) (a .height) (a .address) (c .reach .result) (c .reach .last .1 .1 .1 .1 .0)
+    → let a = c .before .before .before .before .before .before .before .args in
+    Came four (pool (a .s) (a .words .now ++ a .second .now) (length (a .words .now)) (a .list .now)) (a .height) (a .address) (c .reach .result) (c .reach .last .1 .1 .1 .1 .1 .0)
 came c =
-    let a = c .before .before .before .before .before .args in
-    let g = good-setup {G = four} (c .before .before .before .before .before .pre .0) in
+    let a = c .before .before .before .before .before .before .before .args in
+    let g = good-setup {G = four} (c .before .before .before .before .before .before .before .pre .0) in
     record {
-      end = c .reach .ensures .0 ∙ reach-good four (a .s) (a .words .now) (a .height) (a .address) four-sane g (omega arith) (a .list .now);
+      end = c .reach .ensures .0 ∙ reach-good four (a .s) (a .words .now ++ a .second .now) (a .height) (a .address) four-sane g (omega arith) (length (a .words .now)) (a .list .now);
       place = c .reach .ensures .1;
     }
 
 reach-requires : tie.Need-reach-requires
 reach-requires c κs = search needs
+
+add-if1 : tie.Need-add-if1
+add-if1 c = omega (arith, good-setup {G = four} (c .before .before .before .before .before .before .before .pre .0))
 
 map-refused-requires : tie.Need-map-refused-requires
 map-refused-requires c κs = search needs
@@ -36,17 +41,17 @@ map-refused-requires c κs = search needs
 same-length : tie.Need-same-length
 same-length c = search needs
 
+same-length-2 : tie.Need-same-length-2
+same-length-2 c = search needs
+
 returns : tie.Need-returns
 returns c b k e =
-    let a = c .before .before .before .before .before .before .before .args in
+    let a = c .before .before .before .before .before .before .before .before .before .args in
     let C = came (c .before .before) in
-    refusing (a .words .now) (a .list .now) (c .map-refused .ensures) ∙ came-past C b k (c .before .if1 .taken)
+    refusing (a .words .now ++ a .second .now) (length (a .words .now)) (a .list .now) (c .map-refused .ensures) ∙ came-past C b k (omega (arith, length-append (a .words .now) (a .second .now), c .before .if1 .taken))
 
-mul-w : tie.Need-mul-w
-mul-w c = search needs
-
-slice-read-w : tie.Need-slice-read-w
-slice-read-w c = search needs
+word-requires : tie.Need-word-requires
+word-requires c κs = search needs
 
 met-requires : tie.Need-met-requires
 met-requires c κs = search needs
@@ -54,66 +59,75 @@ met-requires c κs = search needs
 map-refused-requires-2 : tie.Need-map-refused-requires-2
 map-refused-requires-2 c κs = search needs
 
-same-length-2 : tie.Need-same-length-2
-same-length-2 c = search needs
-
-returns-2 : tie.Need-returns-2
-returns-2 c b k e =
-    let a = c .before .before .before .before .before .before .before .before .before .before .before .args in
-    let C = came (c .before .before .before .before .before .before) in
-    refusing (a .words .now) (a .list .now) (c .map-refused2 .ensures)
-    ∙ came-met C b k (c .before .before .before .before .before .if1 .left) four-sane refl (c .before .before .before .if2 .taken)
-    (c .before .met .ensures
-    ∙ ap (λ (o : Walked). metBy (o .entry)) (walk-good four (a .s) (a .words .now) (a .height) (a .address) four-sane (good-setup {G = four} (c .before .before .before .before .before .before .before .before .before .before .before .pre .0)) (a .list .now)))
-
-map-empty-requires : tie.Need-map-empty-requires
-map-empty-requires c κs =
-    let a = c .before .before .before .before .before .before .before .before .before .before .args in
-    let C = came (c .before .before .before .before .before) in
-    (c .before .before .before .before .before .before .before .before .before .before .pre .0, (came-above C 0 0 (c .before .before .before .before .if1 .left) refl (omega (arith, good-setup {G = four} (c .before .before .before .before .before .before .before .before .before .before .pre .0))), omega arith))
-
 same-length-3 : tie.Need-same-length-3
 same-length-3 c = search needs
-
-returns-3 : tie.Need-returns-3
-returns-3 c b k e =
-    let a = c .before .before .before .before .before .before .before .before .before .before .before .before .before .args in
-    let C = came (c .before .before .before .before .before .before .before .before) in
-    c .before .before .map-empty .ensures b k e ∙ came-empty C b k (c .before .before .before .before .before .before .before .if1 .left) refl (c .before .before .before .before .before .if2 .left)
-
-mul-words : tie.Need-mul-words
-mul-words c = search needs
-
-slice-write-words : tie.Need-slice-write-words
-slice-write-words c = search needs
 
 same-length-4 : tie.Need-same-length-4
 same-length-4 c = search needs
 
+returns-2 : tie.Need-returns-2
+returns-2 c b k e =
+    let a = c .before .before .before .before .before .before .before .before .before .before .before .before .before .before .before .before .args in
+    let C = came (c .before .before .before .before .before .before .before .before .before) in
+    refusing (a .words .now ++ a .second .now) (length (a .words .now)) (a .list .now) (c .map-refused2 .ensures)
+    ∙ came-met C b k (omega (arith, length-append (a .words .now) (a .second .now), c .before .before .before .before .before .before .before .before .if1 .left)) four-sane (c .before .before .before .before .before .word .ensures) (c .before .before .before .before .if2 .taken)
+    (c .before .met .ensures
+    ∙ ap (λ (o : Walked). metBy (o .entry)) (walk-good four (a .s) (a .words .now ++ a .second .now) (a .height) (a .address) four-sane (good-setup {G = four} (c .before .before .before .before .before .before .before .before .before .before .before .before .before .before .before .before .pre .0)) (length (a .words .now)) (a .list .now)))
+
+map-empty-requires : tie.Need-map-empty-requires
+map-empty-requires c κs =
+    let a = c .before .before .before .before .before .before .before .before .before .before .before .before .before .before .before .args in
+    let C = came (c .before .before .before .before .before .before .before .before) in
+    (c .before .before .before .before .before .before .before .before .before .before .before .before .before .before .before .pre .0, (came-above C 0 0 (omega (arith, length-append (a .words .now) (a .second .now), c .before .before .before .before .before .before .before .if1 .left)) (c .before .before .before .before .word .ensures) (omega (arith, good-setup {G = four} (c .before .before .before .before .before .before .before .before .before .before .before .before .before .before .before .pre .0))), omega arith))
+
+same-length-5 : tie.Need-same-length-5
+same-length-5 c = search needs
+
+same-length-6 : tie.Need-same-length-6
+same-length-6 c = search needs
+
+returns-3 : tie.Need-returns-3
+returns-3 c b k e =
+    let a = c .before .before .before .before .before .before .before .before .before .before .before .before .before .before .before .before .before .before .before .before .args in
+    let C = came (c .before .before .before .before .before .before .before .before .before .before .before .before .before) in
+    c .before .before .before .before .map-empty .ensures b k e ∙ came-empty C b k (omega (arith, length-append (a .words .now) (a .second .now), c .before .before .before .before .before .before .before .before .before .before .before .before .if1 .left)) (c .before .before .before .before .before .before .before .before .before .word .ensures) (c .before .before .before .before .before .before .before .before .if2 .left)
+
+put-requires : tie.Need-put-requires
+put-requires c κs = search needs
+
+same-length-7 : tie.Need-same-length-7
+same-length-7 c = search needs
+
+same-length-8 : tie.Need-same-length-8
+same-length-8 c = search needs
+
 returns-4 : tie.Need-returns-4
 returns-4 c b k e =
-    let a = c .before .before .before .before .before .before .before .before .before .args in
-    let C = came (c .before .before .before .before) in
-    came-here C b k (c .before .before .before .if1 .left) refl (c .before .if2 .left) (c .if3 .left) e
+    let a = c .before .before .before .before .before .before .before .before .before .before .before .before .before .before .before .before .before .before .before .before .args in
+    let C = came (c .before .before .before .before .before .before .before .before .before .before .before .before .before) in
+    came-here C b k (omega (arith, length-append (a .words .now) (a .second .now), c .before .before .before .before .before .before .before .before .before .before .before .before .if1 .left)) (c .before .before .before .before .before .before .before .before .before .word .ensures) (c .before .before .before .before .before .before .before .before .if2 .left) (c .before .before .before .before .before .before .before .if3 .left) e (c .before .before .before .before .put .ensures) (c .before .before .before .before .put .kept .0)
 
 pub map-walk-spec : {M : Type 1} → statement M
 map-walk-spec =
     tie.close
     (tie.spec
     reach-requires
+    add-if1
     map-refused-requires
     same-length
+    same-length-2
     returns
-    mul-w
-    slice-read-w
+    word-requires
     met-requires
     map-refused-requires-2
-    same-length-2
+    same-length-3
+    same-length-4
     returns-2
     map-empty-requires
-    same-length-3
+    same-length-5
+    same-length-6
     returns-3
-    mul-words
-    slice-write-words
-    same-length-4
+    put-requires
+    same-length-7
+    same-length-8
     returns-4)

@@ -19,4 +19,10 @@ returns-2 : tie.Need-returns-2
 returns-2 c = tells saysAudit auditPlaces (c .before .before .a2 .given .1)
 
 pub audited-spec : {M : Type 1} → statement M
-audited-spec = tie.close (tie.spec enum-known-a enum-known-a-2 returns returns-2)
+audited-spec =
+    tie.close
+    (tie.spec
+    enum-known-a
+    enum-known-a-2
+    returns
+    returns-2)

@@ -1,10 +1,13 @@
 -- The number and the places of a format. Assumes nothing.
 use Rattle.model.specs.Answers.{saysFormat}
-use Rattle.oakabut.specs.Surface.{formatPlaces}
+use Rattle.oakabut.specs.Surface.{setupPlaces}
 use Rattle.oakabut.proofs.Hands.{tells}
 use borrow.Author.Needs.{needs}
 use Rattle.oakabut.proofs.formatted.Statement.{statement}
 use Rattle.oakabut.proofs.formatted.Tie as tie
+
+setup-places-requires : tie.Need-setup-places-requires
+setup-places-requires c κs = search needs
 
 enum-told : tie.Need-enum-told
 enum-told c = search needs
@@ -13,10 +16,17 @@ enum-known-a : tie.Need-enum-known-a
 enum-known-a c = search needs
 
 returns : tie.Need-returns
-returns c = tells saysFormat (formatPlaces (c .before .before .before .args .s)) (c .enum-told .given .1)
+returns c = rw (c .before .before .setup-places .ensures) (tells saysFormat (setupPlaces (c .before .before .before .args .s)) (c .enum-told .given .1))
 
 returns-2 : tie.Need-returns-2
-returns-2 c = tells saysFormat (formatPlaces (c .before .before .before .before .args .s)) (c .before .a .given .1)
+returns-2 c = rw (c .before .before .before .setup-places .ensures) (tells saysFormat (setupPlaces (c .before .before .before .before .args .s)) (c .before .a .given .1))
 
 pub formatted-spec : {M : Type 1} → statement M
-formatted-spec = tie.close (tie.spec enum-told enum-known-a returns returns-2)
+formatted-spec =
+    tie.close
+    (tie.spec
+    setup-places-requires
+    enum-told
+    enum-known-a
+    returns
+    returns-2)

@@ -25,4 +25,12 @@ returns-3 : tie.Need-returns-3
 returns-3 c = tells saysQuery queryPlaces (c .before .before .a3 .given .1)
 
 pub found-spec : {M : Type 1} → statement M
-found-spec = tie.close (tie.spec enum-known-a enum-known-a-2 enum-known-a-3 returns returns-2 returns-3)
+found-spec =
+    tie.close
+    (tie.spec
+    enum-known-a
+    enum-known-a-2
+    enum-known-a-3
+    returns
+    returns-2
+    returns-3)

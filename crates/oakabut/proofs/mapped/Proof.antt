@@ -23,4 +23,10 @@ returns-2 c = tells saysMap (mapPlaces (c .before .before .before .before .args 
 
 pub mapped-spec : {M : Type 1} → statement M
 mapped-spec =
-    tie.close (tie.spec enum-known-a element-write-answer enum-known-a-2 returns returns-2)
+    tie.close
+    (tie.spec
+    enum-known-a
+    element-write-answer
+    enum-known-a-2
+    returns
+    returns-2)

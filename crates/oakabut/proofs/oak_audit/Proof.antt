@@ -5,6 +5,8 @@ use Rattle.path.specs.declared.Setup.{Setup}
 use Rattle.model.specs.Answers.{pool}
 use Rattle.model.specs.Audit.{auditW}
 use Rattle.oakabut.proofs.Hands.{hears}
+use mathlib.Core.List.{_++_}
+use lib.ListN.{length}
 use borrow.Author.Needs.{needs}
 use Rattle.oakabut.proofs.oak_audit.Statement.{statement}
 use Rattle.oakabut.proofs.oak_audit.Tie as tie
@@ -20,9 +22,15 @@ audited-requires c κs = search needs
 
 returns : tie.Need-returns
 returns c =
-    let a = c .before .before .before .before .before .before .args in
-    let e = ap (λ (z : Setup). auditW four (pool z (a .words .now) (a .list .now))) (c .before .before .before .setup-at .ensures) in
+    let a = c .before .before .before .before .before .before .before .args in
+    let e = ap (λ (z : Setup). auditW four (pool z (a .words .now ++ a .second .now) (length (a .words .now)) (a .list .now))) (c .before .before .before .setup-at .ensures) in
     hears (c .before .before .audit .ensures .0 ∙ e) (c .audited .ensures)
 
 pub oak-audit-spec : {M : Type 1} → statement M
-oak-audit-spec = tie.close (tie.spec setup-at-requires audit-requires audited-requires returns)
+oak-audit-spec =
+    tie.close
+    (tie.spec
+    setup-at-requires
+    audit-requires
+    audited-requires
+    returns)

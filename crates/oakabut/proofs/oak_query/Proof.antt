@@ -5,6 +5,8 @@ use Rattle.path.specs.declared.Setup.{Setup}
 use Rattle.model.specs.Answers.{pool}
 use Rattle.model.specs.Calls.{queryW}
 use Rattle.oakabut.proofs.Hands.{hears}
+use mathlib.Core.List.{_++_}
+use lib.ListN.{length}
 use borrow.Author.Needs.{needs}
 use Rattle.oakabut.proofs.oak_query.Statement.{statement}
 use Rattle.oakabut.proofs.oak_query.Tie as tie
@@ -20,9 +22,15 @@ found-requires c κs = search needs
 
 returns : tie.Need-returns
 returns c =
-    let a = c .before .before .before .before .before .before .args in
-    let e = ap (λ (z : Setup). queryW four (pool z (a .words .now) (a .list .now)) (a .address)) (c .before .before .before .setup-at .ensures) in
+    let a = c .before .before .before .before .before .before .before .args in
+    let e = ap (λ (z : Setup). queryW four (pool z (a .words .now ++ a .second .now) (length (a .words .now)) (a .list .now)) (a .address)) (c .before .before .before .setup-at .ensures) in
     hears (c .before .before .query .ensures .0 ∙ e) (c .found .ensures)
 
 pub oak-query-spec : {M : Type 1} → statement M
-oak-query-spec = tie.close (tie.spec setup-at-requires query-requires found-requires returns)
+oak-query-spec =
+    tie.close
+    (tie.spec
+    setup-at-requires
+    query-requires
+    found-requires
+    returns)

@@ -4,7 +4,10 @@ use Rattle.path.specs.Geometry.{four}
 use Rattle.path.specs.declared.Setup.{Setup}
 use Rattle.model.specs.Answers.{pool}
 use Rattle.model.specs.Calls.{unmapW}
+use Rattle.oakabut.specs.Surface.{unmapPlaces}
 use Rattle.oakabut.proofs.Hands.{leaves}
+use mathlib.Core.List.{_++_}
+use lib.ListN.{length}
 use borrow.Author.Needs.{needs}
 use Rattle.oakabut.proofs.oak_unmap.Statement.{statement}
 use Rattle.oakabut.proofs.oak_unmap.Tie as tie
@@ -24,13 +27,23 @@ same-length c = search needs
 same-length-2 : tie.Need-same-length-2
 same-length-2 c = search needs
 
+same-length-3 : tie.Need-same-length-3
+same-length-3 c = search needs
+
 returns : tie.Need-returns
 returns c =
-    let a = c .before .before .before .before .before .before .before .before .before .before .before .before .args in
-    let e = ap (λ (z : Setup). unmapW four (pool z (a .words .now) (a .list .now)) (a .address)) (c .before .before .before .before .before .before .before .before .before .setup-at .ensures) in
-    leaves (c .before .before .before .before .before .before .unmap .ensures .0 ∙ e) (c .unmapped .ensures)
+    let a = c .before .before .before .before .before .before .before .before .before .before .before .before .before .before .before .before .args in
+    let e = ap (λ (z : Setup). unmapW four (pool z (a .words .now ++ a .second .now) (length (a .words .now)) (a .list .now)) (a .address)) (c .before .before .before .before .before .before .before .before .before .before .before .before .setup-at .ensures) in
+    leaves unmapPlaces (c .before .before .before .before .before .before .before .before .unmap .ensures .0 ∙ e) (c .unmapped .ensures)
 
 pub oak-unmap-spec : {M : Type 1} → statement M
 oak-unmap-spec =
     tie.close
-    (tie.spec setup-at-requires unmap-requires unmapped-requires same-length same-length-2 returns)
+    (tie.spec
+    setup-at-requires
+    unmap-requires
+    unmapped-requires
+    same-length
+    same-length-2
+    same-length-3
+    returns)

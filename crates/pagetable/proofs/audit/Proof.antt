@@ -1,4 +1,6 @@
 -- `pagetable::audit` is `audit::audit`, whose promise gives the ledger's. Assumes nothing.
+use mathlib.Core.List.{_++_}
+use lib.ListN.{length}
 use borrow.Author.Needs.{needs}
 use Rattle.path.specs.Geometry.{four}
 use Rattle.path.specs.Laws.{four-sane}
@@ -14,9 +16,13 @@ audit-requires c κs = search needs
 returns : tie.Need-returns
 returns c =
     let e = c .audit .ensures in
-    let a = c .before .before .before .args in
-    let p = pool (a .s) (a .words .now) (a .list .now) in
+    let a = c .before .before .before .before .args in
+    let p = pool (a .s) (a .words .now ++ a .second .now) (length (a .words .now)) (a .list .now) in
     (e, asked-by-ledger four four-sane p question.audit _ e)
 
 pub audit-spec : {M : Type 1} → statement M
-audit-spec = tie.close (tie.spec audit-requires returns)
+audit-spec =
+    tie.close
+    (tie.spec
+    audit-requires
+    returns)

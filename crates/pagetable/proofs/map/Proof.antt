@@ -1,4 +1,6 @@
 -- `pagetable::map` is `maps::map`, whose promise gives the ledger's. Assumes nothing.
+use mathlib.Core.List.{_++_}
+use lib.ListN.{length}
 use borrow.Author.Needs.{needs}
 use Rattle.path.specs.Geometry.{four}
 use Rattle.path.specs.Laws.{four-sane}
@@ -14,11 +16,20 @@ map-requires c κs = search needs
 same-length : tie.Need-same-length
 same-length c = search needs
 
+same-length-2 : tie.Need-same-length-2
+same-length-2 c = search needs
+
 returns : tie.Need-returns
 returns c =
-    let e = c .before .before .map .ensures in
-    let a = c .before .before .before .before .before .before .args in
-    (e, by-ledger four four-sane (pool (a .s) (a .words .now) (a .list .now)) (mapC (a .address) (a .frame) (a .size) (a .attributes)) _ e)
+    let e = c .before .before .before .before .map .ensures in
+    let a = c .before .before .before .before .before .before .before .before .before .before .args in
+    (e, by-ledger four four-sane (pool (a .s) (a .words .now ++ a .second .now) (length (a .words .now)) (a .list .now)) (mapC (a .address) (a .frame) (a .size) (a .attributes)) _ e)
 
 pub map-spec : {M : Type 1} → statement M
-map-spec = tie.close (tie.spec map-requires same-length returns)
+map-spec =
+    tie.close
+    (tie.spec
+    map-requires
+    same-length
+    same-length-2
+    returns)

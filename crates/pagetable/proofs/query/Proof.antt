@@ -1,4 +1,6 @@
 -- `pagetable::query` is `query::query`, whose promise gives the ledger's. Assumes nothing.
+use mathlib.Core.List.{_++_}
+use lib.ListN.{length}
 use borrow.Author.Needs.{needs}
 use Rattle.path.specs.Geometry.{four}
 use Rattle.path.specs.Laws.{four-sane}
@@ -14,9 +16,13 @@ query-requires c κs = search needs
 returns : tie.Need-returns
 returns c =
     let e = c .query .ensures in
-    let a = c .before .before .before .args in
-    let p = pool (a .s) (a .words .now) (a .list .now) in
+    let a = c .before .before .before .before .args in
+    let p = pool (a .s) (a .words .now ++ a .second .now) (length (a .words .now)) (a .list .now) in
     (e, asked-by-ledger four four-sane p (question.query (a .address)) _ e)
 
 pub query-spec : {M : Type 1} → statement M
-query-spec = tie.close (tie.spec query-requires returns)
+query-spec =
+    tie.close
+    (tie.spec
+    query-requires
+    returns)

@@ -1,4 +1,6 @@
 -- `pagetable::unmap` is `unmaps::unmap`, whose promise gives the ledger's. Assumes nothing.
+use mathlib.Core.List.{_++_}
+use lib.ListN.{length}
 use borrow.Author.Needs.{needs}
 use Rattle.path.specs.Geometry.{four}
 use Rattle.path.specs.Laws.{four-sane}
@@ -17,11 +19,21 @@ same-length c = search needs
 same-length-2 : tie.Need-same-length-2
 same-length-2 c = search needs
 
+same-length-3 : tie.Need-same-length-3
+same-length-3 c = search needs
+
 returns : tie.Need-returns
 returns c =
-    let e = c .before .before .before .before .unmap .ensures in
-    let a = c .before .before .before .before .before .before .before .before .before .args in
-    (e, by-ledger four four-sane (pool (a .s) (a .words .now) (a .list .now)) (unmapC (a .address)) _ e)
+    let e = c .before .before .before .before .before .before .unmap .ensures in
+    let a = c .before .before .before .before .before .before .before .before .before .before .before .before .before .args in
+    (e, by-ledger four four-sane (pool (a .s) (a .words .now ++ a .second .now) (length (a .words .now)) (a .list .now)) (unmapC (a .address)) _ e)
 
 pub unmap-spec : {M : Type 1} → statement M
-unmap-spec = tie.close (tie.spec unmap-requires same-length same-length-2 returns)
+unmap-spec =
+    tie.close
+    (tie.spec
+    unmap-requires
+    same-length
+    same-length-2
+    same-length-3
+    returns)

@@ -1,22 +1,27 @@
--- `path::good_setup` meets its contract: room in the free list, and good numbers.
+-- `path::good_setup` meets its contract: good numbers, and room in the free list.
 use mathlib.Core.Path.{sym, _∙_}
+use mathlib.Core.Bool.{false≢true}
 use native.Mathlib.Omega.{arith}
 use borrow.Author.Needs.{needs}
+use borrow.Author.Tests.{lt-ltb, ltb-true}
 use Rattle.path.specs.Laws.{good-numbers, numbers-good, good-setup, setup-good, setup-bad, same-truth}
 use Rattle.path.proofs.good_setup.Statement.{statement}
 use Rattle.path.proofs.good_setup.Tie as tie
 
-returns : tie.Need-returns
-returns c = sym (setup-bad (λ S. omega arith))
-
 good-numbers-requires : tie.Need-good-numbers-requires
 good-numbers-requires c κs = search needs
 
-returns-2 : tie.Need-returns-2
-returns-2 c =
+add-result : tie.Need-add-result
+add-result c = let N = good-numbers (sym (c .before .before .good-numbers .ensures) ∙ c .before .if1 .taken) in omega (arith, N .few)
+
+returns : tie.Need-returns
+returns c =
     same-truth _ _
-    (λ e. setup-good (record { numbers = good-numbers (sym (c .good-numbers .ensures) ∙ e); room = omega arith }))
-    (λ e. c .good-numbers .ensures ∙ numbers-good (good-setup e .numbers))
+    (λ e. setup-good (record { numbers = good-numbers (sym (c .before .before .before .good-numbers .ensures) ∙ c .before .before .if1 .taken); room = ltb-true _ _ e }))
+    (λ e. lt-ltb _ _ (good-setup e .room))
+
+returns-2 : tie.Need-returns-2
+returns-2 c = sym (setup-bad (λ S. false≢true (sym (c .if1 .left) ∙ c .before .good-numbers .ensures ∙ numbers-good (S .numbers))))
 
 pub good-setup-spec : {M : Type 1} → statement M
-good-setup-spec = tie.close (tie.spec returns good-numbers-requires returns-2)
+good-setup-spec = tie.close (tie.spec good-numbers-requires add-result returns returns-2)

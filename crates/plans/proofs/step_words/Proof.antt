@@ -1,5 +1,6 @@
 -- `plans::step_words`: by cases of the step.
 use mathlib.Core.Path.{sym, ap, _∙_}
+use mathlib.Core.List.{_++_}
 use borrow.Author.Needs.{needs}
 use Rattle.path.specs.Geometry.{four}
 use Rattle.model.specs.Writes.{memory, performAll}
@@ -29,32 +30,38 @@ enum-told-2 c = search needs
 same-length : tie.Need-same-length
 same-length c = search needs
 
+same-length-2 : tie.Need-same-length-2
+same-length-2 c = search needs
+
 returns : tie.Need-returns
 unfolding performAll
 returns c =
-    let a = c .before .before .before .before .before .before .before .before .args in
-    λ l. c .before .before .put .ensures ∙ ap (λ (s : Step). performAll four (writes s) (memory (a .words .now) l) .words) (sym (c .before .before .before .before .before .s .given .1))
+    let a = c .before .before .before .before .before .before .before .before .before .before .before .before .args in
+    λ k e l. c .before .before .before .before .put .ensures ∙ ap (λ (s : Step). performAll four (writes s) (memory (a .words .now ++ a .second .now) l) .words) (sym (c .before .before .before .before .before .before .before .before .s .given .1))
 
-same-length-2 : tie.Need-same-length-2
-same-length-2 c = search needs
+same-length-3 : tie.Need-same-length-3
+same-length-3 c = search needs
+
+same-length-4 : tie.Need-same-length-4
+same-length-4 c = search needs
 
 returns-2 : tie.Need-returns-2
 unfolding performAll
 returns-2 c =
-    let a = c .before .before .before .before .before .before .before .before .args in
-    λ l. c .before .before .wipe .ensures ∙ ap (λ (s : Step). performAll four (writes s) (memory (a .words .now) l) .words) (sym (c .before .before .before .before .before .s2 .given .1))
+    let a = c .before .before .before .before .before .before .before .before .before .before .before .before .args in
+    λ k e l. c .before .before .before .before .wipe .ensures k e ∙ ap (λ (s : Step). performAll four (writes s) (memory (a .words .now ++ a .second .now) l) .words) (sym (c .before .before .before .before .before .before .before .before .s2 .given .1))
 
 returns-3 : tie.Need-returns-3
 unfolding performAll
 returns-3 c =
-    let a = c .before .before .before .args in
-    λ l. ap (λ (s : Step). performAll four (writes s) (memory (a .words .now) l) .words) (sym (c .enum-told .given .1))
+    let a = c .before .before .before .before .args in
+    λ k e l. ap (λ (s : Step). performAll four (writes s) (memory (a .words .now ++ a .second .now) l) .words) (sym (c .enum-told .given .1))
 
 returns-4 : tie.Need-returns-4
 unfolding performAll
 returns-4 c =
-    let a = c .before .before .before .args in
-    λ l. ap (λ (s : Step). performAll four (writes s) (memory (a .words .now) l) .words) (sym (c .enum-told2 .given .1))
+    let a = c .before .before .before .before .args in
+    λ k e l. ap (λ (s : Step). performAll four (writes s) (memory (a .words .now ++ a .second .now) l) .words) (sym (c .enum-told2 .given .1))
 
 pub step-words-spec : {M : Type 1} → statement M
 step-words-spec =
@@ -67,8 +74,10 @@ step-words-spec =
     enum-told
     enum-told-2
     same-length
-    returns
     same-length-2
+    returns
+    same-length-3
+    same-length-4
     returns-2
     returns-3
     returns-4)

@@ -1,11 +1,11 @@
 -- `plans::write_all`: after i turns the memory is that of the first i steps.
-use Prim.Native.Nat.{_-_, _≤_}
-use mathlib.Core.List.{List}
+use Prim.Native.Nat.{ℕ, _-_, _*_, _≤_}
+use mathlib.Core.List.{List, _++_}
 use mathlib.Core.Path.{_≡_, refl, ap, _∙_}
 use native.Mathlib.Omega.{arith}
 use borrow.Author.Needs.{needs}
 use lib.ListN.{length, take}
-use Rattle.path.specs.Geometry.{four}
+use Rattle.path.specs.Geometry.{four, entries}
 use Rattle.model.specs.Writes.{Write, memory, performAll}
 use Rattle.plans.specs.Plan.{planned}
 use Rattle.plans.proofs.Plans.{both-next, planned-all}
@@ -13,15 +13,16 @@ use Rattle.plans.proofs.write_all.Statement.{statement}
 use Rattle.plans.proofs.write_all.Tie as tie
 
 abbrev Inv-loop : tie.InvT-loop
-Inv-loop words₀ list₀ plan i₀ words list i =
-    (i ≤ 7) × ((length words ≡ length words₀) × ((length list ≡ length list₀) × (memory words list ≡ performAll four (planned (take i plan)) (memory words₀ list₀))))
+Inv-loop words₀ second₀ list₀ plan i₀ words second list i =
+    (i ≤ 7) × ((length words ≡ length words₀) × ((length second ≡ length second₀) × ((length list ≡ length list₀) × ((k : ℕ) → length words₀ ≡ entries four * k
+    → memory (words ++ second) list ≡ performAll four (planned (take i plan)) (memory (words₀ ++ second₀) list₀)))))
 
 abbrev μ-loop : tie.MeasureT-loop
-μ-loop words₀ list₀ plan i₀ words list i = 7 - i
+μ-loop words₀ second₀ list₀ plan i₀ words second list i = 7 - i
 
 loop-holds : tie.Need-loop-holds Inv-loop μ-loop
 unfolding planned performAll
-loop-holds c = (search needs, (refl, (refl, refl)))
+loop-holds c = (search needs, (refl, (refl, (refl, λ k e. refl))))
 
 mul-s : tie.Need-mul-s Inv-loop μ-loop
 mul-s c = omega arith
@@ -43,14 +44,20 @@ loop-less c = omega arith
 
 loop-again : tie.Need-loop-again Inv-loop μ-loop
 loop-again c =
-    let a = c .before .before .before .before .before .before .before .before .before .before .before .before .before .args in
-    let l = c .before .before .before .before .before .before .before .before .before .before .loop in
-    let words = c .before .before .before .before .before .before .step-words in
+    let a = c .before .before .before .before .before .before .before .before .before .before .before .before .before .before .before .before .before .args in
+    let l = c .before .before .before .before .before .before .before .before .before .before .before .before .before .loop in
+    let words = c .before .before .before .before .before .before .before .before .step-words in
     let list = c .before .before .step-list in (
       search needs,
       (
         words .kept .0 ∙ l .inv .1 .0,
-        (list .kept .0 ∙ l .inv .1 .1 .0, both-next four (a .t3) (l .i) (omega arith) (memory (a .words .now) (a .list .now)) (l .inv .1 .1 .1) (words .ensures) (list .ensures)),
+        (
+          words .kept .1 .0 ∙ l .inv .1 .1 .0,
+          (
+            list .kept .0 ∙ l .inv .1 .1 .1 .0,
+            λ k e. both-next four (a .t4) (l .i) (omega arith) (memory (a .words .now ++ a .second .now) (a .list .now)) (l .inv .1 .1 .1 .1 k e) (words .ensures k (l .inv .1 .0 ∙ e)) (list .ensures),
+          ),
+        ),
       ),
     )
 
@@ -60,11 +67,14 @@ same-length c = search needs
 same-length-2 : tie.Need-same-length-2 Inv-loop μ-loop
 same-length-2 c = search needs
 
+same-length-3 : tie.Need-same-length-3 Inv-loop μ-loop
+same-length-3 c = search needs
+
 returns : tie.Need-returns Inv-loop μ-loop
 returns c =
-    let a = c .before .before .before .before .args in
+    let a = c .before .before .before .before .before .args in
     let l = c .before .loop in
-    l .inv .1 .1 .1 ∙ ap (λ (x : List Write). performAll four x (memory (a .words .now) (a .list .now))) (planned-all (a .t3) (l .i) (omega arith))
+    λ k e. l .inv .1 .1 .1 .1 k e ∙ ap (λ (x : List Write). performAll four x (memory (a .words .now ++ a .second .now) (a .list .now))) (planned-all (a .t4) (l .i) (omega arith))
 
 pub write-all-spec : {M : Type 1} → statement M
 write-all-spec =
@@ -82,4 +92,5 @@ write-all-spec =
     loop-again
     same-length
     same-length-2
+    same-length-3
     returns)

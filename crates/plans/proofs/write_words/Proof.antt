@@ -1,11 +1,11 @@
 -- `plans::write_words`: after i turns the words are those of the first i steps.
-use Prim.Native.Nat.{ℕ, _-_, _≤_}
-use mathlib.Core.List.{List}
+use Prim.Native.Nat.{ℕ, _-_, _*_, _≤_}
+use mathlib.Core.List.{List, _++_}
 use mathlib.Core.Path.{_≡_, refl, ap, _∙_}
 use native.Mathlib.Omega.{arith}
 use borrow.Author.Needs.{needs}
 use lib.ListN.{length, take}
-use Rattle.path.specs.Geometry.{four}
+use Rattle.path.specs.Geometry.{four, entries}
 use Rattle.model.specs.Writes.{Write, memory, performAll}
 use Rattle.plans.specs.Plan.{planned}
 use Rattle.plans.proofs.Plans.{words-next, planned-all}
@@ -13,14 +13,16 @@ use Rattle.plans.proofs.write_words.Statement.{statement}
 use Rattle.plans.proofs.write_words.Tie as tie
 
 abbrev Inv-loop : tie.InvT-loop
-Inv-loop words₀ plan i₀ words i = (i ≤ 7) × ((length words ≡ length words₀) × ((l : List ℕ) → words ≡ performAll four (planned (take i plan)) (memory words₀ l) .words))
+Inv-loop words₀ second₀ plan i₀ words second i =
+    (i ≤ 7) × ((length words ≡ length words₀) × ((length second ≡ length second₀) × ((k : ℕ) → length words₀ ≡ entries four * k → (l : List ℕ)
+    → words ++ second ≡ performAll four (planned (take i plan)) (memory (words₀ ++ second₀) l) .words)))
 
 abbrev μ-loop : tie.MeasureT-loop
-μ-loop words₀ plan i₀ words i = 7 - i
+μ-loop words₀ second₀ plan i₀ words second i = 7 - i
 
 loop-holds : tie.Need-loop-holds Inv-loop μ-loop
 unfolding planned performAll
-loop-holds c = (search needs, (refl, λ l. refl))
+loop-holds c = (search needs, (refl, (refl, λ k e l. refl)))
 
 mul-s : tie.Need-mul-s Inv-loop μ-loop
 mul-s c = omega arith
@@ -39,23 +41,29 @@ loop-less c = omega arith
 
 loop-again : tie.Need-loop-again Inv-loop μ-loop
 loop-again c =
-    let a = c .before .before .before .before .before .before .before .before .args in
-    let l = c .before .before .before .before .before .before .loop in (
+    let a = c .before .before .before .before .before .before .before .before .before .before .before .before .args in
+    let l = c .before .before .before .before .before .before .before .before .before .loop in (
       search needs,
       (
-        c .before .before .step-words .kept .0 ∙ l .inv .1 .0,
-        words-next four (a .t2) (l .i) (omega arith) (a .words .now) (l .inv .1 .1) (c .before .before .step-words .ensures),
+        c .before .before .before .before .step-words .kept .0 ∙ l .inv .1 .0,
+        (
+          c .before .before .before .before .step-words .kept .1 .0 ∙ l .inv .1 .1 .0,
+          λ k e. words-next four (a .t3) (l .i) (omega arith) (a .words .now ++ a .second .now) (l .inv .1 .1 .1 k e) (c .before .before .before .before .step-words .ensures k (l .inv .1 .0 ∙ e)),
+        ),
       ),
     )
 
 same-length : tie.Need-same-length Inv-loop μ-loop
 same-length c = search needs
 
+same-length-2 : tie.Need-same-length-2 Inv-loop μ-loop
+same-length-2 c = search needs
+
 returns : tie.Need-returns Inv-loop μ-loop
 returns c =
-    let a = c .before .before .before .args in
+    let a = c .before .before .before .before .args in
     let l = c .before .loop in
-    λ k. l .inv .1 .1 k ∙ ap (λ (x : List Write). performAll four x (memory (a .words .now) k) .words) (planned-all (a .t2) (l .i) (omega arith))
+    λ k e r. l .inv .1 .1 .1 k e r ∙ ap (λ (x : List Write). performAll four x (memory (a .words .now ++ a .second .now) r) .words) (planned-all (a .t3) (l .i) (omega arith))
 
 pub write-words-spec : {M : Type 1} → statement M
 write-words-spec =
@@ -71,4 +79,5 @@ write-words-spec =
     loop-less
     loop-again
     same-length
+    same-length-2
     returns)

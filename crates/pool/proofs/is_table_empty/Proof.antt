@@ -7,17 +7,17 @@ use Rattle.pool.proofs.is_table_empty.Statement.{statement}
 use Rattle.pool.proofs.is_table_empty.Tie as tie
 use Rattle.pool.proofs.is_table_empty.Reads as reads
 use Rattle.pool.proofs.is_table_empty.Lts as lts
-use Rattle.pool.proofs.table_words.Reads as table-words-reads
+use Rattle.pool.proofs.table_part.Reads as table-part-reads
 use Rattle.pool.proofs.zeros_but.Reads as zeros-but-reads
 
-table-words-requires : tie.Need-table-words-requires
-table-words-requires c κs = search needs
+table-part-requires : tie.Need-table-part-requires
+table-part-requires c κs = search needs
 
 zeros-but-requires : tie.Need-zeros-but-requires
 zeros-but-requires c κs = search needs
 
 returns : tie.Need-returns
-returns c = c .zeros-but .ensures ∙ none-out _ _ _ 512 (c .before .table-words .ensures)
+returns c = λ k e. c .zeros-but .ensures ∙ none-out _ _ _ 512 (c .before .table-part .ensures k e)
 
 pub is-table-empty-spec : {M : Type 1} → statement M
-is-table-empty-spec = tie.close (tie.spec table-words-requires zeros-but-requires returns)
+is-table-empty-spec = tie.close (tie.spec table-part-requires zeros-but-requires returns)

@@ -1,60 +1,49 @@
--- `pool::wipe` zeroes the part of the words that is the table, where there is such a part.
-use Prim.Native.Nat.{ℕ, _+_, _*_}
-use mathlib.Core.Path.{sym, ap, _∙_}
+-- `pool::wipe`: the table is zeroed in the run that holds it.
+use Prim.Native.Nat.{ℕ}
+use mathlib.Core.List.{List, _++_}
+use mathlib.Core.Path.{ap, _∙_}
 use native.Mathlib.Omega.{arith}
+use Rattle.pool.proofs.Laws.{wipe-first, wipe-later}
 use borrow.Author.Needs.{needs}
-use Rattle.laws.specs.ListLaws.{zeroed-none}
-use Rattle.laws.specs.Lists.{zeroed}
-use Rattle.pool.proofs.Laws.{wiped}
 use Rattle.pool.proofs.wipe.Statement.{statement}
 use Rattle.pool.proofs.wipe.Tie as tie
+use Rattle.pool.proofs.wipe.Reads as reads
+use Rattle.pool.proofs.wipe.Lts as lts
+use Rattle.pool.proofs.wipe_from.Reads as wipe-from-reads
 
 mul-start : tie.Need-mul-start
 mul-start c = search needs
 
-add-end : tie.Need-add-end
-add-end c = search needs
-
-mul-clear : tie.Need-mul-clear
-mul-clear c = search needs
-
-sub-clear : tie.Need-sub-clear
-sub-clear c = search needs
-
-part-clear-start : tie.Need-part-clear-start
-part-clear-start c = search needs
-
-part-clear-end : tie.Need-part-clear-end
-part-clear-end c = search needs
-
-clear-requires : tie.Need-clear-requires
-clear-requires c κs = search needs
+wipe-from-requires : tie.Need-wipe-from-requires
+wipe-from-requires c κs = search needs
 
 same-length : tie.Need-same-length
 same-length c = search needs
 
 returns : tie.Need-returns
 returns c =
-    let a = c .before .before .before .before .before .before .args in
-    wiped (a .words .now) _ (512 * a .t) 512 (omega arith) (c .before .before .clear .ensures)
-    ∙ ap (λ (n : ℕ). zeroed (a .words .now) n 512) (omega arith)
+    let a = c .before .before .before .before .before .before .before .args in
+    λ k e. ap (λ (l : List ℕ). l ++ a .second .now) (c .before .before .wipe-from .ensures) ∙ wipe-first (a .words .now) (a .second .now) (a .t) k e (omega arith)
+
+wipe-from-requires-2 : tie.Need-wipe-from-requires-2
+wipe-from-requires-2 c κs = search needs
+
+same-length-2 : tie.Need-same-length-2
+same-length-2 c = search needs
 
 returns-2 : tie.Need-returns-2
 returns-2 c =
-    let a = c .before .before .args in
-    sym (zeroed-none (a .words .now) (512 * a .t + 0) 512 (omega arith))
+    let a = c .before .before .before .before .before .before .before .args in
+    λ k e. ap (λ (l : List ℕ). a .words .now ++ l) (c .before .before .wipe-from2 .ensures) ∙ wipe-later (a .words .now) (a .second .now) (a .t) (omega arith)
 
 pub wipe-spec : {M : Type 1} → statement M
 wipe-spec =
     tie.close
     (tie.spec
     mul-start
-    add-end
-    mul-clear
-    sub-clear
-    part-clear-start
-    part-clear-end
-    clear-requires
+    wipe-from-requires
     same-length
     returns
+    wipe-from-requires-2
+    same-length-2
     returns-2)

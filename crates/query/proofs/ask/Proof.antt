@@ -1,7 +1,7 @@
 -- What the walk to the last level answers meets its contract: at each turn the walk that is left is the whole walk.
-use Prim.Native.Nat.{ℕ, _-_, _≤_, _<_}
+use Prim.Native.Nat.{ℕ, _+_, _-_, _≤_, _<_}
 use mathlib.Core.Path.{_≡_, refl, sym, ap, _∙_}
-use mathlib.Core.List.{List}
+use mathlib.Core.List.{List, _++_}
 use native.Mathlib.Omega.{arith}
 use lib.ListN.{length, getD, length-set}
 use borrow.Author.Needs.{needs}
@@ -20,11 +20,11 @@ use Rattle.query.proofs.ask.Statement.{statement}
 use Rattle.query.proofs.ask.Tie as tie
 
 abbrev Inv-loop : tie.InvT-loop
-Inv-loop words base tables levels address places₀ path way₀ t₀ h₀ places way t h =
-    (1 ≤ h) × (h ≤ 4) × (t < tables) × (length way ≡ 4) × Going four words (areaAt base tables) 0 path (levels - 1) h way t
+Inv-loop words second base tables base2 tables2 levels address places₀ path way₀ t₀ h₀ places way t h =
+    (1 ≤ h) × (h ≤ 4) × (t < tables + tables2) × (length way ≡ 4) × Going four (words ++ second) (areaAt base tables base2 tables2) 0 path (levels - 1) h way t
 
 abbrev μ-loop : tie.MeasureT-loop
-μ-loop words base tables levels address places₀ path way₀ t₀ h₀ places way t h = h
+μ-loop words second base tables base2 tables2 levels address places₀ path way₀ t₀ h₀ places way t h = h
 
 -- a walk by the path of the address
 whole : (ws : List ℕ) (area : Area) (a top : ℕ) {path : List ℕ} {o : Walked} → path ≡ pathOf four a → o ≡ walkFrom four ws area 0 path top noWay 0
@@ -64,21 +64,12 @@ cast-place-2 c = search needs
 
 add-place : tie.Need-add-place Inv-loop μ-loop
 add-place c =
-    let s = c .before .before .before .before .before .args in
-    let l = c .before .before .loop in
-    omega (arith, index-lt (s .address) (3 - (l .h - 1)) (c .before .before .before .path-of .ensures) (omega arith))
-
-mul-w : tie.Need-mul-w Inv-loop μ-loop
-mul-w c =
-    let s = c .before .before .before .before .before .args in
-    let l = c .before .before .loop in
-    omega (arith, index-lt (s .address) (3 - (l .h - 1)) (c .before .before .before .path-of .ensures) (omega arith))
-
-shared-slice-read-w : tie.Need-shared-slice-read-w Inv-loop μ-loop
-shared-slice-read-w c =
     let s = c .before .before .before .before .before .before .args in
-    let l = c .before .before .before .loop in
-    omega (arith, index-lt (s .address) (3 - (l .h - 1)) (c .before .before .before .before .path-of .ensures) (omega arith))
+    let l = c .before .before .loop in
+    omega (arith, index-lt (s .address) (3 - (l .h - 1)) (c .before .before .before .path-of .ensures) (omega arith))
+
+word-requires : tie.Need-word-requires Inv-loop μ-loop
+word-requires c κs = search needs
 
 hole-told-requires : tie.Need-hole-told-requires Inv-loop μ-loop
 hole-told-requires c κs = search needs
@@ -86,21 +77,21 @@ hole-told-requires c κs = search needs
 returns : tie.Need-returns Inv-loop μ-loop
 unfolding foundAt
 returns c =
-    let s = c .before .before .before .before .before .before .before .before .before .args in
+    let s = c .before .before .before .before .before .before .before .before .before .before .args in
     let l = c .before .before .before .before .before .before .loop in
     c .hole-told .ensures
-    ∙ whole (s .words .now) (areaAt (s .base) (s .tables)) (s .address) (s .levels - 1) (c .before .before .before .before .before .before .before .path-of .ensures) (ends-empty four (s .words .now) (areaAt (s .base) (s .tables)) 0 (c .before .before .before .before .before .before .before .path-of .result) (l .h - 1) (l .way) (l .t) refl (c .before .before .if2 .taken) ∙ l .inv .4 .goes (omega arith))
+    ∙ whole (s .words .now ++ s .second .now) (areaAt (s .base) (s .tables) (s .base2) (s .tables2)) (s .address) (s .levels - 1) (c .before .before .before .before .before .before .before .path-of .ensures) (ends-empty four (s .words .now ++ s .second .now) (areaAt (s .base) (s .tables) (s .base2) (s .tables2)) 0 (c .before .before .before .before .before .before .before .path-of .result) (l .h - 1) (l .way) (l .t) (c .before .before .before .word .ensures) (c .before .before .if2 .taken) ∙ l .inv .4 .goes (omega arith))
 
 frame-told-requires : tie.Need-frame-told-requires Inv-loop μ-loop
 frame-told-requires c κs = search needs
 
 returns-2 : tie.Need-returns-2 Inv-loop μ-loop
 returns-2 c =
-    let s = c .before .before .before .before .before .before .before .before .before .before .args in
+    let s = c .before .before .before .before .before .before .before .before .before .before .before .args in
     let l = c .before .before .before .before .before .before .before .loop in
     c .frame-told .ensures
-    ∙ whole (s .words .now) (areaAt (s .base) (s .tables)) (s .address) (s .levels - 1) (c .before .before .before .before .before .before .before .before .path-of .ensures)
-    (ends-frame four (s .words .now) (areaAt (s .base) (s .tables)) 0 (c .before .before .before .before .before .before .before .before .path-of .result) (l .h - 1) (l .way) (l .t) refl (c .before .before .before .if2 .left) (λ high. absurd (omega arith)) ∙ l .inv .4 .goes (omega arith))
+    ∙ whole (s .words .now ++ s .second .now) (areaAt (s .base) (s .tables) (s .base2) (s .tables2)) (s .address) (s .levels - 1) (c .before .before .before .before .before .before .before .before .path-of .ensures)
+    (ends-frame four (s .words .now ++ s .second .now) (areaAt (s .base) (s .tables) (s .base2) (s .tables2)) 0 (c .before .before .before .before .before .before .before .before .path-of .result) (l .h - 1) (l .way) (l .t) (c .before .before .before .before .word .ensures) (c .before .before .before .if2 .left) (λ high. absurd (omega arith)) ∙ l .inv .4 .goes (omega arith))
 
 child-in-requires : tie.Need-child-in-requires Inv-loop μ-loop
 child-in-requires c κs = search needs
@@ -110,11 +101,11 @@ frame-told-requires-2 c κs = search needs
 
 returns-3 : tie.Need-returns-3 Inv-loop μ-loop
 returns-3 c =
-    let s = c .before .before .before .before .before .before .before .before .before .before .before .before .args in
+    let s = c .before .before .before .before .before .before .before .before .before .before .before .before .before .args in
     let l = c .before .before .before .before .before .before .before .before .before .loop in
     c .frame-told2 .ensures
-    ∙ whole (s .words .now) (areaAt (s .base) (s .tables)) (s .address) (s .levels - 1) (c .before .before .before .before .before .before .before .before .before .before .path-of .ensures)
-    (ends-frame four (s .words .now) (areaAt (s .base) (s .tables)) 0 (c .before .before .before .before .before .before .before .before .before .before .path-of .result) (l .h - 1) (l .way) (l .t) refl (c .before .before .before .before .before .if2 .left) (λ high. sym (c .before .before .before .child-in .ensures) ∙ c .before .before .if4 .taken)
+    ∙ whole (s .words .now ++ s .second .now) (areaAt (s .base) (s .tables) (s .base2) (s .tables2)) (s .address) (s .levels - 1) (c .before .before .before .before .before .before .before .before .before .before .path-of .ensures)
+    (ends-frame four (s .words .now ++ s .second .now) (areaAt (s .base) (s .tables) (s .base2) (s .tables2)) 0 (c .before .before .before .before .before .before .before .before .before .before .path-of .result) (l .h - 1) (l .way) (l .t) (c .before .before .before .before .before .before .word .ensures) (c .before .before .before .before .before .if2 .left) (λ high. sym (c .before .before .before .child-in .ensures) ∙ c .before .before .if4 .taken)
     ∙ l .inv .4 .goes (omega arith))
 
 mul-way : tie.Need-mul-way Inv-loop μ-loop
@@ -129,11 +120,11 @@ among-four-requires c κs = search needs
 returns-4 : tie.Need-returns-4 Inv-loop μ-loop
 unfolding foundAt
 returns-4 c =
-    let s = c .before .before .before .before .before .before .before .before .before .before .before .before .args in
+    let s = c .before .before .before .before .before .before .before .before .before .before .before .before .before .args in
     let l = c .before .before .before .before .before .before .before .before .before .loop in
     answer-no 8 _ (λ e. omega arith) (λ e. omega arith)
-    ∙ whole (s .words .now) (areaAt (s .base) (s .tables)) (s .address) (s .levels - 1) (c .before .before .before .before .before .before .before .before .before .before .path-of .ensures)
-    (comes-again four (s .words .now) (areaAt (s .base) (s .tables)) 0 (c .before .before .before .before .before .before .before .before .before .before .path-of .result) (l .h - 1) (l .way) (l .t) refl (c .before .before .before .child-in .ensures) (omega (arith, c .before .before .if4 .left)) (omega (arith, c .before .before .before .before .if3 .left))
+    ∙ whole (s .words .now ++ s .second .now) (areaAt (s .base) (s .tables) (s .base2) (s .tables2)) (s .address) (s .levels - 1) (c .before .before .before .before .before .before .before .before .before .before .path-of .ensures)
+    (comes-again four (s .words .now ++ s .second .now) (areaAt (s .base) (s .tables) (s .base2) (s .tables2)) 0 (c .before .before .before .before .before .before .before .before .before .before .path-of .result) (l .h - 1) (l .way) (l .t) (c .before .before .before .before .before .before .word .ensures) (c .before .before .before .child-in .ensures) (omega (arith, c .before .before .if4 .left)) (omega (arith, c .before .before .before .before .if3 .left))
     (sym (c .before .among-four .ensures) ∙ c .if5 .taken)
     ∙ l .inv .4 .goes (omega arith))
 
@@ -142,14 +133,14 @@ loop-less c = search needs
 
 loop-again : tie.Need-loop-again Inv-loop μ-loop
 loop-again c =
-    let s = c .before .before .before .before .before .before .before .before .before .before .before .before .args in
+    let s = c .before .before .before .before .before .before .before .before .before .before .before .before .before .args in
     let l = c .before .before .before .before .before .before .before .before .before .loop in (
       omega (arith, c .before .before .before .before .if3 .left),
       omega arith,
-      child-only four (areaAt (s .base) (s .tables)) _ (sym (c .before .before .before .child-in .ensures)) (omega (arith, c .before .before .if4 .left)) .0,
+      child-only four (areaAt (s .base) (s .tables) (s .base2) (s .tables2)) _ (sym (c .before .before .before .child-in .ensures)) (omega (arith, c .before .before .if4 .left)) .0,
       length-set (l .way) (3 - (l .h - 1)) (l .t) ∙ l .inv .3,
       going-down four _ _ _ _ (l .inv .4) (omega arith)
-          (goes-down four (s .words .now) (areaAt (s .base) (s .tables)) 0 (c .before .before .before .before .before .before .before .before .before .before .path-of .result) (l .h - 1) (l .way) (l .t) refl (c .before .before .before .child-in .ensures) (omega (arith, c .before .before .if4 .left)) (omega (arith, c .before .before .before .before .if3 .left))
+          (goes-down four (s .words .now ++ s .second .now) (areaAt (s .base) (s .tables) (s .base2) (s .tables2)) 0 (c .before .before .before .before .before .before .before .before .before .before .path-of .result) (l .h - 1) (l .way) (l .t) (c .before .before .before .before .before .before .word .ensures) (c .before .before .before .child-in .ensures) (omega (arith, c .before .before .if4 .left)) (omega (arith, c .before .before .before .before .if3 .left))
           (sym (c .before .among-four .ensures) ∙ c .if5 .left)),
     )
 
@@ -158,7 +149,7 @@ loop-less-2 c = search needs
 
 loop-again-2 : tie.Need-loop-again-2 Inv-loop μ-loop
 loop-again-2 c =
-    let s = c .before .before .before .before .before .args in
+    let s = c .before .before .before .before .before .before .args in
     let l = c .before .before .loop in
     (omega arith, omega arith, l .inv .2, l .inv .3, going-past four _ _ _ _ (l .inv .4) (omega arith))
 
@@ -181,8 +172,7 @@ ask-spec =
     mul-place
     cast-place-2
     add-place
-    mul-w
-    shared-slice-read-w
+    word-requires
     hole-told-requires
     returns
     frame-told-requires

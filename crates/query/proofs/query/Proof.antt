@@ -1,8 +1,11 @@
 -- Query meets its contract.
+use mathlib.Core.List.{_++_}
 use mathlib.Core.Path.{sym, _∙_}
 use native.Mathlib.Omega.{arith}
+use lib.ListN.{length}
 use borrow.Author.Needs.{needs}
 use Rattle.model.specs.Answers.{pool}
+use Rattle.model.specs.Refusing.{good-both}
 use Rattle.query.specs.AskLaws.{answer-no, answer-hole, answer-found}
 use Rattle.query.proofs.Queries.{good, query-bad, query-past, query-walks}
 use Rattle.query.proofs.query.Statement.{statement}
@@ -13,17 +16,17 @@ good-setup-requires c κs = search needs
 
 returns : tie.Need-returns
 returns c =
-    let s = c .before .before .before .before .args in
-    query-bad (pool (s .s) (s .words .now) (s .list .now)) (s .address) (c .before .good-setup .ensures) (c .if1 .taken)
+    let s = c .before .before .before .before .before .args in
+    query-bad (pool (s .s) (s .words .now ++ s .second .now) (length (s .words .now)) (s .list .now)) (s .address) (good-both (s .s) (s .words .now) (s .second .now) (s .list .now) (c .before .good-setup .ensures)) (c .if1 .taken)
 
 in-space-requires : tie.Need-in-space-requires
 in-space-requires c κs = search needs
 
 returns-2 : tie.Need-returns-2
 returns-2 c =
-    let s = c .before .before .before .before .before .before .args in
-    query-past (pool (s .s) (s .words .now) (s .list .now)) (s .address)
-    (c .before .before .before .good-setup .ensures)
+    let s = c .before .before .before .before .before .before .before .args in
+    query-past (pool (s .s) (s .words .now ++ s .second .now) (length (s .words .now)) (s .list .now)) (s .address)
+    (good-both (s .s) (s .words .now) (s .second .now) (s .list .now) (c .before .before .before .good-setup .ensures))
     (c .before .before .if1 .left)
     (c .before .in-space .ensures)
     (c .if2 .taken)
@@ -31,56 +34,59 @@ returns-2 c =
 cast-ask : tie.Need-cast-ask
 cast-ask c = omega (arith, good (c .before .before .before .good-setup .ensures) (c .before .before .if1 .left))
 
+cast-ask-2 : tie.Need-cast-ask-2
+cast-ask-2 c = omega (arith, good (c .before .before .before .good-setup .ensures) (c .before .before .if1 .left))
+
 ask-requires : tie.Need-ask-requires
 ask-requires c κs = omega (arith, good (c .before .before .before .before .good-setup .ensures) (c .before .before .before .if1 .left))
 
-array-read-t18 : tie.Need-array-read-t18
-array-read-t18 c = search needs
+array-read-t23 : tie.Need-array-read-t23
+array-read-t23 c = search needs
 
-array-read-t21 : tie.Need-array-read-t21
-array-read-t21 c = search needs
+array-read-t26 : tie.Need-array-read-t26
+array-read-t26 c = search needs
 
 returns-3 : tie.Need-returns-3
 returns-3 c =
-    let s = c .before .before .before .before .before .before .before .before .before .args in
+    let s = c .before .before .before .before .before .before .before .before .before .before .args in
     sym (answer-hole _ (c .if3 .taken))
     ∙ c .before .ask .ensures
-    ∙ query-walks (pool (s .s) (s .words .now) (s .list .now)) (s .address)
-    (c .before .before .before .before .before .before .good-setup .ensures)
+    ∙ query-walks (pool (s .s) (s .words .now ++ s .second .now) (length (s .words .now)) (s .list .now)) (s .address)
+    (good-both (s .s) (s .words .now) (s .second .now) (s .list .now) (c .before .before .before .before .before .before .good-setup .ensures))
     (c .before .before .before .before .before .if1 .left)
     (c .before .before .before .before .in-space .ensures)
     (c .before .before .before .if2 .left)
 
 returns-4 : tie.Need-returns-4
 returns-4 c =
-    let s = c .before .before .before .before .before .before .before .before .before .before .args in
+    let s = c .before .before .before .before .before .before .before .before .before .before .before .args in
     sym (answer-no _ _ (c .if4 .taken) (c .before .if3 .left))
     ∙ c .before .before .ask .ensures
-    ∙ query-walks (pool (s .s) (s .words .now) (s .list .now)) (s .address)
-    (c .before .before .before .before .before .before .before .good-setup .ensures)
+    ∙ query-walks (pool (s .s) (s .words .now ++ s .second .now) (length (s .words .now)) (s .list .now)) (s .address)
+    (good-both (s .s) (s .words .now) (s .second .now) (s .list .now) (c .before .before .before .before .before .before .before .good-setup .ensures))
     (c .before .before .before .before .before .before .if1 .left)
     (c .before .before .before .before .before .in-space .ensures)
     (c .before .before .before .before .if2 .left)
 
-array-read-t24 : tie.Need-array-read-t24
-array-read-t24 c = search needs
+array-read-t29 : tie.Need-array-read-t29
+array-read-t29 c = search needs
 
-array-read-t27 : tie.Need-array-read-t27
-array-read-t27 c = search needs
+array-read-t32 : tie.Need-array-read-t32
+array-read-t32 c = search needs
 
-array-read-t30 : tie.Need-array-read-t30
-array-read-t30 c = search needs
+array-read-t35 : tie.Need-array-read-t35
+array-read-t35 c = search needs
 
-array-read-t33 : tie.Need-array-read-t33
-array-read-t33 c = search needs
+array-read-t38 : tie.Need-array-read-t38
+array-read-t38 c = search needs
 
 returns-5 : tie.Need-returns-5
 returns-5 c =
-    let s = c .before .before .before .before .before .before .before .before .before .before .args in
+    let s = c .before .before .before .before .before .before .before .before .before .before .before .args in
     sym (answer-found _ (c .if4 .left))
     ∙ c .before .before .ask .ensures
-    ∙ query-walks (pool (s .s) (s .words .now) (s .list .now)) (s .address)
-    (c .before .before .before .before .before .before .before .good-setup .ensures)
+    ∙ query-walks (pool (s .s) (s .words .now ++ s .second .now) (length (s .words .now)) (s .list .now)) (s .address)
+    (good-both (s .s) (s .words .now) (s .second .now) (s .list .now) (c .before .before .before .before .before .before .before .good-setup .ensures))
     (c .before .before .before .before .before .before .if1 .left)
     (c .before .before .before .before .before .in-space .ensures)
     (c .before .before .before .before .if2 .left)
@@ -94,13 +100,14 @@ query-spec =
     in-space-requires
     returns-2
     cast-ask
+    cast-ask-2
     ask-requires
-    array-read-t18
-    array-read-t21
+    array-read-t23
+    array-read-t26
     returns-3
     returns-4
-    array-read-t24
-    array-read-t27
-    array-read-t30
-    array-read-t33
+    array-read-t29
+    array-read-t32
+    array-read-t35
+    array-read-t38
     returns-5)

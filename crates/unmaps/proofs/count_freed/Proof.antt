@@ -1,25 +1,29 @@
 -- `unmaps::count_freed`: the tables passed, and those that come free from there on.
-use Prim.Native.Nat.{_+_, _-_, _≤_}
+use Prim.Native.Nat.{ℕ, _+_, _-_, _*_, _≤_}
+use mathlib.Core.List.{_++_}
+use lib.ListN.{length}
 use mathlib.Core.Path.{_≡_, sym, _∙_}
 use native.Mathlib.Omega.{arith}
 use borrow.Author.Tests.{not-true, not-false}
 use borrow.Author.Needs.{needs}
-use Rattle.path.specs.Geometry.{four}
+use Rattle.path.specs.Geometry.{four, entries}
 use Rattle.model.specs.Writes.{freed}
 use Rattle.unmaps.proofs.Frees.{freed-stop, freed-more, freed-end}
 use Rattle.unmaps.proofs.count_freed.Statement.{statement}
 use Rattle.unmaps.proofs.count_freed.Tie as tie
 
 abbrev Inv-loop : tie.InvT-loop
-Inv-loop words left top way path h₀ h = (left ≤ h) × ((h ≤ top) × (freed four words way path left (top - left) ≡ h - left + freed four words way path h (top - h)))
+Inv-loop words second left top way path h₀ h =
+    (left ≤ h) × ((h ≤ top) × ((k : ℕ) → length words ≡ entries four * k
+    → freed four (words ++ second) way path left (top - left) ≡ h - left + freed four (words ++ second) way path h (top - h)))
 
 abbrev μ-loop : tie.MeasureT-loop
-μ-loop words left top way path h₀ h = top - h
+μ-loop words second left top way path h₀ h = top - h
 
 loop-holds : tie.Need-loop-holds Inv-loop μ-loop
 loop-holds c =
-    let a = c .before .args in
-    (search needs, (search needs, omega arith))
+    let a = c .before .before .args in
+    (search needs, (search needs, λ k e. omega arith))
 
 sub-at : tie.Need-sub-at Inv-loop μ-loop
 sub-at c = omega arith
@@ -44,10 +48,11 @@ sub-result c = omega arith
 
 returns : tie.Need-returns Inv-loop μ-loop
 returns c =
-    let a = c .before .before .before .before .before .args in
+    let a = c .before .before .before .before .before .before .args in
     let l = c .before .before .before .loop in
-    let stop = freed-stop four (a .words .now) (a .t2) (a .t3) (l .h) (a .top - l .h) (omega arith) (sym (c .before .only-entry .ensures) ∙ not-true _ (c .if1 .taken)) in
-    omega (arith, l .inv .1 .1, stop)
+    λ k q.
+    let stop = freed-stop four (a .words .now ++ a .second .now) (a .t3) (a .t4) (l .h) (a .top - l .h) (omega arith) (sym (c .before .only-entry .ensures k q) ∙ not-true _ (c .if1 .taken)) in
+    omega (arith, l .inv .1 .1 k q, stop)
 
 add-h : tie.Need-add-h Inv-loop μ-loop
 add-h c = omega arith
@@ -57,21 +62,28 @@ loop-less c = omega arith
 
 loop-again : tie.Need-loop-again Inv-loop μ-loop
 loop-again c =
-    let a = c .before .before .before .before .before .args in
-    let l = c .before .before .before .loop in
-    let more = freed-more four (a .words .now) (a .t2) (a .t3) (l .h) (a .top - l .h) (omega arith) (sym (c .before .only-entry .ensures) ∙ not-false _ (c .if1 .left)) in
-    let e : a .top - l .h - 1 ≡ a .top - (l .h + 1) = omega arith in
-    (search needs, (search needs, omega (arith, l .inv .1 .1, rw e at more)))
+    let a = c .before .before .before .before .before .before .args in
+    let l = c .before .before .before .loop in (
+      search needs,
+      (
+        search needs,
+        λ k q.
+            let more = freed-more four (a .words .now ++ a .second .now) (a .t3) (a .t4) (l .h) (a .top - l .h) (omega arith) (sym (c .before .only-entry .ensures k q) ∙ not-false _ (c .if1 .left)) in
+            let e : a .top - l .h - 1 ≡ a .top - (l .h + 1) = omega arith in
+            omega (arith, l .inv .1 .1 k q, rw e at more),
+      ),
+    )
 
 sub-result-2 : tie.Need-sub-result-2 Inv-loop μ-loop
 sub-result-2 c = omega arith
 
 returns-2 : tie.Need-returns-2 Inv-loop μ-loop
 returns-2 c =
-    let a = c .before .before .before .args in
+    let a = c .before .before .before .before .args in
     let l = c .before .loop in
-    let end = freed-end four (a .words .now) (a .t2) (a .t3) (l .h) (a .top - l .h) (omega arith) in
-    omega (arith, l .inv .1 .1, end)
+    λ k q.
+    let end = freed-end four (a .words .now ++ a .second .now) (a .t3) (a .t4) (l .h) (a .top - l .h) (omega arith) in
+    omega (arith, l .inv .1 .1 k q, end)
 
 pub count-freed-spec : {M : Type 1} → statement M
 count-freed-spec =

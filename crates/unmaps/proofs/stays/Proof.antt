@@ -7,7 +7,7 @@ use Rattle.unmaps.proofs.stays.Statement.{statement}
 use Rattle.unmaps.proofs.stays.Tie as tie
 
 returns : tie.Need-returns
-returns c = rw (le-leb (c .before .before .args .top) (c .before .before .args .left) (c .if1 .taken))
+returns c = λ k e. rw (le-leb (c .before .before .before .args .top) (c .before .before .before .args .left) (c .if1 .taken))
 
 cast-t : tie.Need-cast-t
 cast-t c = search needs
@@ -19,7 +19,7 @@ only-entry-requires : tie.Need-only-entry-requires
 only-entry-requires c κs = search needs
 
 returns-2 : tie.Need-returns-2
-returns-2 c = rw (lt-leb (c .before .before .before .args .top) (c .before .before .before .args .left) (c .before .if1 .left)) (ap not (c .only-entry .ensures))
+returns-2 c = λ k e. rw (lt-leb (c .before .before .before .before .args .top) (c .before .before .before .before .args .left) (c .before .if1 .left)) (ap not (c .only-entry .ensures k e))
 
 pub stays-spec : {M : Type 1} → statement M
 stays-spec =

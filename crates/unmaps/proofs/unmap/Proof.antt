@@ -1,12 +1,14 @@
 -- `unmaps::unmap` makes its tests in their order, then walks.
 use mathlib.Core.Path.{refl, sym, _∙_}
+use mathlib.Core.List.{_++_}
+use lib.ListN.{length, length-append}
 use native.Mathlib.Omega.{arith}
 use borrow.Author.Needs.{needs}
 use Rattle.path.specs.Laws.{four-sane, good-setup}
 use Rattle.path.specs.Geometry.{four}
 use Rattle.model.specs.Calls.{unmapAt}
 use Rattle.model.specs.Answers.{pool}
-use Rattle.model.specs.Refusing.{refusing, passed}
+use Rattle.model.specs.Refusing.{refusing, passed, good-both}
 use Rattle.lookup.specs.Reaches.{reach-good, Came}
 use Rattle.unmaps.proofs.Unmaps.{unmap-bad, unmap-refuses, came-past, came-left, came-at}
 use Rattle.unmaps.proofs.unmap.Statement.{statement}
@@ -14,13 +16,13 @@ use Rattle.unmaps.proofs.unmap.Tie as tie
 
 -- no test refused, and the walk is done
 came : (c : tie.After-reach)
-    → let a = c .before .before .before .before .before .before .before .before .before .args in
-    Came four (pool (a .s) (a .words .now) (a .list .now)) 0 (a .address) (c .reach .result) (c .reach .last .1 .1 .1 .1 .0)
+    → let a = c .before .before .before .before .before .before .before .before .before .before .before .args in
+    Came four (pool (a .s) (a .words .now ++ a .second .now) (length (a .words .now)) (a .list .now)) 0 (a .address) (c .reach .result) (c .reach .last .1 .1 .1 .1 .1 .0)
 came c =
-    let a = c .before .before .before .before .before .before .before .before .before .args in
-    let g = good-setup {G = four} (passed (c .before .before .before .before .before .before .good-setup .ensures) (c .before .before .before .before .before .if1 .left)) in
+    let a = c .before .before .before .before .before .before .before .before .before .before .before .args in
+    let g = good-setup {G = four} (passed (good-both (a .s) (a .words .now) (a .second .now) (a .list .now) (c .before .before .before .before .before .before .before .good-setup .ensures)) (c .before .before .before .before .before .before .if1 .left)) in
     record {
-      end = c .reach .ensures .0 ∙ reach-good four (a .s) (a .words .now) 0 (a .address) four-sane g (omega arith) (a .list .now);
+      end = c .reach .ensures .0 ∙ reach-good four (a .s) (a .words .now ++ a .second .now) 0 (a .address) four-sane g (omega arith) (length (a .words .now)) (a .list .now);
       place = c .reach .ensures .1;
     }
 
@@ -32,8 +34,8 @@ unmap-refused-requires c κs = search needs
 
 returns : tie.Need-returns
 returns c =
-    let a = c .before .before .before .before .before .args in
-    refusing (a .words .now) (a .list .now) (c .unmap-refused .ensures) ∙ unmap-bad four (pool (a .s) (a .words .now) (a .list .now)) (a .address) (c .before .before .good-setup .ensures) (c .before .if1 .taken)
+    let a = c .before .before .before .before .before .before .args in
+    refusing (a .words .now ++ a .second .now) (length (a .words .now)) (a .list .now) (c .unmap-refused .ensures) ∙ unmap-bad four (pool (a .s) (a .words .now ++ a .second .now) (length (a .words .now)) (a .list .now)) (a .address) (good-both (a .s) (a .words .now) (a .second .now) (a .list .now) (c .before .before .good-setup .ensures)) (c .before .if1 .taken)
 
 unmap-tests-requires : tie.Need-unmap-tests-requires
 unmap-tests-requires c κs = search needs
@@ -43,12 +45,17 @@ unmap-refused-requires-2 c κs = search needs
 
 returns-2 : tie.Need-returns-2
 returns-2 c =
-    let a = c .before .before .before .before .before .before .before .args in
-    refusing (a .words .now) (a .list .now) (c .unmap-refused2 .ensures)
-    ∙ unmap-refuses four (pool (a .s) (a .words .now) (a .list .now)) (a .address) (c .before .before .before .before .good-setup .ensures) (c .before .before .before .if1 .left) (c .before .before .unmap-tests .ensures) (c .before .if2 .taken)
+    let a = c .before .before .before .before .before .before .before .before .args in
+    refusing (a .words .now ++ a .second .now) (length (a .words .now)) (a .list .now) (c .unmap-refused2 .ensures)
+    ∙ unmap-refuses four (pool (a .s) (a .words .now ++ a .second .now) (length (a .words .now)) (a .list .now)) (a .address) (good-both (a .s) (a .words .now) (a .second .now) (a .list .now) (c .before .before .before .before .good-setup .ensures)) (c .before .before .before .if1 .left) (c .before .before .unmap-tests .ensures) (c .before .if2 .taken)
 
 reach-requires : tie.Need-reach-requires
 reach-requires c κs = search needs
+
+add-if3 : tie.Need-add-if3
+add-if3 c =
+    let a = c .before .before .before .before .before .before .before .before .before .before .before .args in
+    omega (arith, length-append (a .words .now) (a .second .now), good-setup {G = four} (passed (good-both (a .s) (a .words .now) (a .second .now) (a .list .now) (c .before .before .before .before .before .before .before .good-setup .ensures)) (c .before .before .before .before .before .before .if1 .left)))
 
 unmap-refused-requires-3 : tie.Need-unmap-refused-requires-3
 unmap-refused-requires-3 c κs = search needs
@@ -56,19 +63,26 @@ unmap-refused-requires-3 c κs = search needs
 same-length : tie.Need-same-length
 same-length c = search needs
 
+same-length-2 : tie.Need-same-length-2
+same-length-2 c = search needs
+
 returns-3 : tie.Need-returns-3
 returns-3 c =
-    let a = c .before .before .before .before .before .before .before .before .before .before .before .args in
-    refusing (a .words .now) (a .list .now) (c .unmap-refused3 .ensures) ∙ came-past (passed (c .before .before .before .before .before .before .before .before .good-setup .ensures) (c .before .before .before .before .before .before .before .if1 .left)) (sym (c .before .before .before .before .before .before .unmap-tests .ensures) ∙ c .before .before .before .before .before .if2 .left) (came (c .before .before)) (c .before .if3 .taken)
+    let a = c .before .before .before .before .before .before .before .before .before .before .before .before .before .args in
+    refusing (a .words .now ++ a .second .now) (length (a .words .now)) (a .list .now) (c .unmap-refused3 .ensures) ∙ came-past (passed (good-both (a .s) (a .words .now) (a .second .now) (a .list .now) (c .before .before .before .before .before .before .before .before .before .good-setup .ensures)) (c .before .before .before .before .before .before .before .before .if1 .left)) (sym (c .before .before .before .before .before .before .before .unmap-tests .ensures) ∙ c .before .before .before .before .before .before .if2 .left) (came (c .before .before)) (omega (arith, length-append (a .words .now) (a .second .now), c .before .if3 .taken))
 
-mul-w : tie.Need-mul-w
-mul-w c = search needs
-
-slice-read-w : tie.Need-slice-read-w
-slice-read-w c = search needs
+word-requires : tie.Need-word-requires
+word-requires c κs = search needs
 
 cast-read-word : tie.Need-cast-read-word
-cast-read-word c = omega (arith, good-setup {G = four} (passed (c .before .before .before .before .before .before .before .before .before .good-setup .ensures) (c .before .before .before .before .before .before .before .before .if1 .left)))
+cast-read-word c =
+    let a = c .before .before .before .before .before .before .before .before .before .before .before .before .before .before .before .before .args in
+    omega (arith, good-setup {G = four} (passed (good-both (a .s) (a .words .now) (a .second .now) (a .list .now) (c .before .before .before .before .before .before .before .before .before .before .before .before .good-setup .ensures)) (c .before .before .before .before .before .before .before .before .before .before .before .if1 .left)))
+
+cast-read-word-2 : tie.Need-cast-read-word-2
+cast-read-word-2 c =
+    let a = c .before .before .before .before .before .before .before .before .before .before .before .before .before .before .before .before .before .args in
+    omega (arith, good-setup {G = four} (passed (good-both (a .s) (a .words .now) (a .second .now) (a .list .now) (c .before .before .before .before .before .before .before .before .before .before .before .before .before .good-setup .ensures)) (c .before .before .before .before .before .before .before .before .before .before .before .before .if1 .left)))
 
 read-word-requires : tie.Need-read-word-requires
 read-word-requires c κs = search needs
@@ -78,8 +92,9 @@ enum-known-e c = search needs
 
 unmap-frame-requires : tie.Need-unmap-frame-requires
 unmap-frame-requires c κs =
-    let k = came (c .before .before .before .before .before .before .before .before .before) in
-    ((passed (c .before .before .before .before .before .before .before .before .before .before .before .before .before .before .before .good-setup .ensures) (c .before .before .before .before .before .before .before .before .before .before .before .before .before .before .if1 .left)), (came-left (passed (c .before .before .before .before .before .before .before .before .before .before .before .before .before .before .before .good-setup .ensures) (c .before .before .before .before .before .before .before .before .before .before .before .before .before .before .if1 .left)) (sym (c .before .before .before .before .before .before .before .before .before .before .before .before .before .unmap-tests .ensures) ∙ c .before .before .before .before .before .before .before .before .before .before .before .before .if2 .left) k (c .before .before .before .before .before .before .before .before .if3 .left), (c .before .before .before .before .before .before .before .before .if3 .left, k .place (c .before .before .before .before .before .before .before .before .if3 .left))))
+    let a = c .before .before .before .before .before .before .before .before .before .before .before .before .before .before .before .before .before .before .before .before .before .before .before .before .args in
+    let k = came (c .before .before .before .before .before .before .before .before .before .before .before .before .before) in
+    ((passed (good-both (a .s) (a .words .now) (a .second .now) (a .list .now) (c .before .before .before .before .before .before .before .before .before .before .before .before .before .before .before .before .before .before .before .before .good-setup .ensures)) (c .before .before .before .before .before .before .before .before .before .before .before .before .before .before .before .before .before .before .before .if1 .left)), (came-left (passed (good-both (a .s) (a .words .now) (a .second .now) (a .list .now) (c .before .before .before .before .before .before .before .before .before .before .before .before .before .before .before .before .before .before .before .before .good-setup .ensures)) (c .before .before .before .before .before .before .before .before .before .before .before .before .before .before .before .before .before .before .before .if1 .left)) (sym (c .before .before .before .before .before .before .before .before .before .before .before .before .before .before .before .before .before .before .unmap-tests .ensures) ∙ c .before .before .before .before .before .before .before .before .before .before .before .before .before .before .before .before .before .if2 .left) k (omega (arith, length-append (a .words .now) (a .second .now), c .before .before .before .before .before .before .before .before .before .before .before .before .if3 .left)), (omega (arith, length-append (a .words .now) (a .second .now), c .before .before .before .before .before .before .before .before .before .before .before .before .if3 .left), k .place (omega (arith, length-append (a .words .now) (a .second .now), c .before .before .before .before .before .before .before .before .before .before .before .before .if3 .left)))))
 
 enum-told : tie.Need-enum-told
 enum-told c = search needs
@@ -99,46 +114,59 @@ enum-told-3 c = search needs
 unmap-refused-requires-5 : tie.Need-unmap-refused-requires-5
 unmap-refused-requires-5 c κs = search needs
 
-same-length-2 : tie.Need-same-length-2
-same-length-2 c = search needs
-
 same-length-3 : tie.Need-same-length-3
 same-length-3 c = search needs
-
-returns-4 : tie.Need-returns-4
-returns-4 c =
-    c .before .before .before .before .unmap-frame .ensures
-    ∙ came-at (passed (c .before .before .before .before .before .before .before .before .before .before .before .before .before .before .before .before .before .before .before .before .good-setup .ensures) (c .before .before .before .before .before .before .before .before .before .before .before .before .before .before .before .before .before .before .before .if1 .left)) (sym (c .before .before .before .before .before .before .before .before .before .before .before .before .before .before .before .before .before .before .unmap-tests .ensures) ∙ c .before .before .before .before .before .before .before .before .before .before .before .before .before .before .before .before .before .if2 .left) (came (c .before .before .before .before .before .before .before .before .before .before .before .before .before .before)) (c .before .before .before .before .before .before .before .before .before .before .before .before .before .if3 .left) refl (c .before .before .before .before .before .before .before .before .before .before .read-word .ensures) (c .before .before .before .before .before .before .before .before .e .given .1)
 
 same-length-4 : tie.Need-same-length-4
 same-length-4 c = search needs
 
-returns-5 : tie.Need-returns-5
-unfolding unmapAt
-returns-5 c =
-    let a = c .before .before .before .before .before .before .before .before .before .before .before .before .before .before .before .before .args in
-    refusing (a .words .now) (a .list .now) (c .unmap-hole .ensures)
-    ∙ came-at (passed (c .before .before .before .before .before .before .before .before .before .before .before .before .before .good-setup .ensures) (c .before .before .before .before .before .before .before .before .before .before .before .before .if1 .left)) (sym (c .before .before .before .before .before .before .before .before .before .before .before .unmap-tests .ensures) ∙ c .before .before .before .before .before .before .before .before .before .before .if2 .left) (came (c .before .before .before .before .before .before .before)) (c .before .before .before .before .before .before .if3 .left) refl (c .before .before .before .read-word .ensures) (c .before .enum-told .given .1)
-
 same-length-5 : tie.Need-same-length-5
 same-length-5 c = search needs
 
-returns-6 : tie.Need-returns-6
-unfolding unmapAt
-returns-6 c =
-    let a = c .before .before .before .before .before .before .before .before .before .before .before .before .before .before .before .before .args in
-    refusing (a .words .now) (a .list .now) (c .unmap-refused4 .ensures)
-    ∙ came-at (passed (c .before .before .before .before .before .before .before .before .before .before .before .before .before .good-setup .ensures) (c .before .before .before .before .before .before .before .before .before .before .before .before .if1 .left)) (sym (c .before .before .before .before .before .before .before .before .before .before .before .unmap-tests .ensures) ∙ c .before .before .before .before .before .before .before .before .before .before .if2 .left) (came (c .before .before .before .before .before .before .before)) (c .before .before .before .before .before .before .if3 .left) refl (c .before .before .before .read-word .ensures) (c .before .enum-told2 .given .1)
+returns-4 : tie.Need-returns-4
+returns-4 c =
+    let a = c .before .before .before .before .before .before .before .before .before .before .before .before .before .before .before .before .before .before .before .before .before .before .before .before .before .before .before .before .before .before .before .args in
+    c .before .before .before .before .before .before .unmap-frame .ensures
+    ∙ came-at (passed (good-both (a .s) (a .words .now) (a .second .now) (a .list .now) (c .before .before .before .before .before .before .before .before .before .before .before .before .before .before .before .before .before .before .before .before .before .before .before .before .before .before .before .good-setup .ensures)) (c .before .before .before .before .before .before .before .before .before .before .before .before .before .before .before .before .before .before .before .before .before .before .before .before .before .before .if1 .left)) (sym (c .before .before .before .before .before .before .before .before .before .before .before .before .before .before .before .before .before .before .before .before .before .before .before .before .before .unmap-tests .ensures) ∙ c .before .before .before .before .before .before .before .before .before .before .before .before .before .before .before .before .before .before .before .before .before .before .before .before .if2 .left) (came (c .before .before .before .before .before .before .before .before .before .before .before .before .before .before .before .before .before .before .before .before)) (omega (arith, length-append (a .words .now) (a .second .now), c .before .before .before .before .before .before .before .before .before .before .before .before .before .before .before .before .before .before .before .if3 .left)) (c .before .before .before .before .before .before .before .before .before .before .before .before .before .before .before .before .word .ensures) (c .before .before .before .before .before .before .before .before .before .before .before .before .before .read-word .ensures) (c .before .before .before .before .before .before .before .before .before .before .before .e .given .1)
 
 same-length-6 : tie.Need-same-length-6
 same-length-6 c = search needs
 
+same-length-7 : tie.Need-same-length-7
+same-length-7 c = search needs
+
+returns-5 : tie.Need-returns-5
+unfolding unmapAt
+returns-5 c =
+    let a = c .before .before .before .before .before .before .before .before .before .before .before .before .before .before .before .before .before .before .before .before .before .args in
+    refusing (a .words .now ++ a .second .now) (length (a .words .now)) (a .list .now) (c .unmap-hole .ensures)
+    ∙ came-at (passed (good-both (a .s) (a .words .now) (a .second .now) (a .list .now) (c .before .before .before .before .before .before .before .before .before .before .before .before .before .before .before .before .before .good-setup .ensures)) (c .before .before .before .before .before .before .before .before .before .before .before .before .before .before .before .before .if1 .left)) (sym (c .before .before .before .before .before .before .before .before .before .before .before .before .before .before .before .unmap-tests .ensures) ∙ c .before .before .before .before .before .before .before .before .before .before .before .before .before .before .if2 .left) (came (c .before .before .before .before .before .before .before .before .before .before)) (omega (arith, length-append (a .words .now) (a .second .now), c .before .before .before .before .before .before .before .before .before .if3 .left)) (c .before .before .before .before .before .before .word .ensures) (c .before .before .before .read-word .ensures) (c .before .enum-told .given .1)
+
+same-length-8 : tie.Need-same-length-8
+same-length-8 c = search needs
+
+same-length-9 : tie.Need-same-length-9
+same-length-9 c = search needs
+
+returns-6 : tie.Need-returns-6
+unfolding unmapAt
+returns-6 c =
+    let a = c .before .before .before .before .before .before .before .before .before .before .before .before .before .before .before .before .before .before .before .before .before .args in
+    refusing (a .words .now ++ a .second .now) (length (a .words .now)) (a .list .now) (c .unmap-refused4 .ensures)
+    ∙ came-at (passed (good-both (a .s) (a .words .now) (a .second .now) (a .list .now) (c .before .before .before .before .before .before .before .before .before .before .before .before .before .before .before .before .before .good-setup .ensures)) (c .before .before .before .before .before .before .before .before .before .before .before .before .before .before .before .before .if1 .left)) (sym (c .before .before .before .before .before .before .before .before .before .before .before .before .before .before .before .unmap-tests .ensures) ∙ c .before .before .before .before .before .before .before .before .before .before .before .before .before .before .if2 .left) (came (c .before .before .before .before .before .before .before .before .before .before)) (omega (arith, length-append (a .words .now) (a .second .now), c .before .before .before .before .before .before .before .before .before .if3 .left)) (c .before .before .before .before .before .before .word .ensures) (c .before .before .before .read-word .ensures) (c .before .enum-told2 .given .1)
+
+same-length-10 : tie.Need-same-length-10
+same-length-10 c = search needs
+
+same-length-11 : tie.Need-same-length-11
+same-length-11 c = search needs
+
 returns-7 : tie.Need-returns-7
 unfolding unmapAt
 returns-7 c =
-    let a = c .before .before .before .before .before .before .before .before .before .before .before .before .before .before .before .before .args in
-    refusing (a .words .now) (a .list .now) (c .unmap-refused5 .ensures)
-    ∙ came-at (passed (c .before .before .before .before .before .before .before .before .before .before .before .before .before .good-setup .ensures) (c .before .before .before .before .before .before .before .before .before .before .before .before .if1 .left)) (sym (c .before .before .before .before .before .before .before .before .before .before .before .unmap-tests .ensures) ∙ c .before .before .before .before .before .before .before .before .before .before .if2 .left) (came (c .before .before .before .before .before .before .before)) (c .before .before .before .before .before .before .if3 .left) refl (c .before .before .before .read-word .ensures) (c .before .enum-told3 .given .1)
+    let a = c .before .before .before .before .before .before .before .before .before .before .before .before .before .before .before .before .before .before .before .before .before .args in
+    refusing (a .words .now ++ a .second .now) (length (a .words .now)) (a .list .now) (c .unmap-refused5 .ensures)
+    ∙ came-at (passed (good-both (a .s) (a .words .now) (a .second .now) (a .list .now) (c .before .before .before .before .before .before .before .before .before .before .before .before .before .before .before .before .before .good-setup .ensures)) (c .before .before .before .before .before .before .before .before .before .before .before .before .before .before .before .before .if1 .left)) (sym (c .before .before .before .before .before .before .before .before .before .before .before .before .before .before .before .unmap-tests .ensures) ∙ c .before .before .before .before .before .before .before .before .before .before .before .before .before .before .if2 .left) (came (c .before .before .before .before .before .before .before .before .before .before)) (omega (arith, length-append (a .words .now) (a .second .now), c .before .before .before .before .before .before .before .before .before .if3 .left)) (c .before .before .before .before .before .before .word .ensures) (c .before .before .before .read-word .ensures) (c .before .enum-told3 .given .1)
 
 pub unmap-spec : {M : Type 1} → statement M
 unmap-spec =
@@ -151,12 +179,14 @@ unmap-spec =
     unmap-refused-requires-2
     returns-2
     reach-requires
+    add-if3
     unmap-refused-requires-3
     same-length
+    same-length-2
     returns-3
-    mul-w
-    slice-read-w
+    word-requires
     cast-read-word
+    cast-read-word-2
     read-word-requires
     enum-known-e
     unmap-frame-requires
@@ -166,12 +196,16 @@ unmap-spec =
     unmap-refused-requires-4
     enum-told-3
     unmap-refused-requires-5
-    same-length-2
     same-length-3
-    returns-4
     same-length-4
-    returns-5
     same-length-5
-    returns-6
+    returns-4
     same-length-6
+    same-length-7
+    returns-5
+    same-length-8
+    same-length-9
+    returns-6
+    same-length-10
+    same-length-11
     returns-7)

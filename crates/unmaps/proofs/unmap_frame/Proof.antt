@@ -1,6 +1,8 @@
 -- `unmaps::unmap_frame`: the test for the mapping's start, then the frame's word, and its table where that does not stay.
 use Prim.Native.Nat.{_-_}
 use mathlib.Core.Path.{sym, _∙_}
+use mathlib.Core.List.{_++_}
+use lib.ListN.{length}
 use native.Mathlib.Omega.{arith}
 use borrow.Author.Needs.{needs}
 use Rattle.path.specs.Laws.{four-sane, good-setup}
@@ -19,27 +21,27 @@ unmap-refused-requires c κs = search needs
 
 returns : tie.Need-returns
 returns c =
-    let a = c .before .before .before .before .before .args in
-    let g = good-setup {G = four} (c .before .before .before .before .before .pre .0) in
-    refusing (a .words .now) (a .list .now) (c .unmap-refused .ensures) ∙ there-inside four (a .s) (a .words .now) (a .list .now) (a .address) (a .frame) (a .attributes) (a .left) (a .way) (rest-known four-sane g (c .before .before .before .before .before .pre .1 .0) (a .address) (c .before .before .rest-at .ensures)) (c .before .if1 .taken)
+    let a = c .before .before .before .before .before .before .args in
+    let g = good-setup {G = four} (c .before .before .before .before .before .before .pre .0) in
+    refusing (a .words .now ++ a .second .now) (length (a .words .now)) (a .list .now) (c .unmap-refused .ensures) ∙ there-inside four (a .s) (a .words .now ++ a .second .now) (length (a .words .now)) (a .list .now) (a .address) (a .frame) (a .attributes) (a .left) (a .way) (rest-known four-sane g (c .before .before .before .before .before .before .pre .1 .0) (a .address) (c .before .before .rest-at .ensures)) (c .before .if1 .taken)
 
 sub-top : tie.Need-sub-top
 sub-top c =
-    let g = good-setup {G = four} (c .before .before .before .before .before .pre .0) in
+    let g = good-setup {G = four} (c .before .before .before .before .before .before .pre .0) in
     omega (arith, g)
 
 stays-requires : tie.Need-stays-requires
 stays-requires c κs =
-    let g = good-setup {G = four} (c .before .before .before .before .before .before .pre .0) in
-    omega (arith, g, c .before .before .before .before .before .before .pre .1 .1 .0)
+    let g = good-setup {G = four} (c .before .before .before .before .before .before .before .before .pre .0) in
+    omega (arith, g, c .before .before .before .before .before .before .before .before .pre .1 .1 .0)
 
 unmap-more-requires : tie.Need-unmap-more-requires
 unmap-more-requires c κs =
-    let a = c .before .before .before .before .before .before .before .before .before .before .args in
-    let g = good-setup {G = four} (c .before .before .before .before .before .before .before .before .before .before .pre .0) in
-    let w = place-parts (a .way) (a .address) (a .left) (c .before .before .before .before .before .before .before .before .before .before .pre .1 .1 .1) in
-    let x = stays-not four (a .words .now) (a .left) (a .s .levels - 1) _ _ (c .before .before .before .stays .ensures) (c .before .before .if2 .taken) in
-    (c .before .before .before .before .before .before .before .before .before .before .pre .0, (x .0, (sym (rest-known four-sane g (c .before .before .before .before .before .before .before .before .before .before .pre .1 .0) (a .address) (c .before .before .before .before .before .before .before .rest-at .ensures)) ∙ c .before .before .before .before .before .before .if1 .left, rw (← w .0, ← w .1) (x .1))))
+    let a = c .before .before .before .before .before .before .before .before .before .before .before .before .before .args in
+    let g = good-setup {G = four} (c .before .before .before .before .before .before .before .before .before .before .before .before .before .pre .0) in
+    let w = place-parts (a .way) (a .address) (a .left) (c .before .before .before .before .before .before .before .before .before .before .before .before .before .pre .1 .1 .1) in
+    let x = stays-not four (a .words .now ++ a .second .now) (a .left) (a .s .levels - 1) _ _ (c .before .before .before .before .stays .ensures (a .s .tables) (g .numbers .cut-is)) (c .before .before .before .if2 .taken) in
+    (c .before .before .before .before .before .before .before .before .before .before .before .before .before .pre .0, (x .0, (sym (rest-known four-sane g (c .before .before .before .before .before .before .before .before .before .before .before .before .before .pre .1 .0) (a .address) (c .before .before .before .before .before .before .before .before .before .rest-at .ensures)) ∙ c .before .before .before .before .before .before .before .before .if1 .left, rw (← w .0, ← w .1) (x .1))))
 
 same-length : tie.Need-same-length
 same-length c = search needs
@@ -47,30 +49,34 @@ same-length c = search needs
 same-length-2 : tie.Need-same-length-2
 same-length-2 c = search needs
 
+same-length-3 : tie.Need-same-length-3
+same-length-3 c = search needs
+
 returns-2 : tie.Need-returns-2
-returns-2 c = c .before .before .before .before .unmap-more .ensures
+returns-2 c = c .before .before .before .before .before .before .unmap-more .ensures
 
-mul-words : tie.Need-mul-words
-mul-words c = search needs
-
-slice-write-words : tie.Need-slice-write-words
-slice-write-words c = c .before .before .before .before .before .before .before .before .pre .1 .1 .0
+put-requires : tie.Need-put-requires
+put-requires c κs = search needs
 
 size-at-requires : tie.Need-size-at-requires
 size-at-requires c κs = search needs
 
-same-length-3 : tie.Need-same-length-3
-same-length-3 c = search needs
+same-length-4 : tie.Need-same-length-4
+same-length-4 c = search needs
+
+same-length-5 : tie.Need-same-length-5
+same-length-5 c = search needs
 
 returns-3 : tie.Need-returns-3
 returns-3 c =
-    let a = c .before .before .before .before .before .before .before .before .before .args in
-    let g = good-setup {G = four} (c .before .before .before .before .before .before .before .before .before .pre .0) in
-    let w = place-parts (a .way) (a .address) (a .left) (c .before .before .before .before .before .before .before .before .before .pre .1 .1 .1) in
-    there-one four (a .s) (a .words .now) (a .list .now) (a .address) (a .frame) (a .attributes) (a .left) (a .way) (sym (rest-known four-sane g (c .before .before .before .before .before .before .before .before .before .pre .1 .0) (a .address) (c .before .before .before .before .before .before .rest-at .ensures)) ∙ c .before .before .before .before .before .if1 .left) (size-known four-sane g (c .before .before .before .before .before .before .before .before .before .pre .1 .0) (c .size-at .ensures))
-    (stays-none four (a .words .now) (a .way) (pathOf four (a .address)) (a .left) (a .s .levels - 1) (w .0) (w .1) (c .before .before .stays .ensures) (c .before .if2 .left))
+    let a = c .before .before .before .before .before .before .before .before .before .before .before .before .before .before .before .before .before .before .args in
+    let g = good-setup {G = four} (c .before .before .before .before .before .before .before .before .before .before .before .before .before .before .before .before .before .before .pre .0) in
+    let w = place-parts (a .way) (a .address) (a .left) (c .before .before .before .before .before .before .before .before .before .before .before .before .before .before .before .before .before .before .pre .1 .1 .1) in
+    there-one four (a .s) (a .words .now ++ a .second .now) (length (a .words .now)) (a .list .now) (a .address) (a .frame) (a .attributes) (a .left) (a .way) (sym (rest-known four-sane g (c .before .before .before .before .before .before .before .before .before .before .before .before .before .before .before .before .before .before .pre .1 .0) (a .address) (c .before .before .before .before .before .before .before .before .before .before .before .before .before .before .rest-at .ensures)) ∙ c .before .before .before .before .before .before .before .before .before .before .before .before .before .if1 .left) (size-known four-sane g (c .before .before .before .before .before .before .before .before .before .before .before .before .before .before .before .before .before .before .pre .1 .0) (c .size-at .ensures))
+    (stays-none four (a .words .now ++ a .second .now) (a .way) (pathOf four (a .address)) (a .left) (a .s .levels - 1) (w .0) (w .1) (c .before .before .before .before .before .before .before .before .before .stays .ensures (a .s .tables) (g .numbers .cut-is)) (c .before .before .before .before .before .before .before .before .if2 .left))
     (omega (arith, g))
-    (c .before .before .before .before .before .before .before .before .before .pre .1 .1 .1)
+    (c .before .before .before .before .before .before .before .before .before .before .before .before .before .before .before .before .before .before .pre .1 .1 .1)
+    (c .before .before .before .before .before .put .ensures) (c .before .before .before .before .before .put .kept .0)
 
 pub unmap-frame-spec : {M : Type 1} → statement M
 unmap-frame-spec =
@@ -84,9 +90,10 @@ unmap-frame-spec =
     unmap-more-requires
     same-length
     same-length-2
-    returns-2
-    mul-words
-    slice-write-words
-    size-at-requires
     same-length-3
+    returns-2
+    put-requires
+    size-at-requires
+    same-length-4
+    same-length-5
     returns-3)

@@ -18,4 +18,9 @@ returns c =
     (hole-known (s .address) (s .height) (omega arith) (c .before .base-at .ensures) (c .size-at .ensures), refl)
 
 pub unmap-hole-spec : {M : Type 1} → statement M
-unmap-hole-spec = tie.close (tie.spec base-at-requires size-at-requires returns)
+unmap-hole-spec =
+    tie.close
+    (tie.spec
+    base-at-requires
+    size-at-requires
+    returns)

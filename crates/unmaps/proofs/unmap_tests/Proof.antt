@@ -24,4 +24,10 @@ returns-3 c =
     unmap-refuses-nothing four (a .levels) (a .address) (c .before .before .in-space .ensures) (c .before .if1 .left) (c .if2 .left)
 
 pub unmap-tests-spec : {M : Type 1} → statement M
-unmap-tests-spec = tie.close (tie.spec in-space-requires returns returns-2 returns-3)
+unmap-tests-spec =
+    tie.close
+    (tie.spec
+    in-space-requires
+    returns
+    returns-2
+    returns-3)

@@ -23,8 +23,8 @@ mul-a c = search needs
 shared-slice-read-a : tie.Need-shared-slice-read-a Inv-loop μ-loop
 shared-slice-read-a c = search needs
 
-stage2-requires : tie.Need-stage2-requires Inv-loop μ-loop
-stage2-requires c κs = search needs
+walk-requires : tie.Need-walk-requires Inv-loop μ-loop
+walk-requires c κs = search needs
 
 line-requires : tie.Need-line-requires Inv-loop μ-loop
 line-requires c κs = search needs
@@ -51,7 +51,7 @@ lines-spec =
     loop-holds
     mul-a
     shared-slice-read-a
-    stage2-requires
+    walk-requires
     line-requires
     add-i
     loop-less

@@ -8,6 +8,9 @@ use Rattle.cases.proofs.calls.lent.Tie as tie
 element-copy-out-w : tie.Need-element-copy-out-w
 element-copy-out-w c = search needs
 
+element-copy-out-v : tie.Need-element-copy-out-v
+element-copy-out-v c = search needs
+
 element-copy-out-l : tie.Need-element-copy-out-l
 element-copy-out-l c = search needs
 
@@ -16,6 +19,9 @@ returns c = search needs
 
 returns-2 : tie.Need-returns-2
 returns-2 c = search needs
+
+returns-3 : tie.Need-returns-3
+returns-3 c = search needs
 
 slice-relend-prefix-run : tie.Need-slice-relend-prefix-run
 slice-relend-prefix-run c = search needs
@@ -29,6 +35,12 @@ slice-relend-prefix-run-2 c = search needs
 slice-aggregate-run-2 : tie.Need-slice-aggregate-run-2
 slice-aggregate-run-2 c = sym (length-take-le _ _ (search needs))
 
+slice-relend-prefix-run-3 : tie.Need-slice-relend-prefix-run-3
+slice-relend-prefix-run-3 c = search needs
+
+slice-aggregate-run-3 : tie.Need-slice-aggregate-run-3
+slice-aggregate-run-3 c = sym (length-take-le _ _ (search needs))
+
 run-requires : tie.Need-run-requires
 run-requires c κs = search needs
 
@@ -38,22 +50,30 @@ same-length c = search needs
 same-length-2 : tie.Need-same-length-2
 same-length-2 c = search needs
 
-returns-3 : tie.Need-returns-3
-returns-3 c = search needs
+same-length-3 : tie.Need-same-length-3
+same-length-3 c = search needs
+
+returns-4 : tie.Need-returns-4
+returns-4 c = search needs
 
 pub lent-spec : {M : Type 1} → statement M
 lent-spec =
     tie.close
     (tie.spec
     element-copy-out-w
+    element-copy-out-v
     element-copy-out-l
     returns
     returns-2
+    returns-3
     slice-relend-prefix-run
     slice-aggregate-run
     slice-relend-prefix-run-2
     slice-aggregate-run-2
+    slice-relend-prefix-run-3
+    slice-aggregate-run-3
     run-requires
     same-length
     same-length-2
-    returns-3)
+    same-length-3
+    returns-4)

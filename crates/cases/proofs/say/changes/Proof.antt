@@ -5,10 +5,10 @@ use Rattle.cases.proofs.say.changes.Statement.{statement}
 use Rattle.cases.proofs.say.changes.Tie as tie
 
 abbrev Inv-loop : tie.InvT-loop
-Inv-loop words list old places same₀ i₀ t8 same i = i ≤ 33345
+Inv-loop lent words more list old old_more places same₀ i₀ t8 same i = i ≤ 41553
 
 abbrev μ-loop : tie.MeasureT-loop
-μ-loop words list old places same₀ i₀ t8 same i = 33345 - i
+μ-loop lent words more list old old_more places same₀ i₀ t8 same i = 41553 - i
 
 loop-holds : tie.Need-loop-holds Inv-loop μ-loop
 loop-holds c = search needs

@@ -1,0 +1,33 @@
+-- `pool::table_part`: the run that holds the table.
+use mathlib.Core.Path.{_∙_}
+use native.Mathlib.Omega.{arith}
+use Rattle.pool.proofs.Laws.{table-first, table-later}
+use borrow.Author.Needs.{needs}
+use Rattle.pool.proofs.table_part.Statement.{statement}
+use Rattle.pool.proofs.table_part.Tie as tie
+use Rattle.pool.proofs.table_part.Reads as reads
+use Rattle.pool.proofs.table_part.Lts as lts
+use Rattle.pool.proofs.words_from.Reads as words-from-reads
+
+mul-start : tie.Need-mul-start
+mul-start c = search needs
+
+words-from-requires : tie.Need-words-from-requires
+words-from-requires c κs = search needs
+
+returns : tie.Need-returns
+returns c =
+    let a = c .before .before .before .before .args in
+    λ k e. c .words-from .ensures ∙ table-first (a .words .now) (a .second .now) (a .t) k e (omega arith)
+
+words-from-requires-2 : tie.Need-words-from-requires-2
+words-from-requires-2 c κs = search needs
+
+returns-2 : tie.Need-returns-2
+returns-2 c =
+    let a = c .before .before .before .before .args in
+    λ k e. c .words-from2 .ensures ∙ table-later (a .words .now) (a .second .now) (a .t) (omega arith)
+
+pub table-part-spec : {M : Type 1} → statement M
+table-part-spec =
+    tie.close (tie.spec mul-start words-from-requires returns words-from-requires-2 returns-2)
