@@ -9,13 +9,28 @@ use native.Mathlib.Omega.{arith}
 use lib.Dec.{ltb, leb, eqb}
 use lib.Pow.{pow-pos, pow-mono, pow-lt, pow-add}
 use borrow.Author.Tests.{ltb-true, leb-true, leb-false, eqb-true, eqb-false, lt-ltb, le-ltb, le-leb, eq-eqb}
-use Rattle.path.specs.Geometry.{Granule, Sane, four, pageSize, entries, sizeAt, physical, atLevel, goodLevels, spaceOf, seek, heightOf}
+use Rattle.path.specs.Geometry.{Granule, Sane, four, sixteen, granuleOf, pageSize, entries, sizeAt, physical, atLevel, goodLevels, spaceOf, seek, heightOf}
 use Rattle.path.specs.Areas.{Area, areaOf, oneRegion, withSecond, total, tableAt, GoodArea, InRegion, Shares, meetsRegion, meetsArea}
 use Rattle.path.specs.Numbers.{mostTables, goodArea, goodNumbers, goodSetup, goodAdding, GoodNumbers, GoodSetup, GoodAdding}
 use Rattle.path.specs.declared.Setup.{Setup}
 
 pub four-sane : Sane four
 four-sane = omega arith
+
+pub sixteen-sane : Sane sixteen
+sixteen-sane = omega arith
+
+-- what holds of both granules holds of the one that a number names
+pub granule-either : (P : Granule → Type 0) → P four → P sixteen → (number : ℕ) → P (granuleOf number)
+unfolding granuleOf
+granule-either P a b number = go (eqb number 16384)
+  where
+    go : (t : Bool) → P (cond t sixteen four)
+    go true = b
+    go false = a
+
+pub granule-sane : (number : ℕ) → Sane (granuleOf number)
+granule-sane = granule-either Sane four-sane sixteen-sane
 
 -- ---- sizes
 
@@ -314,12 +329,13 @@ module _ {G : Granule} {s : Setup} {cut words places : ℕ} where
   pub good-setup : goodSetup G s cut words places ≡ true → GoodSetup G s cut words places
   unfolding goodSetup
   good-setup e =
-      let (a, b) = both (goodNumbers G (s .levels) (areaOf s) cut words places) _ e in
-      record { numbers = good-numbers a; room = ltb-true (s .free) (total (areaOf s)) b }
+      let (g, f) = both (eqb (s .granule) (pageSize G)) _ e in
+      let (a, b) = both (goodNumbers G (s .levels) (areaOf s) cut words places) _ f in
+      record { granule-is = eqb-true (s .granule) (pageSize G) g; numbers = good-numbers a; room = ltb-true (s .free) (total (areaOf s)) b }
 
   pub setup-good : GoodSetup G s cut words places → goodSetup G s cut words places ≡ true
   unfolding goodSetup
-  setup-good S = simp (numbers-good (S .numbers), lt-ltb _ _ (S .room))
+  setup-good S = simp (eq-eqb _ _ (S .granule-is), numbers-good (S .numbers), lt-ltb _ _ (S .room))
 
   pub setup-bad : (GoodSetup G s cut words places → ⊥) → goodSetup G s cut words places ≡ false
   setup-bad f = untrue _ (λ e. f (good-setup e))

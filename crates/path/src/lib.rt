@@ -30,6 +30,7 @@ pub struct Setup {
     pub free: u64,
     pub base2: u64,
     pub tables2: u64,
+    pub granule: u64,
 }
 
 // No pool's setup numbers.
@@ -43,6 +44,7 @@ pub fn no_setup() -> Setup
         free: 0,
         base2: 0,
         tables2: 0,
+        granule: 0,
     }
 }
 
@@ -57,6 +59,7 @@ pub fn with_free(s: Setup, free: u64) -> Setup
         free,
         base2: s.base2,
         tables2: s.tables2,
+        granule: s.granule,
     }
 }
 
