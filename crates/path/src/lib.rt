@@ -130,6 +130,9 @@ pub fn good_numbers(
 pub fn good_setup(s: Setup, words: usize, second: usize, places: usize) -> bool
     ensures { λ r. ⌜ r ≡ goodSetup four s words (words + second) places ⌝ }
 {
+    if s.granule != PAGE {
+        return false;
+    }
     if good_numbers(
         s.levels,
         s.base,

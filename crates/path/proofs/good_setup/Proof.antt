@@ -8,20 +8,23 @@ use Rattle.path.specs.Laws.{good-numbers, numbers-good, good-setup, setu
 use Rattle.path.proofs.good_setup.Statement.{statement}
 use Rattle.path.proofs.good_setup.Tie as tie
 
+returns : tie.Need-returns
+returns c = sym (setup-bad (λ S. omega (arith, S .granule-is)))
+
 good-numbers-requires : tie.Need-good-numbers-requires
 good-numbers-requires c κs = search needs
 
 add-result : tie.Need-add-result
-add-result c = let N = good-numbers (sym (c .before .before .good-numbers .ensures) ∙ c .before .if1 .taken) in omega (arith, N .few)
-
-returns : tie.Need-returns
-returns c =
-    same-truth _ _
-    (λ e. setup-good (record { numbers = good-numbers (sym (c .before .before .before .good-numbers .ensures) ∙ c .before .before .if1 .taken); room = ltb-true _ _ e }))
-    (λ e. lt-ltb _ _ (good-setup e .room))
+add-result c = let N = good-numbers (sym (c .before .before .good-numbers .ensures) ∙ c .before .if2 .taken) in omega (arith, N .few)
 
 returns-2 : tie.Need-returns-2
-returns-2 c = sym (setup-bad (λ S. false≢true (sym (c .if1 .left) ∙ c .before .good-numbers .ensures ∙ numbers-good (S .numbers))))
+returns-2 c =
+    same-truth _ _
+    (λ e. setup-good (record { granule-is = omega arith; numbers = good-numbers (sym (c .before .before .before .good-numbers .ensures) ∙ c .before .before .if2 .taken); room = ltb-true _ _ e }))
+    (λ e. lt-ltb _ _ (good-setup e .room))
+
+returns-3 : tie.Need-returns-3
+returns-3 c = sym (setup-bad (λ S. false≢true (sym (c .if2 .left) ∙ c .before .good-numbers .ensures ∙ numbers-good (S .numbers))))
 
 pub good-setup-spec : {M : Type 1} → statement M
-good-setup-spec = tie.close (tie.spec good-numbers-requires add-result returns returns-2)
+good-setup-spec = tie.close (tie.spec returns good-numbers-requires add-result returns-2 returns-3)
