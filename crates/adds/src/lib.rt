@@ -52,13 +52,14 @@ pub fn add<'a>(
     }
     pool::clear(second);
     append(list, s.tables as usize, tables2 as usize, s.free as usize);
+    let free = s.free + tables2;
     Added {
         answer: AddAnswer::Done,
         setup: Setup {
             levels: s.levels,
             base: s.base,
             tables: s.tables,
-            free: s.free + tables2,
+            free,
             base2,
             tables2,
         },

@@ -6,17 +6,17 @@ use mathlib.Core.List.{List, [], _∷_, _++_, List·Memᴰ·head as here, List·
 use native.Mathlib.Decide.{ℕ-discrete}
 use native.Mathlib.Omega.{arith}
 use lib.Dec.{eqb, ltb}
-use lib.ListN.{length, getD, set, replicate, length-set, length-replicate, length-append}
+use lib.ListN.{length, getD, set, replicate, length-set, length-replicate}
 use lib.Seq.{getD-set-same, getD-set-other}
 use borrow.Author.Tests.{eq-eqb, ne-eqb}
 use Rattle.laws.specs.Lists.{allZero, among, distinct}
 use Rattle.laws.specs.ListLaws.{allZero-at, allZero-replicate, distinct-left}
 use Rattle.path.specs.Geometry.{Granule, four}
 use Rattle.path.specs.Areas.{Area, areaOf, total, GoodArea}
-use Rattle.path.specs.Numbers.{mostTables, goodSetup, GoodSetup}
+use Rattle.path.specs.Numbers.{mostTables, GoodSetup}
 use Rattle.path.specs.Laws.{four-sane, good-setup}
 use Rattle.path.specs.declared.Setup.{Setup}
-use Rattle.model.specs.Answers.{Pool, pool, audited, refused}
+use Rattle.model.specs.Answers.{Pool, audited, refused}
 use Rattle.model.specs.Calls.{goodPool}
 use Rattle.model.specs.Audit.{Found, tableWords, ofTable, ofPool, freeOf, freeSound, noneInside, soundPool, auditW}
 use Rattle.model.specs.Adds.{soundTree}
@@ -143,11 +143,6 @@ loosely s kept many = record {
   many2 = 0;
   bare = true;
 }
-
--- the two runs put together have as many words as both
-pub good-both : (s : Setup) (ws us list : List ℕ) {r : Bool} → r ≡ goodSetup four s (length ws) (length ws + length us) (length list)
-    → r ≡ goodPool four (pool s (ws ++ us) (length ws) list)
-good-both s ws us list e = e ∙ ap (λ (n : ℕ). goodSetup four s (length ws) n (length list)) (sym (length-append ws us))
 
 pub root-fit : {s : Setup} {look : Look} {first second : ℕ} → Rooted s first second → (look .tables ≡ s .tables) → (look .tables2 ≡ s .tables2) → GoodArea four (keptIn look)
     → TableFit (blank mostTables) look 0 (s .levels - 1) × RunsFit look first second

@@ -1,14 +1,17 @@
 -- A refusal as code makes it, and what is known past a test that leads to one.
-use Prim.Native.Nat.{ℕ, _<_}
-use mathlib.Core.Path.{_≡_, sym, _∙_}
+use Prim.Native.Nat.{ℕ, _+_, _<_}
+use mathlib.Core.Path.{_≡_, sym, ap, _∙_}
 use mathlib.Core.Bool.{Bool, true, false, not}
-use mathlib.Core.List.{List}
+use mathlib.Core.List.{List, _++_}
 use borrow.Author.Tests.{not-false}
+use lib.ListN.{length, length-append}
 use Rattle.path.specs.Geometry.{four, sizeAt, atLevel}
+use Rattle.path.specs.Numbers.{goodSetup}
 use Rattle.path.specs.Paths.{baseAt}
 use Rattle.path.specs.Laws.{level-some}
 use Rattle.path.specs.declared.Setup.{Setup}
 use Rattle.model.specs.Answers.{Answer, hole, pool, done}
+use Rattle.model.specs.Calls.{goodPool}
 
 pub refusing : {x y : Answer} {t s : Setup} (ws : List ℕ) (cut : ℕ) (list : List ℕ) → (x ≡ y) × (t ≡ s)
     → done x (pool t ws cut list) ≡ done y (pool s ws cut list)
@@ -16,6 +19,12 @@ refusing ws cut list e = λ i. done (e .0 i) (pool (e .1 i) ws cut list)
 
 pub passed : {r b : Bool} → r ≡ b → not r ≡ false → b ≡ true
 passed e n = sym e ∙ not-false _ n
+
+-- the test of a pool's numbers, made of the lengths of its two runs
+pub good-both :
+    (s : Setup) (first second list : List ℕ) {r : Bool} → r ≡ goodSetup four s (length first) (length first + length second) (length list)
+    → r ≡ goodPool four (pool s (first ++ second) (length first) list)
+good-both s first second list e = e ∙ ap (λ (n : ℕ). goodSetup four s (length first) n (length list)) (sym (length-append first second))
 
 -- the hole that code finds at a height
 pub hole-known :

@@ -2,11 +2,9 @@
 use Prim.Native.Nat.{ℕ, _+_, _<_}
 use mathlib.Core.Path.{_≡_, sym, ap, _∙_}
 use mathlib.Core.Bool.{Bool, true, false, not, _&&_}
-use mathlib.Core.List.{List, _++_}
 use native.Mathlib.Omega.{arith}
 use borrow.Author.Tests.{not-true, not-false, le-leb, lt-leb}
 use lib.Dec.{leb}
-use lib.ListN.{length, length-append}
 use Rattle.path.specs.Geometry.{four, sizeAt, atLevel, goodLevels, spaceOf}
 use Rattle.path.specs.Numbers.{goodSetup, GoodSetup}
 use Rattle.path.specs.Paths.{baseAt}
@@ -14,7 +12,7 @@ use Rattle.path.specs.Laws.{level-some, in-space, past-space, good-setup}
 use Rattle.path.specs.declared.Setup.{Setup}
 use Rattle.entry.specs.declared.Entry.{Entry}
 use Rattle.entry.specs.declared.Entry.the-variants.{Frame}
-use Rattle.model.specs.Answers.{Pool, pool, found, refused, hole, mapping}
+use Rattle.model.specs.Answers.{Pool, found, refused, mapping}
 use Rattle.model.specs.Calls.{goodPool, walkTo, foundAt, queryW}
 use Rattle.query.specs.Asks.{endsAt}
 
@@ -29,21 +27,9 @@ pub at-frame :
 unfolding foundAt
 at-frame a h l q x y = rw (x ∙ level-some four l _, y ∙ level-some four l _) (at-entry a h q)
 
--- the hole that the code finds at a height
-pub at-empty :
-    (a h : ℕ) {b s : ℕ} → h < 4 → b ≡ atLevel four h (baseAt four a h) → s ≡ atLevel four h (sizeAt four h)
-    → hole b s ≡ hole (baseAt four a h) (sizeAt four h)
-at-empty a h l x y = rw (x ∙ level-some four l _, y ∙ level-some four l _)
-
 -- past the first test the setup is good
 pub good : {s : Setup} {k w l : ℕ} {r : Bool} → r ≡ goodSetup four s k w l → not r ≡ false → GoodSetup four s k w l
 good e n = good-setup (sym e ∙ not-false _ n)
-
--- the same test of the two runs put together
-pub good-both :
-    (s : Setup) (first second list : List ℕ) {r : Bool} → r ≡ goodSetup four s (length first) (length first + length second) (length list)
-    → r ≡ goodPool four (pool s (first ++ second) (length first) list)
-good-both s first second list e = e ∙ ap (λ (n : ℕ). goodSetup four s (length first) n (length list)) (sym (length-append first second))
 
 module _ (p : Pool) (a : ℕ) {r : Bool} (e : r ≡ goodPool four p) where
   pub query-bad : not r ≡ true → refused 1 ≡ queryW four p a

@@ -32,8 +32,8 @@ append-requires c κs =
     let t = (c .before .before .before .before .before .before .add-tests .ensures (a .list .now) refl) in
     omega (arith, may (a .s) (a .words .now) (a .second .now) (a .list .now) (a .base2) (a .tables2) t (c .before .before .before .before .before .if1 .left) .numbers .few, may (a .s) (a .words .now) (a .second .now) (a .list .now) (a .base2) (a .tables2) t (c .before .before .before .before .before .if1 .left) .numbers .places-are, may (a .s) (a .words .now) (a .second .now) (a .list .now) (a .base2) (a .tables2) t (c .before .before .before .before .before .if1 .left) .one-yet .1, room (a .s) (a .words .now) (a .second .now) (a .list .now) (a .base2) (a .tables2) t (c .before .before .before .before .before .if1 .left))
 
-add-t20 : tie.Need-add-t20
-add-t20 c =
+add-free : tie.Need-add-free
+add-free c =
     let a = c .before .before .before .before .before .before .before .before .before .before .before .before .before .before .before .args in
     let t = (c .before .before .before .before .before .before .before .before .before .before .add-tests .ensures (a .list .now) refl) in
     omega (arith, may (a .s) (a .words .now) (a .second .now) (a .list .now) (a .base2) (a .tables2) t (c .before .before .before .before .before .before .before .before .before .if1 .left) .numbers .few, may (a .s) (a .words .now) (a .second .now) (a .list .now) (a .base2) (a .tables2) t (c .before .before .before .before .before .before .before .before .before .if1 .left) .one-yet .1, room (a .s) (a .words .now) (a .second .now) (a .list .now) (a .base2) (a .tables2) t (c .before .before .before .before .before .before .before .before .before .if1 .left))
@@ -59,7 +59,7 @@ add-spec =
     returns
     clear-requires
     append-requires
-    add-t20
+    add-free
     same-length-2
     same-length-3
     returns-2)

@@ -12,7 +12,8 @@ use Rattle.path.specs.Laws.{good-setup}
 use Rattle.model.specs.Answers.{Pool, pool}
 use Rattle.model.specs.Calls.{goodPool}
 use Rattle.model.specs.AuditLaws.{audit-bad}
-use Rattle.audit.proofs.Whole.{strictly, good-both, rooted, root-fit, whole-clash, whole-miscount, whole-unfree, whole-sound}
+use Rattle.model.specs.Refusing.{good-both}
+use Rattle.audit.proofs.Whole.{strictly, rooted, root-fit, whole-clash, whole-miscount, whole-unfree, whole-sound}
 use Rattle.audit.proofs.audit.Statement.{statement}
 use Rattle.audit.proofs.audit.Tie as tie
 use Rattle.audit.proofs.audit.Reads as reads

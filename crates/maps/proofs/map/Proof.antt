@@ -2,13 +2,12 @@
 use mathlib.Core.Path.{sym, _∙_}
 use mathlib.Core.List.{_++_}
 use lib.ListN.{length}
-use Rattle.plans.specs.Runs.{good-both}
 use native.Mathlib.Omega.{arith}
 use borrow.Author.Needs.{needs}
 use Rattle.path.specs.Geometry.{four}
 use Rattle.path.specs.Areas.{areaOf}
 use Rattle.model.specs.Answers.{pool}
-use Rattle.model.specs.Refusing.{refusing, passed}
+use Rattle.model.specs.Refusing.{refusing, passed, good-both}
 use Rattle.maps.proofs.Tests.{passed-size, passed-frame}
 use Rattle.maps.proofs.Maps.{map-bad, map-refuses, map-from, word-is}
 use Rattle.maps.proofs.map.Statement.{statement}

@@ -5,8 +5,9 @@ use native.Mathlib.Omega.{arith}
 use lib.ListN.{length}
 use borrow.Author.Needs.{needs}
 use Rattle.model.specs.Answers.{pool}
+use Rattle.model.specs.Refusing.{good-both}
 use Rattle.query.specs.AskLaws.{answer-no, answer-hole, answer-found}
-use Rattle.query.proofs.Queries.{good, good-both, query-bad, query-past, query-walks}
+use Rattle.query.proofs.Queries.{good, query-bad, query-past, query-walks}
 use Rattle.query.proofs.query.Statement.{statement}
 use Rattle.query.proofs.query.Tie as tie
 

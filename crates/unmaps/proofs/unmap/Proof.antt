@@ -8,8 +8,7 @@ use Rattle.path.specs.Laws.{four-sane, good-setup}
 use Rattle.path.specs.Geometry.{four}
 use Rattle.model.specs.Calls.{unmapAt}
 use Rattle.model.specs.Answers.{pool}
-use Rattle.model.specs.Refusing.{refusing, passed}
-use Rattle.plans.specs.Runs.{good-both}
+use Rattle.model.specs.Refusing.{refusing, passed, good-both}
 use Rattle.lookup.specs.Reaches.{reach-good, Came}
 use Rattle.unmaps.proofs.Unmaps.{unmap-bad, unmap-refuses, came-past, came-left, came-at}
 use Rattle.unmaps.proofs.unmap.Statement.{statement}
