@@ -4,7 +4,7 @@ use mathlib.Core.Path.{_≡_, sym, _∙_}
 use mathlib.Core.Bool.{Bool, true, false, not}
 use mathlib.Core.List.{List}
 use borrow.Author.Tests.{not-false}
-use Rattle.path.specs.Geometry.{four, sizeAt, atLevel}
+use Rattle.path.specs.Geometry.{Granule, sizeAt, atLevel}
 use Rattle.path.specs.Paths.{baseAt}
 use Rattle.path.specs.Laws.{level-some}
 use Rattle.path.specs.declared.Setup.{Setup}
@@ -19,6 +19,6 @@ passed e n = sym e ∙ not-false _ n
 
 -- the hole that code finds at a height
 pub hole-known :
-    (a h : ℕ) {b s : ℕ} → h < 4 → b ≡ atLevel four h (baseAt four a h) → s ≡ atLevel four h (sizeAt four h)
-    → hole b s ≡ hole (baseAt four a h) (sizeAt four h)
-hole-known a h l x y = rw (x ∙ level-some four l _, y ∙ level-some four l _)
+    (G : Granule) (a h : ℕ) {b s : ℕ} → h < G .most → b ≡ atLevel G h (baseAt G a h) → s ≡ atLevel G h (sizeAt G h)
+    → hole b s ≡ hole (baseAt G a h) (sizeAt G h)
+hole-known G a h l x y = rw (x ∙ level-some G l _, y ∙ level-some G l _)
