@@ -32,12 +32,13 @@ use Rattle.model.specs.AddLaws.{tree-wf, wf-tree, may-add}
 use Rattle.model.specs.AuditLaws.{inside-back, sound-only, sound-all, audit-counts}
 use Rattle.model.specs.Sound.{wordAt, reachedOf, mappingsOf, WfTree, SoundPool}
 use Rattle.model.specs.DescentLaws.{clash}
+use Rattle.model.specs.GranuleLaws.{is-four, is-sixteen, no-granule, some-granule, not-named}
 use Rattle.model.specs.Refusals.{Broken, areaIn, tableCount, Breaks, NoSize, NoAttributes, NotBelow, Outside, Misplaced, InRegion, InPool, Occupied, Damage, Vacant}
 use Rattle.model.specs.Refusals.{mapWalk, needed, taken, BadTaken, BadList, lastWalk, OffPage, OffStart, Starts, Emptied, GivesBack, FullList}
 use Rattle.model.specs.Refusals.{Row, row, First, None, mapTable, unmapTable, queryTable, auditTable, formatTable, addTable}
 use Rattle.model.specs.Refusals.{bare, withHole, ByTable, FormatNumbers, AddNumbers, WellFormedMap, MapNumbers, UnmapNumbers, QueryNumbers, AuditNumbers}
 use Rattle.model.specs.Refusals.Broken.{bad-levels, no-table, many-tables, base-unaligned, base-high, second-unaligned, second-high, regions-overlap, second-nowhere, bad-words, bad-second, bad-places}
-use Rattle.model.specs.Refusals.{CannotAdd, NewUnder, NoGranule, GranuleNumbers, FourNumbers, SixteenNumbers}
+use Rattle.model.specs.Refusals.{CannotAdd, NewUnder, GranuleNumbers, FourNumbers, SixteenNumbers}
 use Rattle.model.specs.Refusals.CannotAdd.{other-granule, region-there, second-base-there, no-new-table, broken-with-it, free-high}
 use Rattle.model.specs.Refusals.Outside.{starts-outside, ends-outside, frame-outside}
 use Rattle.model.specs.Refusals.BadTaken.{root-taken, beyond-taken, taken-twice, taken-on-path}
@@ -1032,60 +1033,37 @@ module _ (G : Granule) where
 
 -- ---- format
 
-module _ (number : ℕ) where
-  no-granule : goodGranule number ≡ false → NoGranule number
-  no-granule e = let (x, y) = neither (eqb number 4096) (eqb number 16384) e in (eqb-false number 4096 x, eqb-false number 16384 y)
+module _ (number levels : ℕ) (r : Area) (ws : List ℕ) (cut : ℕ) (list : List ℕ) where
+  abbrev lent : Pool
+  lent = pool noSetup ws cut list
 
-  some-granule : goodGranule number ≡ true → NoGranule number → ⊥
-  some-granule e (x, y) = go (ℕ-discrete number 4096) (ℕ-discrete number 16384)
+  format-told : Told (formatTable number levels r ws cut list) bare lent (λ d. d .answer ≡ formatted) (formatN number levels r ws cut list)
+  unfolding formatN formatW
+  format-told = go (goodGranule number) (goodNumbers (granuleOf number) levels r cut (length ws) (length list)) refl refl (done formatted _) refl
     where
-      go : Dec (number ≡ 4096) → Dec (number ≡ 16384) → ⊥
-      go (yes z) d = x z
-      go (no n) (yes z) = y z
-      go (no n) (no m) = true≢false (sym e ∙ (simp (ne-eqb number 4096 n, ne-eqb number 16384 m)))
+      go : (x y : Bool) → goodGranule number ≡ x → goodNumbers (granuleOf number) levels r cut (length ws) (length list) ≡ y → (d : Done) → d .answer ≡ formatted
+          → Told (formatTable number levels r ws cut list) bare lent (λ d. d .answer ≡ formatted) (cond x (cond y d (refuse 1 lent)) (refuse 1 lent))
+      go false y e f d q = hit (inl (no-granule number e))
+      go true false e f d q = hit (inr (bad-broken (granuleOf number) f))
+      go true true e f d q = miss (⊎-elim (some-granule number e) (good-unbroken (granuleOf number) (good-numbers f))) (accepted-by tt q)
 
-  module _ (levels : ℕ) (r : Area) (ws : List ℕ) (cut : ℕ) (list : List ℕ) where
-    abbrev lent : Pool
-    lent = pool noSetup ws cut list
+  pub format-table : ByTable (formatTable number levels r ws cut list) bare lent (formatN number levels r ws cut list)
+  format-table = by-table format-told (λ n v q e. clash (cc))
 
-    format-told : Told (formatTable number levels r ws cut list) bare lent (λ d. d .answer ≡ formatted) (formatN number levels r ws cut list)
-    unfolding formatN formatW
-    format-told = go (goodGranule number) (goodNumbers (granuleOf number) levels r cut (length ws) (length list)) refl refl (done formatted _) refl
-      where
-        go : (x y : Bool) → goodGranule number ≡ x → goodNumbers (granuleOf number) levels r cut (length ws) (length list) ≡ y → (d : Done) → d .answer ≡ formatted
-            → Told (formatTable number levels r ws cut list) bare lent (λ d. d .answer ≡ formatted) (cond x (cond y d (refuse 1 lent)) (refuse 1 lent))
-        go false y e f d q = hit (inl (no-granule e))
-        go true false e f d q = hit (inr (bad-broken (granuleOf number) f))
-        go true true e f d q = miss (⊎-elim (some-granule e) (good-unbroken (granuleOf number) (good-numbers f))) (accepted-by tt q)
-
-    pub format-table : ByTable (formatTable number levels r ws cut list) bare lent (formatN number levels r ws cut list)
-    format-table = by-table format-told (λ n v q e. clash (cc))
-
-    pub format-numbers : FormatNumbers number levels r ws cut list
-    format-numbers = record {
-      no-1 = row-of format-table 0 1 refl;
-      accepted = (λ e. by-none format-told formatted (λ n v z. clash (cc)) e .0 .0, λ x. none-by format-told (x, tt));
-    }
+  pub format-numbers : FormatNumbers number levels r ws cut list
+  format-numbers = record {
+    no-1 = row-of format-table 0 1 refl;
+    accepted = (λ e. by-none format-told formatted (λ n v z. clash (cc)) e .0 .0, λ x. none-by format-told (x, tt));
+  }
 
 -- ---- the papers' own numbers
 
 pub granule-numbers : (number : ℕ) → GranuleNumbers number
-unfolding granuleOf
 granule-numbers number = record {
-  none = (λ d. (λ z. d (z ∙ ap pageSize (sym (is-four z))), λ z. d (z ∙ ap pageSize (sym (is-sixteen z)))), λ (x, y) z. go (ℕ-discrete number 16384) x y z);
-  small = is-four;
-  larger = is-sixteen;
+  none = (λ d. (λ z. d (z ∙ ap pageSize (sym (is-four number z))), λ z. d (z ∙ ap pageSize (sym (is-sixteen number z)))), not-named number);
+  small = is-four number;
+  larger = is-sixteen number;
 }
-  where
-    is-four : number ≡ 4096 → granuleOf number ≡ four
-    is-four z = rw z
-
-    is-sixteen : number ≡ 16384 → granuleOf number ≡ sixteen
-    is-sixteen z = rw z
-
-    go : Dec (number ≡ 16384) → number ≢ 4096 → number ≢ 16384 → number ≢ pageSize (granuleOf number)
-    go (yes e) x y z = y e
-    go (no n) x y z = x (z ∙ ap (λ (b : Bool). pageSize (cond b sixteen four)) (ne-eqb number 16384 n))
 
 pub four-numbers : FourNumbers
 unfolding spaceOf goodLevels heightOf seek sizeAt
