@@ -11,7 +11,7 @@ use lib.ListN.{length, getD, set, take, drop, replicate, drop-of-length-le, leng
 use lib.Seq.{set-out, getD-set-same, getD-set-other, take-all}
 use borrow.Author.Tests.{eq-eqb, eqb-true, eqb-false, not-true, not-false}
 use Rattle.laws.specs.Lists.{part, zeroed, allZero}
-use Rattle.laws.specs.ListLaws.{part-first, part-later, zeroed-first, zeroed-later, length-part, length-part-le, zeroed-is, allZero-of, allZero-not, allZero-part-at, allZero-part-of, allZero-part-not, allZero-part-some}
+use Rattle.laws.specs.ListLaws.{getD-part, part-first, part-later, zeroed-first, zeroed-later, length-part, length-part-le, zeroed-is, allZero-of, allZero-not, allZero-part-at, allZero-part-of, allZero-part-not, allZero-part-some}
 
 span : (at k : ℕ) → at + k - at ≡ k
 span at k = omega arith
@@ -169,3 +169,9 @@ module _ (a b : List ℕ) (t : ℕ) where
 -- no word is left out where the place is past the end
 pub none-out : (ws xs : List ℕ) (at k : ℕ) → xs ≡ part ws at k → allZero (set xs k 0) ≡ allZero (part ws at k)
 none-out ws xs at k e = ap allZero (ap (λ (l : List ℕ). set l k 0) e ∙ set-out (part ws at k) k 0 (length-part-le ws at k))
+
+-- a first word in use is another entry than one further on
+pub first-stays : (ws : List ℕ) (t i : ℕ) → 0 < i → (getD ws (512 * t) 0 ≡ 0 → ⊥) → allZero (set (part ws (512 * t + 0) 512) i 0) ≡ false
+first-stays ws t i l d =
+    let z : 512 * t + 0 + 0 ≡ 512 * t = omega arith in
+    allZero-not _ 0 (λ e. d (ap (λ (j : ℕ). getD ws j 0) (sym z) ∙ sym (getD-part ws (512 * t + 0) 512 0 (omega arith)) ∙ sym (kept-in (part ws (512 * t + 0) 512) i {i = 0} (omega arith)) ∙ e))

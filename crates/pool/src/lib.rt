@@ -197,10 +197,15 @@ pub fn is_table_empty<'a>(words: &'a [u64], second: &'a [u64], t: u32) -> bool
     zeros_but(table_part(words, second, t), ENTRIES)
 }
 
-// Whether table t has no entry but entry i.
+// Whether table t has no entry but entry i. A table in use mostly has its first entry, so that one is read alone before the steps.
 pub fn only_entry<'a>(words: &'a [u64], second: &'a [u64], t: u32, i: u16) -> bool
     ensures { λ r. ⌜ ((k : ℕ) → length (now (words .entry)) ≡ entries four * k → r ≡ onlyEntry four (now (words .entry) ++ now (second .entry)) t i) ⌝ }
 {
+    if i > 0 {
+        if word(words, second, ENTRIES * (t as usize)) != 0 {
+            return false;
+        }
+    }
     zeros_but(table_part(words, second, t), i as usize)
 }
 
