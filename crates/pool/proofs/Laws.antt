@@ -11,7 +11,7 @@ use lib.ListN.{length, getD, set, take, drop, replicate, drop-of-length-le, leng
 use lib.Seq.{set-out, getD-set-same, getD-set-other, take-all}
 use borrow.Author.Tests.{eq-eqb, eqb-true, eqb-false, not-true, not-false}
 use Rattle.laws.specs.Lists.{part, zeroed, allZero}
-use Rattle.laws.specs.ListLaws.{part-first, part-later, zeroed-first, zeroed-later, length-part, length-part-le, zeroed-is, allZero-of, allZero-not, allZero-part-at, allZero-part-of, allZero-part-not, allZero-part-some}
+use Rattle.laws.specs.ListLaws.{getD-part, part-first, part-later, zeroed-first, zeroed-later, length-part, length-part-le, zeroed-is, allZero-of, allZero-not, allZero-part-at, allZero-part-of, allZero-part-not, allZero-part-some}
 
 span : (at k : ℕ) → at + k - at ≡ k
 span at k = omega arith
@@ -169,3 +169,14 @@ module _ (a b : List ℕ) (t : ℕ) where
 -- no word is left out where the place is past the end
 pub none-out : (ws xs : List ℕ) (at k : ℕ) → xs ≡ part ws at k → allZero (set xs k 0) ≡ allZero (part ws at k)
 none-out ws xs at k e = ap allZero (ap (λ (l : List ℕ). set l k 0) e ∙ set-out (part ws at k) k 0 (length-part-le ws at k))
+
+-- a table with an entry in use has that one besides any other
+pub entry-stays : (ws : List ℕ) (t i j : ℕ) → j < 512 → (j ≡ i → ⊥) → (getD ws (512 * t + j) 0 ≡ 0 → ⊥) → allZero (set (part ws (512 * t + 0) 512) i 0) ≡ false
+entry-stays ws t i j l n d =
+    let z : 512 * t + j ≡ 512 * t + 0 + j = omega arith in
+    allZero-not _ j
+    (λ e. d (ap (λ (k : ℕ). getD ws k 0) z ∙ sym (getD-part ws (512 * t + 0) 512 j l) ∙ sym (kept-in (part ws (512 * t + 0) 512) i n) ∙ e))
+
+pub first-stays : (ws : List ℕ) (t i : ℕ) → 0 < i → (getD ws (512 * t) 0 ≡ 0 → ⊥) → allZero (set (part ws (512 * t + 0) 512) i 0) ≡ false
+first-stays ws t i l d =
+    let z : 512 * t + 0 ≡ 512 * t = omega arith in entry-stays ws t i 0 (omega arith) (omega arith) (λ e. d (ap (λ (k : ℕ). getD ws k 0) (sym z) ∙ e))

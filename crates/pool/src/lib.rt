@@ -197,10 +197,30 @@ pub fn is_table_empty<'a>(words: &'a [u64], second: &'a [u64], t: u32) -> bool
     zeros_but(table_part(words, second, t), ENTRIES)
 }
 
-// Whether table t has no entry but entry i.
+// The entry that stands beside entry i in memory.
+fn beside(i: u16) -> usize
+    ensures { λ r. ⌜ (r < entries four) × (r ≡ i → ⊥) ⌝ }
+{
+    let k = i as usize;
+    if k % 2 == 0 {
+        return (k + 1) % ENTRIES;
+    }
+    (k - 1) % ENTRIES
+}
+
+// Whether table t has no entry but entry i. Where it has another, that is mostly the one beside or the first, so these two are read before the steps.
 pub fn only_entry<'a>(words: &'a [u64], second: &'a [u64], t: u32, i: u16) -> bool
     ensures { λ r. ⌜ ((k : ℕ) → length (now (words .entry)) ≡ entries four * k → r ≡ onlyEntry four (now (words .entry) ++ now (second .entry)) t i) ⌝ }
 {
+    let at = ENTRIES * (t as usize);
+    if word(words, second, at + beside(i)) != 0 {
+        return false;
+    }
+    if i > 0 {
+        if word(words, second, at) != 0 {
+            return false;
+        }
+    }
     zeros_but(table_part(words, second, t), i as usize)
 }
 
