@@ -13,14 +13,11 @@ use Rattle.pool.proofs.table_part.Reads as table-part-reads
 use Rattle.pool.proofs.word.Reads as word-reads
 use Rattle.pool.proofs.zeros_but.Reads as zeros-but-reads
 
-mul-at : tie.Need-mul-at
-mul-at c = search needs
-
 beside-requires : tie.Need-beside-requires
 beside-requires c κs = search needs
 
-add-word : tie.Need-add-word
-add-word c = search needs
+entry-place-requires : tie.Need-entry-place-requires
+entry-place-requires c κs = search needs
 
 word-requires : tie.Need-word-requires
 word-requires c κs = search needs
@@ -30,6 +27,9 @@ unfolding onlyEntry
 returns c =
     let b = c .before .before .beside .ensures in
     λ k e. sym (entry-stays _ _ _ _ (b .0) (b .1) (λ z. c .if1 .taken (c .before .word .ensures ∙ z)))
+
+entry-place-requires-2 : tie.Need-entry-place-requires-2
+entry-place-requires-2 c κs = search needs
 
 word-requires-2 : tie.Need-word-requires-2
 word-requires-2 c κs = search needs
@@ -52,11 +52,11 @@ pub only-entry-spec : {M : Type 1} → statement M
 only-entry-spec =
     tie.close
     (tie.spec
-    mul-at
     beside-requires
-    add-word
+    entry-place-requires
     word-requires
     returns
+    entry-place-requires-2
     word-requires-2
     returns-2
     table-part-requires

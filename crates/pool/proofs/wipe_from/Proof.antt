@@ -38,17 +38,17 @@ same-length c = search needs
 returns : tie.Need-returns
 returns c =
     let a = c .before .before .before .before .before .before .before .args in
-    wiped (a .words .now) _ (a .start) 512 (omega arith) (c .before .before .clear .ensures)
+    wiped (a .words .now) _ (a .start) (a .count) (omega arith) (c .before .before .clear .ensures)
 
 returns-2 : tie.Need-returns-2
 returns-2 c =
     let a = c .before .before .before .args in
-    sym (zeroed-none (a .words .now) (a .start) 512 (omega arith))
+    sym (zeroed-none (a .words .now) (a .start) (a .count) (omega arith))
 
 returns-3 : tie.Need-returns-3
 returns-3 c =
     let a = c .before .before .args in
-    sym (zeroed-none (a .words .now) (a .start) 512 (omega arith))
+    sym (zeroed-none (a .words .now) (a .start) (a .count) (omega arith))
 
 pub wipe-from-spec : {M : Type 1} → statement M
 wipe-from-spec =
