@@ -60,6 +60,9 @@ module _ (G : Granule) where
   pub entries-more : Sane G → 1 < entries G
   entries-more S = pow-lt {i = 0} {j = G .index} (omega arith)
 
+  pub page-least : Sane G → 4096 ≤ pageSize G
+  page-least S = pow-mono {i = 12} (S .page-least)
+
   -- no page is so large that the tables of a pool could not stand below 2^48
   pub page-most : Sane G → pageSize G ≤ 2 ^ 25
   page-most S = let l : 1 ≤ G .most = omega arith in pow-mono {j = 25} (omega (arith, mul-le-mul-left (G .index) l))
@@ -215,6 +218,10 @@ module _ (G : Granule) where
     pub bits-size : b ≢ 0 → 2 ^ b ≡ sizeAt G h
     unfolding sizeAt
     bits-size n = ap (λ (k : ℕ). 2 ^ k) (e ∙ level-some (bits-level n) (G .page + G .index * h))
+
+  -- every tree has pages
+  pub level-page : Sane G → (a : ℕ) → atLevel G 0 (a % sizeAt G 0) ≡ a % pageSize G
+  level-page S a = level-some (omega arith) (a % sizeAt G 0) ∙ ap (λ (s : ℕ). a % s) size-zero
 
   pub space-some : {levels : ℕ} → G .fewest ≤ levels → levels ≤ G .most → spaceOf G levels ≡ sizeAt G levels
   unfolding spaceOf goodLevels

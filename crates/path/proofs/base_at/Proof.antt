@@ -1,10 +1,9 @@
 -- `path::base_at` meets its contract: 0 bits say that no level has the height, and any others are cleared.
-use Prim.Native.Nat.{_/_, _*_}
-use mathlib.Core.Path.{sym, _∙_}
+use mathlib.Core.Path.{sym}
 use native.Mathlib.Nat.{mod-eq-of-lt}
 use native.Mathlib.Omega.{arith}
 use borrow.Author.Needs.{needs}
-use Rattle.path.specs.Geometry.{granuleOf, sizeAt}
+use Rattle.path.specs.Geometry.{granuleOf}
 use Rattle.path.specs.Paths.{baseAt}
 use Rattle.path.specs.Laws.{granule-sane, level-some, bits-none, bits-level, bits-fit, bits-size}
 use Rattle.path.specs.RegionLaws.{base-is, base-le}

@@ -1,21 +1,15 @@
 -- `path::good_region` meets its contract: each test refuses what breaks its rule, and what is left keeps them all.
-use Prim.Native.Nat.{ℕ, _*_, _%_, _^_, _≤_}
-use mathlib.Core.Path.{_≡_, sym, ap, _∙_}
+use Prim.Native.Nat.{ℕ, _*_, _^_, _≤_}
+use mathlib.Core.Path.{_≡_, sym, _∙_}
 use native.Mathlib.Nat.{mul-le-mul}
 use native.Mathlib.Omega.{arith}
 use borrow.Author.Needs.{needs}
 use borrow.Author.Tests.{eqb-true, eq-eqb}
-use Rattle.path.specs.Geometry.{granuleOf, pageSize, entries, sizeAt, atLevel}
+use Rattle.path.specs.Geometry.{granuleOf, pageSize, entries}
 use Rattle.path.specs.Numbers.{mostTables}
-use Rattle.path.specs.Laws.{granule-sane, page-most, entries-most, size-zero, level-some, good-region, region-good, region-bad, same-truth}
+use Rattle.path.specs.Laws.{granule-sane, page-most, entries-most, level-page, good-region, region-good, region-bad, same-truth}
 use Rattle.path.proofs.good_region.Statement.{statement}
 use Rattle.path.proofs.good_region.Tie as tie
-
--- what an address is past the start of its page
-page-rest : (number a : ℕ) {r : ℕ} → r ≡ atLevel (granuleOf number) 0 (a % sizeAt (granuleOf number) 0) → r ≡ a % pageSize (granuleOf number)
-page-rest number a e =
-    let S = granule-sane number in
-    e ∙ level-some (granuleOf number) (omega arith) _ ∙ ap (λ (x : ℕ). a % x) (size-zero (granuleOf number))
 
 -- a pool's tables are so few that their bytes and their words can be counted
 few-bytes : (number n : ℕ) {p : ℕ} → p ≡ pageSize (granuleOf number) → n ≤ mostTables → p * n ≤ 2 ^ 34
@@ -31,7 +25,7 @@ rest-at-requires : tie.Need-rest-at-requires
 rest-at-requires c κs = search needs
 
 returns-2 : tie.Need-returns-2
-returns-2 c = sym (region-bad (λ R. c .if2 .taken (page-rest _ _ (c .before .rest-at .ensures) ∙ R .aligned)))
+returns-2 c = sym (region-bad (λ R. c .if2 .taken (c .before .rest-at .ensures ∙ level-page _ (granule-sane _) _ ∙ R .aligned)))
 
 page-of-requires : tie.Need-page-of-requires
 page-of-requires c κs = search needs
@@ -57,7 +51,7 @@ returns-4 c =
     (same-truth _ _
     (λ e. region-good (record {
       few = omega arith;
-      aligned = sym (page-rest _ _ (c .before .before .before .before .rest-at .ensures)) ∙ omega arith;
+      aligned = sym (c .before .before .before .before .rest-at .ensures ∙ level-page _ (granule-sane _) _) ∙ c .before .before .before .if2 .left;
       fits = rw (← c .before .before .page-of .ensures) (omega (arith, few-bytes _ (c .before .before .before .before .before .before .args .tables) (c .before .before .page-of .ensures) (omega arith)));
       words-are = eqb-true _ _ e;
     }))

@@ -1,5 +1,5 @@
 -- `path::index_at` meets its contract: 0 bits say that no level has the height.
-use mathlib.Core.Path.{sym, _∙_}
+use mathlib.Core.Path.{sym}
 use borrow.Author.Needs.{needs}
 use Rattle.path.specs.Geometry.{granuleOf}
 use Rattle.path.specs.Paths.{indexAt}
