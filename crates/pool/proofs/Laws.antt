@@ -154,34 +154,37 @@ part-none ws at k l =
 -- ---- a table of the first run, which is of whole tables, and one of the second
 
 -- the places of tables of K entries: one that starts within whole tables ends within them
-whole-table : (K t k : ℕ) {n : ℕ} → n ≡ K * k → K * t + 0 < n → K * t + 0 + K ≤ n
-whole-table K t k e l = go (decLt t k)
+whole-table : (K t k n : ℕ) → n ≡ K * k → K * t + 0 < n → K * t + 0 + K ≤ n
+whole-table K t k n e l = go (decLt t k)
   where
-    go : Dec (t < k) → K * t + 0 + K ≤ _
+    go : Dec (t < k) → K * t + 0 + K ≤ n
     go (yes h) = omega (arith, table-ends K h)
     go (no h) = let m : k ≤ t = omega arith in absurd (omega (arith, mul-le-mul-left K m))
 
-module _ (K : ℕ) (a b : List ℕ) (t : ℕ) where
-  pub table-first : (k : ℕ) → length a ≡ K * k → K * t + 0 < length a → part a (K * t + 0) K ≡ part (a ++ b) (K * t + 0) K
-  table-first k e l = sym (part-first a b (K * t + 0) K (whole-table K t k e l))
+-- table t by its start and the number of its entries, as the code has them
+module _ (K : ℕ) (a b : List ℕ) (t : ℕ) {start count : ℕ} (p : start ≡ K * t + 0) (q : count ≡ K) where
+  pub table-first : (k : ℕ) → length a ≡ K * k → start < length a → part a start count ≡ part (a ++ b) (K * t + 0) K
+  table-first k e l = rw (p, q) (sym (part-first a b (K * t + 0) K (whole-table K t k (length a) e (omega arith))))
 
-  pub table-later : length a ≤ K * t + 0 → part b (K * t + 0 - length a) K ≡ part (a ++ b) (K * t + 0) K
-  table-later l = sym (part-later a b (K * t + 0) K l)
+  pub table-later : length a ≤ start → part b (start - length a) count ≡ part (a ++ b) (K * t + 0) K
+  table-later l = rw (p, q) (sym (part-later a b (K * t + 0) K (omega arith)))
 
-  pub wipe-first : (k : ℕ) → length a ≡ K * k → K * t + 0 < length a → zeroed a (K * t + 0) K ++ b ≡ zeroed (a ++ b) (K * t + 0) K
-  wipe-first k e l = sym (zeroed-first a b (K * t + 0) K (whole-table K t k e l))
+  pub wipe-first : (k : ℕ) → length a ≡ K * k → start < length a → zeroed a start count ++ b ≡ zeroed (a ++ b) (K * t + 0) K
+  wipe-first k e l = rw (p, q) (sym (zeroed-first a b (K * t + 0) K (whole-table K t k (length a) e (omega arith))))
 
-  pub wipe-later : length a ≤ K * t + 0 → a ++ zeroed b (K * t + 0 - length a) K ≡ zeroed (a ++ b) (K * t + 0) K
-  wipe-later l = sym (zeroed-later a b (K * t + 0) K l)
+  pub wipe-later : length a ≤ start → a ++ zeroed b (start - length a) count ≡ zeroed (a ++ b) (K * t + 0) K
+  wipe-later l = rw (p, q) (sym (zeroed-later a b (K * t + 0) K (omega arith)))
 
 -- no word is left out where the place is past the end
-pub none-out : (ws xs : List ℕ) (at k : ℕ) → xs ≡ part ws at k → allZero (set xs k 0) ≡ allZero (part ws at k)
-none-out ws xs at k e = ap allZero (ap (λ (l : List ℕ). set l k 0) e ∙ set-out (part ws at k) k 0 (length-part-le ws at k))
+pub none-out : (ws xs : List ℕ) (at k : ℕ) {past : ℕ} → past ≡ k → xs ≡ part ws at k → allZero (set xs past 0) ≡ allZero (part ws at k)
+none-out ws xs at k q e = ap allZero (rw (q, e) (set-out (part ws at k) k 0 (length-part-le ws at k)))
 
--- a table with an entry in use has that one besides any other
-pub entry-stays : (K : ℕ) (ws : List ℕ) (t i j : ℕ) → j < K → (j ≡ i → ⊥) → (getD ws (K * t + j) 0 ≡ 0 → ⊥) → allZero (set (part ws (K * t + 0) K) i 0) ≡ false
-entry-stays K ws t i j l n d =
-    let z : K * t + j ≡ K * t + 0 + j = omega arith in
+-- a table with an entry in use, whose word stands at a place, has that one besides any other
+pub entry-stays :
+    (K : ℕ) (ws : List ℕ) (t i j : ℕ) {place : ℕ} → place ≡ K * t + j → j < K → (j ≡ i → ⊥) → (getD ws place 0 ≡ 0 → ⊥)
+    → allZero (set (part ws (K * t + 0) K) i 0) ≡ false
+entry-stays K ws t i j {place} p l n d =
+    let z : place ≡ K * t + 0 + j = omega arith in
     allZero-not _ j
     (λ e. d (ap (λ (k : ℕ). getD ws k 0) z ∙ sym (getD-part ws (K * t + 0) K j l) ∙ sym (kept-in (part ws (K * t + 0) K) i n) ∙ e))
 

@@ -20,7 +20,7 @@ zeros-but-requires : tie.Need-zeros-but-requires
 zeros-but-requires c κs = search needs
 
 returns : tie.Need-returns
-returns c = λ k e. c .zeros-but .ensures ∙ rw (c .before .before .entries-of .ensures) (none-out _ _ _ _ (c .before .table-part .ensures k e))
+returns c = λ k e. c .zeros-but .ensures ∙ none-out _ _ _ _ (c .before .before .entries-of .ensures) (c .before .table-part .ensures k e)
 
 pub is-table-empty-spec : {M : Type 1} → statement M
 is-table-empty-spec = tie.close (tie.spec entries-of-requires table-part-requires zeros-but-requires returns)

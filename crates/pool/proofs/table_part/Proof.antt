@@ -21,16 +21,16 @@ words-from-requires c κs = search needs
 
 returns : tie.Need-returns
 returns c =
-    let a = c .before .before .before .before .args in
-    λ k e. c .words-from .ensures ∙ rw (c .before .before .before .entry-place .ensures, c .before .before .entries-of .ensures) (table-first (entries (granuleOf (a .granule))) (a .words .now) (a .second .now) (a .t) k e (omega arith))
+    let a = c .before .before .before .before .before .before .args in
+    λ k e. c .words-from .ensures ∙ table-first (entries (granuleOf (a .granule))) (a .words .now) (a .second .now) (a .t) (c .before .before .before .entry-place .ensures) (c .before .before .entries-of .ensures) k e (omega arith)
 
 words-from-requires-2 : tie.Need-words-from-requires-2
 words-from-requires-2 c κs = search needs
 
 returns-2 : tie.Need-returns-2
 returns-2 c =
-    let a = c .before .before .before .before .args in
-    λ k e. c .words-from2 .ensures ∙ rw (c .before .before .before .entry-place .ensures, c .before .before .entries-of .ensures) (table-later (entries (granuleOf (a .granule))) (a .words .now) (a .second .now) (a .t) (omega arith))
+    let a = c .before .before .before .before .before .before .args in
+    λ k e. c .words-from2 .ensures ∙ table-later (entries (granuleOf (a .granule))) (a .words .now) (a .second .now) (a .t) (c .before .before .before .entry-place .ensures) (c .before .before .entries-of .ensures) (omega arith)
 
 pub table-part-spec : {M : Type 1} → statement M
 table-part-spec =

@@ -26,8 +26,8 @@ same-length c = search needs
 
 returns : tie.Need-returns
 returns c =
-    let a = c .before .before .before .before .before .before .before .args in
-    λ k e. ap (λ (l : List ℕ). l ++ a .second .now) (c .before .before .wipe-from .ensures) ∙ rw (c .before .before .before .before .before .entry-place .ensures, c .before .before .before .before .entries-of .ensures) (wipe-first (entries (granuleOf (a .granule))) (a .words .now) (a .second .now) (a .t) k e (omega arith))
+    let a = c .before .before .before .before .before .before .before .before .before .args in
+    λ k e. ap (λ (l : List ℕ). l ++ a .second .now) (c .before .before .wipe-from .ensures) ∙ wipe-first (entries (granuleOf (a .granule))) (a .words .now) (a .second .now) (a .t) (c .before .before .before .before .before .before .entry-place .ensures) (c .before .before .before .before .before .entries-of .ensures) k e (omega arith)
 
 wipe-from-requires-2 : tie.Need-wipe-from-requires-2
 wipe-from-requires-2 c κs = search needs
@@ -37,8 +37,8 @@ same-length-2 c = search needs
 
 returns-2 : tie.Need-returns-2
 returns-2 c =
-    let a = c .before .before .before .before .before .before .before .args in
-    λ k e. ap (λ (l : List ℕ). a .words .now ++ l) (c .before .before .wipe-from2 .ensures) ∙ rw (c .before .before .before .before .before .entry-place .ensures, c .before .before .before .before .entries-of .ensures) (wipe-later (entries (granuleOf (a .granule))) (a .words .now) (a .second .now) (a .t) (omega arith))
+    let a = c .before .before .before .before .before .before .before .before .before .args in
+    λ k e. ap (λ (l : List ℕ). a .words .now ++ l) (c .before .before .wipe-from2 .ensures) ∙ wipe-later (entries (granuleOf (a .granule))) (a .words .now) (a .second .now) (a .t) (c .before .before .before .before .before .before .entry-place .ensures) (c .before .before .before .before .before .entries-of .ensures) (omega arith)
 
 pub wipe-spec : {M : Type 1} → statement M
 wipe-spec =

@@ -11,9 +11,6 @@ use Rattle.pool.proofs.wipe_from.Reads as reads
 use Rattle.pool.proofs.wipe_from.Lts as lts
 use Rattle.pool.proofs.clear.Reads as clear-reads
 
-sub-if2 : tie.Need-sub-if2
-sub-if2 c = search needs
-
 add-end : tie.Need-add-end
 add-end c = search needs
 
@@ -54,7 +51,6 @@ pub wipe-from-spec : {M : Type 1} → statement M
 wipe-from-spec =
     tie.close
     (tie.spec
-    sub-if2
     add-end
     mul-clear
     sub-clear
