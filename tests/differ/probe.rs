@@ -273,47 +273,54 @@ fn pools() {
         let r = tried(|| pool::clear(&mut w));
         told(&format!("pool::clear {n}"), r, &w, &[]);
     }
-    for length in [0, 511, 512, 513, 1023, 1024, 1536] {
-        for t in [0, 1, 2, 3, 4, u32::MAX] {
-            for more in [0, 511, 512, 1024] {
-                let (mut w, mut s) = (vec![5; length], vec![6; more]);
-                let r = tried(|| pool::wipe(&mut w, &mut s, t));
-                told_two(&format!("pool::wipe {length} {more} {t}"), r, &w, &s, &[]);
-                let (w, mut s) = (vec![0; length], vec![0; more]);
-                for at in [0, 511, 512, 1023] {
-                    if at < more {
-                        s[at] = 9;
-                    }
-                    line(&format!("pool::table_part {length} {more} {at} {t} = {}", tried(|| pool::table_part(&w, &s, t).to_vec())));
-                    line(&format!("pool::is_table_empty {length} {more} {at} {t} = {}", tried(|| pool::is_table_empty(&w, &s, t))));
-                    line(&format!("pool::only_entry {length} {more} {at} {t} = {}", tried(|| pool::only_entry(&w, &s, t, at as u16 % 512))));
-                    if at < more {
-                        s[at] = 0;
-                    }
-                }
-            }
-            for at in [0, 1, 200, 255, 256, 300, 510, 511, 512, 513, 767, 1023, 1024, 1535] {
-                for value in [1, 2, u64::MAX] {
-                    let mut w = vec![0; length];
-                    if at < length {
-                        w[at] = value;
-                    }
-                    line(&format!("pool::is_table_empty {length} {at} {value} {t} = {}", tried(|| pool::is_table_empty(&w, &[], t))));
-                    for i in [0, 1, 255, 256, 510, 511, 512, 513, 65535] {
-                        line(&format!("pool::only_entry {length} {at} {value} {t} {i} = {}", tried(|| pool::only_entry(&w, &[], t, i))));
-                    }
-                }
-            }
-        }
+    for (granule, k) in [(4096, 512), (16384, 2048)] {
+        tables(granule, k);
     }
     for c in [0, 1, 2, 3, 4, 5] {
         for four in [[1, 2, 3, 4], [0, 0, 0, 5], [5, 5, 0, 0]] {
             ask!(pool::among_four, four, c);
         }
     }
-    for t in [0, 1, 2, 63] {
-        for i in [0, 1, 2, 511] {
-            ask!(plans::entry_place, t, i);
+}
+
+// Tables of k entries in two runs of words.
+fn tables(granule: u64, k: usize) {
+    for length in [0, k - 1, k, k + 1, 2 * k - 1, 2 * k, 3 * k] {
+        for t in [0, 1, 2, 3, 4, u32::MAX] {
+            for more in [0, k - 1, k, 2 * k] {
+                let (mut w, mut s) = (vec![5; length], vec![6; more]);
+                let r = tried(|| pool::wipe(granule, &mut w, &mut s, t));
+                told_two(&format!("pool::wipe {granule} {length} {more} {t}"), r, &w, &s, &[]);
+                let (w, mut s) = (vec![0; length], vec![0; more]);
+                for at in [0, k - 1, k, 2 * k - 1] {
+                    if at < more {
+                        s[at] = 9;
+                    }
+                    line(&format!("pool::table_part {granule} {length} {more} {at} {t} = {}", tried(|| pool::table_part(granule, &w, &s, t).to_vec())));
+                    line(&format!("pool::is_table_empty {granule} {length} {more} {at} {t} = {}", tried(|| pool::is_table_empty(granule, &w, &s, t))));
+                    line(&format!("pool::only_entry {granule} {length} {more} {at} {t} = {}", tried(|| pool::only_entry(granule, &w, &s, t, (at % k) as u16))));
+                    if at < more {
+                        s[at] = 0;
+                    }
+                }
+            }
+            for at in [0, 1, 200, 255, 256, 300, 510, 511, 512, k - 2, k - 1, k, k + 1, 3 * k / 2 - 1, 2 * k - 1, 2 * k, 3 * k - 1] {
+                for value in [1, 2, u64::MAX] {
+                    let mut w = vec![0; length];
+                    if at < length {
+                        w[at] = value;
+                    }
+                    line(&format!("pool::is_table_empty {granule} {length} {at} {value} {t} = {}", tried(|| pool::is_table_empty(granule, &w, &[], t))));
+                    for i in [0, 1, 255, 256, 510, 511, 512, 513, k - 2, k - 1, k, k + 1, 65535] {
+                        line(&format!("pool::only_entry {granule} {length} {at} {value} {t} {i} = {}", tried(|| pool::only_entry(granule, &w, &[], t, i as u16))));
+                    }
+                }
+            }
+        }
+    }
+    for t in [0, 1, 2, 63, 511, u32::MAX] {
+        for i in [0, 1, 2, 511, 2047, u16::MAX] {
+            ask!(pool::entry_place, granule, t, i);
         }
     }
 }

@@ -4,7 +4,6 @@ ghost use mathlib.Core.List.{List, _++_};
 ghost use Prim.Native.Nat.{ℕ, _*_};
 ghost use lib.ListN.{length};
 ghost use Rattle.path.specs.Geometry.{four, entries};
-ghost use Rattle.model.specs.Walk.{slot};
 ghost use Rattle.model.specs.Writes.{memory, performAll};
 ghost use Rattle.plans.specs.Plan.{writes, planned};
 
@@ -17,13 +16,6 @@ pub enum Step {
     Store { place: usize, value: u64 },
     Wipe { table: u32 },
     Give { place: usize, table: u32 },
-}
-
-// The place of entry i of table t among the words.
-pub fn entry_place(t: u32, i: u16) -> usize
-    ensures { λ r. ⌜ r ≡ slot four t i ⌝ }
-{
-    (path::ENTRIES as usize) * (t as usize) + (i as usize)
 }
 
 // A step's write to the words, of two runs of which the first is of whole tables.

@@ -2,8 +2,10 @@
 use mathlib.Core.Path.{_≡_, refl, sym, ap, _∙_}
 use native.Mathlib.Omega.{arith}
 use borrow.Author.Needs.{needs}
+use Rattle.path.specs.Geometry.{granuleOf}
+use Rattle.path.specs.Laws.{entries-pos}
 use Rattle.model.specs.Writes.{onlyEntry}
-use Rattle.pool.proofs.Laws.{entry-stays, first-stays}
+use Rattle.pool.proofs.Laws.{entry-stays}
 use Rattle.pool.proofs.only_entry.Statement.{statement}
 use Rattle.pool.proofs.only_entry.Tie as tie
 use Rattle.pool.proofs.only_entry.Reads as reads
@@ -13,14 +15,11 @@ use Rattle.pool.proofs.table_part.Reads as table-part-reads
 use Rattle.pool.proofs.word.Reads as word-reads
 use Rattle.pool.proofs.zeros_but.Reads as zeros-but-reads
 
-mul-at : tie.Need-mul-at
-mul-at c = search needs
-
 beside-requires : tie.Need-beside-requires
 beside-requires c κs = search needs
 
-add-word : tie.Need-add-word
-add-word c = search needs
+entry-place-requires : tie.Need-entry-place-requires
+entry-place-requires c κs = search needs
 
 word-requires : tie.Need-word-requires
 word-requires c κs = search needs
@@ -28,15 +27,20 @@ word-requires c κs = search needs
 returns : tie.Need-returns
 unfolding onlyEntry
 returns c =
-    let b = c .before .before .beside .ensures in
-    λ k e. sym (entry-stays _ _ _ _ (b .0) (b .1) (λ z. c .if1 .taken (c .before .word .ensures ∙ z)))
+    let b = c .before .before .before .beside .ensures in
+    λ k e. sym (entry-stays _ _ _ _ _ (c .before .before .entry-place .ensures) (b .0) (b .1) (λ z. c .if1 .taken (c .before .word .ensures ∙ z)))
+
+entry-place-requires-2 : tie.Need-entry-place-requires-2
+entry-place-requires-2 c κs = search needs
 
 word-requires-2 : tie.Need-word-requires-2
 word-requires-2 c κs = search needs
 
 returns-2 : tie.Need-returns-2
 unfolding onlyEntry
-returns-2 c = λ k e. sym (first-stays _ _ _ (omega arith) (λ z. c .if3 .taken (c .before .word2 .ensures ∙ z)))
+returns-2 c =
+    let a = c .before .before .before .before .before .before .before .before .before .before .args in
+    λ k e. sym (entry-stays _ _ _ _ 0 (c .before .before .entry-place2 .ensures) (entries-pos (granuleOf (a .granule))) (omega arith) (λ z. c .if3 .taken (c .before .word2 .ensures ∙ z)))
 
 table-part-requires : tie.Need-table-part-requires
 table-part-requires c κs = search needs
@@ -52,11 +56,11 @@ pub only-entry-spec : {M : Type 1} → statement M
 only-entry-spec =
     tie.close
     (tie.spec
-    mul-at
     beside-requires
-    add-word
+    entry-place-requires
     word-requires
     returns
+    entry-place-requires-2
     word-requires-2
     returns-2
     table-part-requires
