@@ -8,8 +8,8 @@ ghost use Prim.Native.Nat.{_≤_};
 ghost use lib.ListN.{length};
 ghost use Rattle.laws.specs.Lists.{down};
 ghost use Rattle.path.specs.Areas.{areaAt};
-ghost use Rattle.path.specs.Numbers.{mostTables};
-ghost use Rattle.model.specs.Answers.{formatDid};
+ghost use Rattle.path.specs.Numbers.{noSetup, mostTables};
+ghost use Rattle.model.specs.Answers.{saysFormat, refused, formatDid};
 ghost use Rattle.model.specs.Calls.{formatN};
 
 // Place i of the list becomes its length - 1 - i.
@@ -26,8 +26,8 @@ fn count_down(list: &mut [u32])
 }
 
 // A refused format: 1, and no pool's setup numbers.
-fn refused() -> Formatted
-    ensures { λ r. ⌜ (saysFormat (r .answer) ≡ refusedBy 1) × (r .setup ≡ noSetup) ⌝ }
+fn format_refused() -> Formatted
+    ensures { λ r. ⌜ (saysFormat (r .answer) ≡ refused 1) × (r .setup ≡ noSetup) ⌝ }
 {
     let none = path::no_setup();
     Formatted {
@@ -52,7 +52,7 @@ pub fn format(
         ≡ formatN granule levels (areaAt base tables base2 tables2) (now (words .entry) ++ now (second .entry)) (length (now (words .entry))) (now (list .entry)) ⌝ }
 {
     if !path::good_granule(granule) {
-        return refused();
+        return format_refused();
     }
     if !path::good_numbers(
         granule,
@@ -65,7 +65,7 @@ pub fn format(
         second.len(),
         list.len(),
     ) {
-        return refused();
+        return format_refused();
     }
     pool::clear(words);
     pool::clear(second);
