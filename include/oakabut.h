@@ -47,7 +47,7 @@ extern "C" {
 /* The refusals. */
 #define OAK_REFUSALS UINT64_C(16)
 #define OAK_REFUSED_SETUP UINT64_C(1)      /* a setup number or a length breaks the rules */
-#define OAK_REFUSED_SIZE UINT64_C(2)       /* the granule has no frames of the size */
+#define OAK_REFUSED_SIZE UINT64_C(2)       /* no frame has the size, or none of the pool's granule */
 #define OAK_REFUSED_ATTRIBUTES UINT64_C(3) /* the attributes are above 15 */
 #define OAK_REFUSED_END UINT64_C(4)        /* an address is past the space, or a frame past 2^48 */
 #define OAK_REFUSED_BASE UINT64_C(5)       /* an address or a frame's base is not aligned */
