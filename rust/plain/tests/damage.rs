@@ -17,7 +17,7 @@ struct Pool {
 impl Pool {
     fn new() -> Pool {
         let (mut words, mut list) = (vec![0; 512 * 8], vec![0; 8]);
-        let (mut setup, _) = format(3, P, 8, 0, 0, &mut words, &mut [], &mut list);
+        let (mut setup, _) = format(3, P, 8, 0, 0, 4096, &mut words, &mut [], &mut list);
         for (address, size) in [(0, PAGE), (PAGE, PAGE), (MIB2, MIB2), (GIB, PAGE)] {
             let (next, answer) = map(setup, &mut words, &mut [], &list, address, 0, size, 7);
             answer.unwrap();
