@@ -202,8 +202,8 @@ impl Walk {
 /// Sets up an empty pool: all words zero, and every table but the root free.
 #[inline]
 pub fn format(
-    levels: u64, base: u64, tables: u64, second_base: u64, second_tables: u64, granule: u64, words: &mut [u64], second: &mut [u64],
-    list: &mut [u32],
+    levels: u64, base: u64, tables: u64, second_base: u64, second_tables: u64, granule: u64, words: &mut [u64],
+    second: &mut [u64], list: &mut [u32],
 ) -> (Setup, Result<(), Refusal>) {
     let setup = Setup { levels, base, tables, free: 0, second_base, second_tables, granule };
     if !of_granule!(granule, is_good(&setup, words, second, list)) {

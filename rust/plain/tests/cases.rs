@@ -165,7 +165,10 @@ fn the_hosts_two_calls() {
     assert_eq!(frame_word(0x8020_0000, MIB2, 3), 0x0040_0000_8020_07FD);
     assert_eq!(frame_word(LIMIT - GIB, GIB, 4), LIMIT - GIB + 0x73D);
     // one fault each, and each fault beside all later ones
-    assert_eq!([frame_word(F, 0, 3), frame_word(F, 8192, 3), frame_word(MAX, 1 << 39, 16), frame_word(F, 1 << 36, 3)], [2, 2, 2, 2]);
+    assert_eq!(
+        [frame_word(F, 0, 3), frame_word(F, 8192, 3), frame_word(MAX, 1 << 39, 16), frame_word(F, 1 << 36, 3)],
+        [2, 2, 2, 2]
+    );
     assert_eq!([frame_word(F, 4096, 16), frame_word(MAX, 4096, 16), frame_word(F, GIB, MAX)], [3, 3, 3]);
     assert_eq!([frame_word(LIMIT, 4096, 15), frame_word(MAX, GIB, 0), frame_word(LIMIT - 1, 4096, 0)], [4, 4, 4]);
     assert_eq!([frame_word(1, 4096, 15), frame_word(0x1000, MIB2, 0), frame_word(MIB2, GIB, 0)], [5, 5, 5]);

@@ -132,7 +132,10 @@ fn frames_in_the_pool() {
     for (pool, at, size) in
         [(page(P), 9 * PAGE, PAGE), (page(P + 7 * PAGE), 9 * PAGE, PAGE), (block(P), 9 * MIB2, MIB2), (large(P), 9 * GIB, GIB)]
     {
-        assert_eq!((pool.audit(), pool.query(at + size - 1), pool.map(at, size), pool.unmap(at)), (Err(8), Ok(at), Err(6), Ok(0)));
+        assert_eq!(
+            (pool.audit(), pool.query(at + size - 1), pool.map(at, size), pool.unmap(at)),
+            (Err(8), Ok(at), Err(6), Ok(0))
+        );
     }
     // half open
     for pool in [page(P + 8 * PAGE), page(P - PAGE), block(P - MIB2), block(P + MIB2), large(P - GIB), large(P + GIB)] {

@@ -29,7 +29,9 @@ impl Pool {
         Pool { setup: Setup::default(), words, second, list: vec![7; tables + second_tables] }
     }
 
-    fn format(&mut self, levels: u64, base: u64, tables: u64, second_base: u64, second_tables: u64, granule: u64) -> Result<(), u64> {
+    fn format(
+        &mut self, levels: u64, base: u64, tables: u64, second_base: u64, second_tables: u64, granule: u64,
+    ) -> Result<(), u64> {
         let Pool { words, second, list, .. } = self;
         let (setup, answer) = format(levels, base, tables, second_base, second_tables, granule, words, second, list);
         self.setup = setup;
@@ -45,7 +47,10 @@ impl Pool {
     /// Two pages and a frame of 32 MiB, in a pool of four tables: table 3 is free.
     fn three_mappings() -> Pool {
         let mut pool = Pool::new(4, 0);
-        assert_eq!((pool.map(0, F, KIB16), pool.map(KIB16, F + KIB16, KIB16), pool.map(MIB32, F + MIB32, MIB32)), (Ok(2), Ok(0), Ok(0)));
+        assert_eq!(
+            (pool.map(0, F, KIB16), pool.map(KIB16, F + KIB16, KIB16), pool.map(MIB32, F + MIB32, MIB32)),
+            (Ok(2), Ok(0), Ok(0))
+        );
         pool
     }
 
@@ -135,8 +140,14 @@ fn holes() {
     let mut pool = Pool::new(4, 0);
     assert_eq!((pool.hole(0), pool.hole(SPACE - 1)), (Some((0, GIB64)), Some((SPACE - GIB64, GIB64))));
     pool.map(0, F, KIB16).unwrap();
-    assert_eq!((pool.hole(GIB64), pool.hole(MIB32 + 5), pool.hole(2 * KIB16 - 1)), (Some((GIB64, GIB64)), Some((MIB32, MIB32)), Some((KIB16, KIB16))));
-    assert_eq!(unmap(pool.setup, &mut pool.words, &mut [], &mut pool.list, MIB32).1.unwrap_err().hole(), Some(Hole { base: MIB32, size: MIB32 }));
+    assert_eq!(
+        (pool.hole(GIB64), pool.hole(MIB32 + 5), pool.hole(2 * KIB16 - 1)),
+        (Some((GIB64, GIB64)), Some((MIB32, MIB32)), Some((KIB16, KIB16)))
+    );
+    assert_eq!(
+        unmap(pool.setup, &mut pool.words, &mut [], &mut pool.list, MIB32).1.unwrap_err().hole(),
+        Some(Hole { base: MIB32, size: MIB32 })
+    );
     pool.map(MIB32, F, MIB32).unwrap();
     pool.unmap(0).unwrap();
     assert_eq!(pool.hole(0), Some((0, MIB32)));
@@ -187,7 +198,9 @@ fn never_the_pool() {
         assert_eq!(pool.map(0, frame, size), Err(11));
     }
     for (i, (frame, size)) in
-        [(P + 4 * KIB16, KIB16), (P - KIB16, KIB16), (Q + 2 * KIB16, KIB16), (P - MIB32, MIB32), (Q - MIB32, MIB32)].into_iter().enumerate()
+        [(P + 4 * KIB16, KIB16), (P - KIB16, KIB16), (Q + 2 * KIB16, KIB16), (P - MIB32, MIB32), (Q - MIB32, MIB32)]
+            .into_iter()
+            .enumerate()
     {
         pool.map(i as u64 * size, frame, size).unwrap();
     }
@@ -269,7 +282,10 @@ fn setup_numbers_and_lengths() {
     for (tables, answer) in [(512, Ok(())), (513, Err(1))] {
         assert_eq!(Pool::lent(tables as usize, 0).format(3, P, tables, 0, 0, KIB16), answer);
     }
-    assert_eq!((Pool::lent(1, 511).format(3, P, 1, Q, 511, KIB16), Pool::lent(2, 511).format(3, P, 2, Q, 511, KIB16)), (Ok(()), Err(1)));
+    assert_eq!(
+        (Pool::lent(1, 511).format(3, P, 1, Q, 511, KIB16), Pool::lent(2, 511).format(3, P, 2, Q, 511, KIB16)),
+        (Ok(()), Err(1))
+    );
 }
 
 /// A pool of one granule under the number of the other: 1 where a length does not fit, and else what its words say then.
