@@ -2,9 +2,10 @@
 import sys
 from paper import *
 BASE, FRAME, PAGE, MIB2, GIB = 0x40000000, 0x80000000, 4096, 2 ** 21, 2 ** 30
+KIB16, MIB32, GIB64, SPACE16 = 2 ** 14, 2 ** 25, 2 ** 36, 2 ** 47
 TOP = 2 ** 64 - 4096
 given, wanted = [], []
-M, cur = Lent([], [], []), Setup(0, 0, 0, 0)
+M, cur = Lent([], [], []), Setup(0, 0, 0, 0, 0, 0, 0)
 
 
 def line(head, answer=''):
@@ -12,8 +13,15 @@ def line(head, answer=''):
     wanted.append(head + answer)
 
 
-def second(s): return f', second base {s.base2:#x}, second tables {s.tables2}' if (s.base2, s.tables2) != (0, 0) else ''
-def nums(s): return f'levels {s.levels}, base {s.base:#x}, tables {s.tables}, free {s.free}' + second(s)
+def more(s, usual):
+    """The second region's numbers, where there are any, and the granule, where it is not the usual one; before a granule both stand."""
+    granule = f', granule {s.granule}' if s.granule != usual else ''
+    region = f', second base {s.base2:#x}, second tables {s.tables2}' if granule or (s.base2, s.tables2) != (0, 0) else ''
+    return region + granule
+
+
+def nums(s, usual=4096): return f'levels {s.levels}, base {s.base:#x}, tables {s.tables}, free {s.free}' + more(s, usual)
+def told(s): return nums(s, 4096 if s.levels else 0)
 def fr(f, z, a): return f'frame {f:#x}, size {z:#x}, attributes {a}'
 
 
@@ -25,7 +33,7 @@ def said(head, a, done, old):
     words = [f'; word {i}={w:#x}' for i, (w, o) in enumerate(zip(M.first + M.second, old.first + old.second)) if w != o]
     places = [f'; place {i}={t}' for i, (t, o) in enumerate(zip(M.list, old.list)) if t != o]
     answer = refused(*a[1:]) if a[0] == 'refused' else done(*a[1:])
-    line(head, f' -> {answer}; {nums(cur)}' + (''.join(words + places) or '; kept'))
+    line(head, f' -> {answer}; {told(cur)}' + (''.join(words + places) or '; kept'))
 
 
 def heading(t):
@@ -64,13 +72,13 @@ def setup(name, *numbers):
     line(f'{name}: setup {nums(cur)}')
 
 
-def fmt(name, levels, base, n, base2=0, n2=0):
+def fmt(name, levels, base, n, base2=0, n2=0, granule=4096):
     global cur
     old = M.copy()
-    a, cur = format_(levels, base, n, base2, n2, M)
+    a, cur = format_(levels, base, n, base2, n2, granule, M)
     if a[0] == 'refused': assert old.key() == M.key()
     else: old.first, old.second = [0] * len(M.first), [0] * len(M.second)
-    head = f'{name}: format levels {levels}, base {base:#x}, tables {n}' + second(Setup(levels, base, n, 0, base2, n2))
+    head = f'{name}: format levels {levels}, base {base:#x}, tables {n}' + more(Setup(levels, base, n, 0, base2, n2, granule), 4096)
     said(head, a, lambda: 'done, all words 0', old)
 
 
