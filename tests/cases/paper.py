@@ -4,8 +4,8 @@ LIMIT = 2 ** 48
 
 
 class Granule:
-    """What the papers say of a granule. Lists are by the height of an entry, 0 at the last level: the lowest address bit of its index, and the size of
-    frames as far as there are any. The space is by the levels, and there are no others."""
+    """What the papers say of a granule. Lists are by the height of an entry, 0 at the last level: the lowest address bit of its index, and the size
+    of frames as far as there are any. The space is by the levels, and there are no others."""
     def __init__(g, entries, lowest, sizes, space): g.entries, g.lowest, g.sizes, g.space = entries, lowest, sizes, space
     def index(g, address, h): return (address >> g.lowest[h]) % g.entries
     def region(g, h): return 2 ** g.lowest[h]
