@@ -65,7 +65,7 @@ static inline bool is_region(unsigned bits, uint64_t base, uint64_t tables) {
 }
 
 /* whether a second region that has a table is good beside a good first one */
-static bool good_second(unsigned bits, const oak_setup *s, size_t second_len) {
+ALWAYS_INLINE bool good_second(unsigned bits, const oak_setup *s, size_t second_len) {
     uint64_t page = page_of(bits);
     return s->second_tables <= MAX_TABLES - s->tables && is_region(bits, s->second_base, s->second_tables) &&
            (s->base + page * s->tables <= s->second_base || s->second_base + page * s->second_tables <= s->base) &&

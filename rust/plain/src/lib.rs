@@ -478,9 +478,10 @@ fn walk_in<const BITS: u64>(
 #[inline(always)]
 fn descend<const BITS: u64>(setup: &Setup, words: &[u64], second: &[u64], address: u64, target: u64) -> Walk {
     // the loop is unrolled where the levels are a constant
-    match setup.levels {
-        MIN_LEVELS => descend_from::<BITS>(MIN_LEVELS as usize, setup, words, second, address, target),
-        _ => descend_from::<BITS>(max_levels::<BITS>() as usize, setup, words, second, address, target),
+    if setup.levels == MIN_LEVELS || max_levels::<BITS>() == MIN_LEVELS {
+        descend_from::<BITS>(MIN_LEVELS as usize, setup, words, second, address, target)
+    } else {
+        descend_from::<BITS>(MAX_LEVELS as usize, setup, words, second, address, target)
     }
 }
 
@@ -593,6 +594,7 @@ fn is_good<const BITS: u64>(setup: &Setup, words: &[u64], second: &[u64], list: 
 }
 
 /// Whether a second region that has a table keeps the rules, beside a good first one.
+#[inline(always)]
 fn is_good_second<const BITS: u64>(setup: &Setup, second: &[u64]) -> bool {
     setup.second_tables <= MAX_TABLES - setup.tables
         && is_region::<BITS>(setup.second_base, setup.second_tables)
