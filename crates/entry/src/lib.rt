@@ -77,7 +77,8 @@ pub fn frame_word(base: u64, size: u64, attributes: u64) -> u64
 {
     let granule = granule_by(size);
     let height = path::height_of(granule, size);
-    if height > path::large_of(granule) {
+    let large = path::large_of(granule);
+    if height > large {
         return 2;
     }
     if attributes > 15 {
@@ -89,7 +90,8 @@ pub fn frame_word(base: u64, size: u64, attributes: u64) -> u64
     if base + size > path::PHYSICAL {
         return 4;
     }
-    if path::rest_at(granule, base, height) != 0 {
+    let rest = path::rest_at(granule, base, height);
+    if rest != 0 {
         return 5;
     }
     base + type_at(height) + attr_word(attributes)
@@ -255,8 +257,8 @@ pub fn word_meaning(w: u64, size: u64) -> u64
 {
     let granule = granule_by(size);
     let height = path::height_of(granule, size);
-    if height > path::large_of(granule) {
-        return 2;
+    if height <= path::large_of(granule) {
+        return meaning_of(frame_at(granule, w, height));
     }
-    meaning_of(frame_at(granule, w, height))
+    2
 }

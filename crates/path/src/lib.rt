@@ -264,10 +264,10 @@ fn space_of(granule: u64, levels: u64) -> u64
     ensures { λ r. ⌜ r ≡ spaceOf (granuleOf granule) levels ⌝ }
 {
     if granule == KIB16 {
-        if levels == 3 {
-            return TIB128;
+        if levels != 3 {
+            return 0;
         }
-        return 0;
+        return TIB128;
     }
     if levels == 3 {
         return GIB512;
@@ -385,22 +385,22 @@ pub fn size_at(granule: u64, height: usize) -> u64
 pub fn index_at(granule: u64, address: u64, height: usize) -> u16
     ensures { λ r. ⌜ r ≡ atLevel (granuleOf granule) height (indexAt (granuleOf granule) address height) ⌝ }
 {
-    let bits = bits_at(granule, height);
-    if bits == 0 {
+    let below = bits_at(granule, height);
+    if below == 0 {
         return 0;
     }
-    index_in(granule, address >> bits)
+    index_in(granule, address >> below)
 }
 
 // The first address of the region of a height that holds an address; 0 where no level has it.
 pub fn base_at(granule: u64, address: u64, height: usize) -> u64
     ensures { λ r. ⌜ r ≡ atLevel (granuleOf granule) height (baseAt (granuleOf granule) address height) ⌝ }
 {
-    let bits = bits_at(granule, height);
-    if bits == 0 {
+    let low = bits_at(granule, height);
+    if low == 0 {
         return 0;
     }
-    address >> bits << bits
+    address >> low << low
 }
 
 // How far an address is past the start of its region of a height; 0 where no level has it.

@@ -16,26 +16,26 @@ height-of-requires c κs = search needs
 large-of-requires : tie.Need-large-of-requires
 large-of-requires c κs = search needs
 
-returns : tie.Need-returns
-returns c =
-    let h = rw (c .before .before .before .granule-by .ensures) at (c .before .before .height-of .ensures) in
-    let l = rw (c .before .before .before .granule-by .ensures) at (c .before .large-of .ensures) in
-    sym (meaning-refused (sizedBy _) _ _ (omega arith))
-
 frame-at-requires : tie.Need-frame-at-requires
 frame-at-requires c κs = search needs
 
 meaning-of-requires : tie.Need-meaning-of-requires
 meaning-of-requires c κs = rw (c .frame-at .ensures) (meaning-lt _ _ _)
 
-returns-2 : tie.Need-returns-2
-returns-2 c =
+returns : tie.Need-returns
+returns c =
     let a = c .before .before .before .before .before .before .args in
     let h = rw (c .before .before .before .before .before .granule-by .ensures) at (c .before .before .before .before .height-of .ensures) in
     let l = rw (c .before .before .before .before .before .granule-by .ensures) at (c .before .before .before .large-of .ensures) in
     c .meaning-of .ensures
     ∙ ap meaningOf (c .before .frame-at .ensures)
     ∙ rw (c .before .before .before .before .before .granule-by .ensures, h) (sym (meaning-read (sizedBy (a .size)) (a .w) (a .size) (omega arith)))
+
+returns-2 : tie.Need-returns-2
+returns-2 c =
+    let h = rw (c .before .before .before .granule-by .ensures) at (c .before .before .height-of .ensures) in
+    let l = rw (c .before .before .before .granule-by .ensures) at (c .before .large-of .ensures) in
+    sym (meaning-refused (sizedBy _) _ _ (omega arith))
 
 pub word-meaning-spec : {M : Type 1} → statement M
 word-meaning-spec =
@@ -44,7 +44,7 @@ word-meaning-spec =
     granule-by-requires
     height-of-requires
     large-of-requires
-    returns
     frame-at-requires
     meaning-of-requires
+    returns
     returns-2)

@@ -1,5 +1,5 @@
 -- `path::base_at` meets its contract: 0 bits say that no level has the height, and any others are cleared.
-use mathlib.Core.Path.{sym}
+use mathlib.Core.Path.{sym, _∙_}
 use native.Mathlib.Nat.{mod-eq-of-lt}
 use native.Mathlib.Omega.{arith}
 use borrow.Author.Needs.{needs}
@@ -28,8 +28,8 @@ returns-2 c =
     let G = granuleOf (a .granule) in
     let S = granule-sane (a .granule) in
     let l = bits-level G S _ (c .before .bits-at .ensures) (c .if1 .left) in
-    rw (bits-size G S _ (c .before .bits-at .ensures) (c .if1 .left), level-some G l (baseAt G (a .address) (a .height)), ← base-is G (a .address) (a .height))
-    (mod-eq-of-lt (omega (arith, base-le G (a .address) (a .height))))
+    rw (bits-size G S _ (c .before .bits-at .ensures) (c .if1 .left), level-some G l (baseAt G (a .address) (a .height)))
+    (mod-eq-of-lt (omega (arith, base-is G (a .address) (a .height), base-le G (a .address) (a .height))) ∙ sym (base-is G (a .address) (a .height)))
 
 pub base-at-spec : {M : Type 1} → statement M
 base-at-spec = tie.close (tie.spec bits-at-requires returns shr-result shl-result returns-2)

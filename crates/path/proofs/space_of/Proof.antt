@@ -1,17 +1,17 @@
 -- `path::space_of` meets its contract, by the granule and the levels.
 use native.Mathlib.Omega.{arith}
-use mathlib.Core.Path.{sym}
+use mathlib.Core.Path.{_≡_, sym}
 use Rattle.path.specs.Geometry.{four, sixteen, sizeAt, goodLevels, spaceOf}
 use Rattle.path.specs.Laws.{granule-sixteen, granule-four, space-none}
 use Rattle.path.proofs.space_of.Statement.{statement}
 use Rattle.path.proofs.space_of.Tie as tie
 
 returns : tie.Need-returns
-unfolding spaceOf goodLevels sizeAt
-returns c = rw (granule-sixteen (c .before .if1 .taken), c .if2 .taken)
+returns c = rw (granule-sixteen (c .before .if1 .taken)) (sym (space-none sixteen _ (λ l m. omega arith)))
 
 returns-2 : tie.Need-returns-2
-returns-2 c = rw (granule-sixteen (c .before .if1 .taken)) (sym (space-none sixteen _ (λ l m. omega arith)))
+unfolding spaceOf goodLevels sizeAt
+returns-2 c = let three : c .before .before .args .levels ≡ 3 = omega arith in rw (granule-sixteen (c .before .if1 .taken), three)
 
 returns-3 : tie.Need-returns-3
 unfolding spaceOf goodLevels sizeAt
