@@ -3,7 +3,7 @@ use Prim.Native.Nat.{ℕ, zero, suc, _+_, _-_, _*_, _%_, _^_, _≤_, _<_, zero-l
 use mathlib.Core.Path.{_≡_, refl, sym, ap, _∙_}
 use mathlib.Core.Logic.{_≢_, _⊎_, inl, inr, ⊎-elim}
 use mathlib.Core.Bool.{Bool, true, false, cond, _&&_, _||_, false≢true, or-false}
-use native.Mathlib.Nat.{mul-comm, mul-suc, mul-le-mul-left, mul-lt-mul-of-pos-left, mul-mod-right, add-mul-mod-self-left, le-dest}
+use native.Mathlib.Nat.{mul-comm, mul-suc, mul-le-mul, mul-le-mul-left, mul-lt-mul-of-pos-left, mul-mod-right, add-mul-mod-self-left, le-dest}
 use native.Mathlib.Decide.{decLt, ℕ-discrete}
 use native.Mathlib.Omega.{arith}
 use lib.Dec.{ltb, leb, eqb}
@@ -69,6 +69,10 @@ module _ (G : Granule) where
 
   pub entries-most : Sane G → entries G ≤ 2 ^ 22
   entries-most S = let l : 1 ≤ G .most = omega arith in pow-mono {j = 22} (omega (arith, mul-le-mul-left (G .index) l))
+
+  -- the words of tables that 32 bits number can be counted; K is what code has for the entries of a table
+  pub words-fit : Sane G → {K n : ℕ} → K ≡ entries G → n < 2 ^ 32 → K * n ≤ 2 ^ 54
+  words-fit S e l = mul-le-mul {n₂ = 2 ^ 22} {m₂ = 2 ^ 32} (omega (arith, entries-most S)) (omega arith)
 
   pub size-pos : (h : ℕ) → 0 < sizeAt G h
   unfolding sizeAt

@@ -1,10 +1,10 @@
 -- What zeroing a part does, and tests for zeros, step by step and word by word.
-use Prim.Native.Nat.{ℕ, zero, suc, _+_, _-_, _*_, _%_, _^_, _≤_, _<_}
+use Prim.Native.Nat.{ℕ, zero, suc, _+_, _-_, _*_, _%_, _≤_, _<_}
 use mathlib.Core.Path.{_≡_, refl, sym, ap, _∙_}
 use mathlib.Core.Bool.{Bool, true, false, not}
 use mathlib.Core.List.{List, [], _++_}
 use native.Mathlib.Decide.{ℕ-discrete, decLt}
-use native.Mathlib.Nat.{mul-le-mul, mul-le-mul-left}
+use native.Mathlib.Nat.{mul-le-mul-left}
 use native.Mathlib.Omega.{arith}
 use lib.Bits.{bitOr, or-add-and, and-le-l, and-le-r}
 use lib.Dec.{eqb}
@@ -14,7 +14,7 @@ use borrow.Author.Tests.{eq-eqb, eqb-true, eqb-false, not-true, not-false}
 use Rattle.laws.specs.Lists.{part, zeroed, allZero}
 use Rattle.laws.specs.ListLaws.{getD-part, part-first, part-later, zeroed-first, zeroed-later, length-part, length-part-le, zeroed-is, allZero-of, allZero-not, allZero-part-at, allZero-part-of, allZero-part-not, allZero-part-some}
 use Rattle.path.specs.Geometry.{granuleOf, entries}
-use Rattle.path.specs.Laws.{granule-either, granule-sane, entries-most, table-ends}
+use Rattle.path.specs.Laws.{granule-either, table-ends}
 
 span : (at k : ℕ) → at + k - at ≡ k
 span at k = omega arith
@@ -189,10 +189,6 @@ entry-stays K ws t i j {place} p l n d =
     (λ e. d (ap (λ (k : ℕ). getD ws k 0) z ∙ sym (getD-part ws (K * t + 0) K j l) ∙ sym (kept-in (part ws (K * t + 0) K) i n) ∙ e))
 
 -- ---- the granule
-
--- the place of a table's first word can be counted
-pub start-fits : (number : ℕ) {K t : ℕ} → K ≡ entries (granuleOf number) → t < 2 ^ 32 → K * t ≤ 2 ^ 54
-start-fits number e l = mul-le-mul {n₂ = 2 ^ 22} {m₂ = 2 ^ 32} (omega (arith, entries-most (granuleOf number) (granule-sane number))) (omega arith)
 
 -- a table's entries are even in number, so that the one beside another is not that one
 pub beside-even : (number i : ℕ) → i % 2 ≡ 0 → (i + 1) % entries (granuleOf number) ≡ i → ⊥

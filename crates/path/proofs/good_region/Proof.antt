@@ -5,18 +5,15 @@ use native.Mathlib.Nat.{mul-le-mul}
 use native.Mathlib.Omega.{arith}
 use borrow.Author.Needs.{needs}
 use borrow.Author.Tests.{eqb-true, eq-eqb}
-use Rattle.path.specs.Geometry.{granuleOf, pageSize, entries}
+use Rattle.path.specs.Geometry.{granuleOf, pageSize}
 use Rattle.path.specs.Numbers.{mostTables}
-use Rattle.path.specs.Laws.{granule-sane, page-most, entries-most, level-page, good-region, region-good, region-bad, same-truth}
+use Rattle.path.specs.Laws.{granule-sane, page-most, words-fit, level-page, good-region, region-good, region-bad, same-truth}
 use Rattle.path.proofs.good_region.Statement.{statement}
 use Rattle.path.proofs.good_region.Tie as tie
 
--- a pool's tables are so few that their bytes and their words can be counted
+-- a pool's tables are so few that their bytes can be counted
 few-bytes : (number n : ℕ) {p : ℕ} → p ≡ pageSize (granuleOf number) → n ≤ mostTables → p * n ≤ 2 ^ 34
 few-bytes number n e l = mul-le-mul {n₂ = 2 ^ 25} {m₂ = 512} (omega (arith, page-most (granuleOf number) (granule-sane number))) l
-
-few-words : (number n : ℕ) {p : ℕ} → p ≡ entries (granuleOf number) → n ≤ mostTables → p * n ≤ 2 ^ 31
-few-words number n e l = mul-le-mul {n₂ = 2 ^ 22} {m₂ = 512} (omega (arith, entries-most (granuleOf number) (granule-sane number))) l
 
 returns : tie.Need-returns
 returns c = sym (region-bad (λ R. omega (arith, R .few)))
@@ -43,7 +40,9 @@ entries-of-requires : tie.Need-entries-of-requires
 entries-of-requires c κs = search needs
 
 mul-result : tie.Need-mul-result
-mul-result c = omega (arith, few-words _ (c .before .before .before .before .before .before .args .tables) (c .entries-of .ensures) (omega arith))
+mul-result c =
+    let a = c .before .before .before .before .before .before .args in
+    omega (arith, words-fit (granuleOf (a .granule)) (granule-sane (a .granule)) {n = a .tables} (c .entries-of .ensures) (omega arith))
 
 returns-4 : tie.Need-returns-4
 returns-4 c =

@@ -1,7 +1,8 @@
 -- `pool::entry_place` meets its contract: no table's place is too great to be counted.
 use native.Mathlib.Omega.{arith}
 use borrow.Author.Needs.{needs}
-use Rattle.pool.proofs.Laws.{start-fits}
+use Rattle.path.specs.Geometry.{granuleOf}
+use Rattle.path.specs.Laws.{granule-sane, words-fit}
 use Rattle.pool.proofs.entry_place.Statement.{statement}
 use Rattle.pool.proofs.entry_place.Tie as tie
 
@@ -11,12 +12,12 @@ entries-of-requires c κs = search needs
 mul-result : tie.Need-mul-result
 mul-result c =
     let a = c .before .args in
-    omega (arith, start-fits (a .granule) {t = a .t} (c .entries-of .ensures) (omega arith))
+    omega (arith, words-fit (granuleOf (a .granule)) (granule-sane (a .granule)) {n = a .t} (c .entries-of .ensures) (omega arith))
 
 add-result : tie.Need-add-result
 add-result c =
     let a = c .before .args in
-    omega (arith, start-fits (a .granule) {t = a .t} (c .entries-of .ensures) (omega arith))
+    omega (arith, words-fit (granuleOf (a .granule)) (granule-sane (a .granule)) {n = a .t} (c .entries-of .ensures) (omega arith))
 
 returns : tie.Need-returns
 returns c = rw (c .entries-of .ensures)
