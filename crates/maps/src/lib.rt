@@ -196,7 +196,7 @@ fn map_walk(
     height: usize,
     word: u64,
 ) -> Mapped
-    requires { ⌜ (goodSetup (granuleOf (s .granule)) s (length (now words)) (length (now words ++ now second)) (length (now list)) ≡ true) × (height ≤ 2) ⌝ }
+    requires { ⌜ (goodSetup (granuleOf (s .granule)) s (length (now words)) (length (now words ++ now second)) (length (now list)) ≡ true) × (height ≤ granuleOf (s .granule) .large) ⌝ }
     ensures { λ r. ⌜ ((b k : ℕ) → word ≡ frameWord b height k
         → mapDid r (now (words .exit)) (now (second .exit)) (now (list .entry))
         ≡ mapFrom (granuleOf (s .granule)) (pool s (now (words .entry) ++ now (second .entry)) (length (now (words .entry))) (now (list .entry))) address b height k) ⌝ }
