@@ -27,7 +27,8 @@ fn map_tests(s: Setup, address: u64, frame: u64, size: u64, height: usize, attri
     requires { ⌜ height ≡ heightOf (granuleOf (s .granule)) size ⌝ }
     ensures { λ r. ⌜ r ≡ mapTests (granuleOf (s .granule)) (s .levels) (areaOf s) address frame size attributes ⌝ }
 {
-    if height > path::large_of(s.granule) {
+    let large = path::large_of(s.granule);
+    if height > large {
         return 2;
     }
     if attributes > 15 {
