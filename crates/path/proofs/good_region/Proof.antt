@@ -7,7 +7,8 @@ use borrow.Author.Needs.{needs}
 use borrow.Author.Tests.{eqb-true, eq-eqb}
 use Rattle.path.specs.Geometry.{granuleOf, pageSize}
 use Rattle.path.specs.Numbers.{mostTables}
-use Rattle.path.specs.Laws.{granule-sane, page-most, words-fit, level-page, good-region, region-good, region-bad, same-truth}
+use Rattle.path.specs.Laws.{granule-sane, page-most, words-fit, level-page, same-truth}
+use Rattle.path.specs.OneRegion.{good-region, region-good, region-bad}
 use Rattle.path.proofs.good_region.Statement.{statement}
 use Rattle.path.proofs.good_region.Tie as tie
 
