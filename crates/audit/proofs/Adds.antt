@@ -4,6 +4,7 @@ use mathlib.Core.Path.{_≡_, refl, sym, ap, _∙_}
 use mathlib.Core.Logic.{inr, ⊎-elim}
 use mathlib.Core.Bool.{Bool, true, false, not, _&&_}
 use mathlib.Core.List.{List, [], _∷_, _++_}
+use native.Mathlib.Nat.{zero-mod}
 use native.Mathlib.Omega.{arith}
 use borrow.Author.Tests.{not-true, not-false}
 use lib.Dec.{ltb, eqb}
@@ -28,7 +29,7 @@ none-in-none G (x ∷ L) =
     (none-in-none G L)
 
 pub none-good : (G : Granule) → GoodArea G (oneRegion 0 0)
-none-good G = record { aligned = refl; fits = omega arith; aligned₂ = refl; fits₂ = omega arith; apart = inr (omega arith); no-second = λ e. refl }
+none-good G = record { aligned = zero-mod (pageSize G); fits = omega arith; aligned₂ = zero-mod (pageSize G); fits₂ = omega arith; apart = inr (omega arith); no-second = λ e. refl }
 
 -- a list of so many places
 abbrev zeros : ℕ → List ℕ
@@ -68,7 +69,7 @@ module _ (s : Setup) (ws us : List ℕ) (q m places : ℕ) {r : Bool}
     pub new-good : GoodArea (granuleOf (s .granule)) (oneRegion q m)
     new-good =
         let g = may .numbers .placed in
-        record { aligned = g .aligned₂; fits = g .fits₂; aligned₂ = refl; fits₂ = omega arith; apart = inr (omega arith); no-second = λ e. refl }
+        record { aligned = g .aligned₂; fits = g .fits₂; aligned₂ = zero-mod (pageSize (granuleOf (s .granule))); fits₂ = omega arith; apart = inr (omega arith); no-second = λ e. refl }
 
     pub new-few : m ≤ mostTables
     new-few = omega (arith, may .numbers .few)

@@ -8,9 +8,9 @@ use native.Mathlib.Omega.{arith}
 use mir.Val.{boolByte}
 use lib.Dec.{eqb, ltb}
 use borrow.Author.Tests.{eqb-true, eqb-false, eq-eqb, ne-eqb, ltb-true, lt-ltb}
-use Rattle.path.specs.Geometry.{Granule, Sane, pageSize, entries, sizeAt}
+use Rattle.path.specs.Geometry.{Granule, Sane, pageSize, entries, sizeAt, atLevel}
 use Rattle.path.specs.Areas.{Area, GoodArea, meetsRegion, meetsArea}
-use Rattle.path.specs.Laws.{granule-sane, size-zero, page-pos, same-truth, meets-byte, byte-meets}
+use Rattle.path.specs.Laws.{granule-sane, size-zero, page-pos, level-page, same-truth, meets-byte, byte-meets}
 use Rattle.path.specs.RegionLaws.{multiple-gap}
 use Rattle.entry.specs.Words.{baseIn, attrsIn, frameWord, entryAt}
 use Rattle.entry.specs.Laws.{frame-word-ge, frame-at-own, frame-at-not, entry-zero, entry-frame as frame-reads}
@@ -64,8 +64,15 @@ module _ (w : ℕ) (look : Look) (g : GoodArea (granuleIn look) (keptIn look)) (
   second-fit = record { paged = a; low = omega arith; aligned = g .aligned₂; fits = g .fits₂ }
 
 -- a word whose base is no multiple of a page is none
-pub page-askew : (w : ℕ) (look : Look) → (baseIn w % pageSize (granuleIn look) ≡ 0 → ⊥) → false ≡ isPage (granuleIn look) (keptIn look) w
-page-askew w look d = sym (rw (ne-eqb (baseIn w % pageSize (granuleIn look)) 0 d, and-false (own w)))
+module _ (w : ℕ) (look : Look) {b r : ℕ} (e : b ≡ baseIn w) (p : r ≡ atLevel (granuleIn look) 0 (b % sizeAt (granuleIn look) 0)) where
+  rest-is : r ≡ baseIn w % pageSize (granuleIn look)
+  rest-is = p ∙ level-page (granuleIn look) (granule-sane (look .granule)) b ∙ ap (λ (x : ℕ). x % pageSize (granuleIn look)) e
+
+  pub page-askew : (r ≡ 0 → ⊥) → false ≡ isPage (granuleIn look) (keptIn look) w
+  page-askew d = sym (rw (ne-eqb (baseIn w % pageSize (granuleIn look)) 0 (λ a. d (rest-is ∙ a)), and-false (own w)))
+
+  pub page-even : r ≡ 0 → baseIn w % pageSize (granuleIn look) ≡ 0
+  page-even z = sym rest-is ∙ z
 
 -- a page in one region or the other counts for none, and any other word for what it is
 module _ (w : ℕ) (look : Look) (a : baseIn w % pageSize (granuleIn look) ≡ 0) {b : ℕ} (e : b ≡ baseIn w)

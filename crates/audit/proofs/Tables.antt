@@ -361,7 +361,7 @@ module _ (ws M : List ℕ) (look : Look) (h w : ℕ) (r : Tally) (N : List ℕ) 
   entry-damaged q a = says Damaged q a
 
   pub entry-child : (c : ℕ) → entryAt (granuleIn look) (areaIn look) h w ≡ Table c → Answers (atTable (granuleIn look) ws look (h - 1) c) M r N → Answers (atWord (granuleIn look) ws look h w) M r N
-  entry-child c q g = says (Table c) q (subst (λ (s : Seen). Answers s M r N) (sym (below-table (granuleIn look) ws look h c (table-only granule-sane (look .granule) (areaIn look) h w q .0))) g)
+  entry-child c q g = says (Table c) q (subst (λ (s : Seen). Answers s M r N) (sym (below-table (granuleIn look) ws look h c (table-only (granule-sane (look .granule)) (areaIn look) h w q .0))) g)
 
 -- the size of a frame at a height, as the code has it
 pub met-by-size : (G : Granule) (area : Area) (b : ℕ) {s h : ℕ} {m x : Bool} → h < G .most → s ≡ atLevel G h (sizeAt G h) → m ≡ meetsArea G area b s → m ≡ x
@@ -371,5 +371,5 @@ met-by-size G area b {s} {h} l e q t = ap (meetsArea G area b) (sym (level-some 
 pub entry-fit : {M : List ℕ} {look : Look} {h : ℕ} → EntryFit M look h → (w c : ℕ) → entryAt (granuleIn look) (areaIn look) h w ≡ Table c
     → (0 < h) × TableFit M look c (h - 1)
 entry-fit {look = look} f w c q =
-    let (a, b, d, _) = table-only granule-sane (look .granule) (areaIn look) _ w q in
+    let (a, b, d, _) = table-only (granule-sane (look .granule)) (areaIn look) _ w q in
     (a, record { placed = f .placed; marked = f .marked; inside = d; low = omega (arith, f .low) })

@@ -22,7 +22,7 @@ use Rattle.model.specs.Audit.{Found, tableWords, ofTable, ofPool, freeOf, freeS
 use Rattle.model.specs.Adds.{soundTree}
 use Rattle.model.specs.Sound.{Each, reachedOf, mappingsOf}
 use Rattle.model.specs.AuditLaws.{each-append, reached-low, free-back}
-use Rattle.audit.specs.Checks.{granuleIn, areaIn, keptIn, Seen, seen, Marked, clash, marks, mark, walked, Answers, atTable, treeOf, freePass, RunsFit, TableFit, Rooted}
+use Rattle.audit.specs.Checks.{granuleIn, areaIn, keptIn, strictly, Seen, seen, Marked, clash, marks, mark, walked, Answers, atTable, treeOf, freePass, RunsFit, TableFit, Rooted}
 use Rattle.audit.specs.declared.Look.{Look}
 use Rattle.audit.specs.declared.Tally.the-variants.{Counts, Damaged}
 use Rattle.audit.proofs.Parts.{mark-append, ended, clashed}
@@ -115,21 +115,6 @@ free-parts G ws n M (t ∷ ts) = go (ltb t n) (eqb (getD M t 0) 0) (allZero (tab
     go false e z h = refl
 
 -- ---- the root
-
--- the audit goes by the pool's own regions, and an empty table is damage
-abbrev pub strictly : Setup → Look
-strictly s = record {
-  granule = s .granule;
-  base = s .base;
-  tables = s .tables;
-  base2 = s .base2;
-  tables2 = s .tables2;
-  kept = s .base;
-  many = s .tables;
-  kept2 = s .base2;
-  many2 = s .tables2;
-  bare = false;
-}
 
 -- the adding call keeps one region free, and looks at no empty table
 abbrev pub loosely : Setup → ℕ → ℕ → Look

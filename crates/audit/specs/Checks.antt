@@ -28,6 +28,21 @@ areaIn look = areaAt (look .base) (look .tables) (look .base2) (look .tables2)
 abbrev pub keptIn : Look → Area
 keptIn look = areaAt (look .kept) (look .many) (look .kept2) (look .many2)
 
+-- the audit goes by the pool's own regions, and an empty table is damage
+abbrev pub strictly : Setup → Look
+strictly s = record {
+  granule = s .granule;
+  base = s .base;
+  tables = s .tables;
+  base2 = s .base2;
+  tables2 = s .tables2;
+  kept = s .base;
+  many = s .tables;
+  kept2 = s .base2;
+  many2 = s .tables2;
+  bare = false;
+}
+
 -- of what is found in a part of the tree: whether no frame shares a byte with the kept regions and it is sound and has no empty table, or these are as good
 -- as others; the tables reached; and how many mappings
 pub record Seen : Type 0 where

@@ -8,12 +8,12 @@ ghost use mathlib.Core.List.{List, _++_};
 ghost use Prim.Native.Nat.{ℕ, _≤_, _<_, _+_, _-_, _*_};
 ghost use lib.ListN.{length, take, set, getD};
 ghost use Rattle.path.specs.Geometry.{granuleOf, pageSize, entries};
-ghost use Rattle.path.specs.Areas.{oneRegion, GoodArea, meetsRegion};
+ghost use Rattle.path.specs.Areas.{areaOf, total, oneRegion, GoodArea, meetsRegion};
 ghost use Rattle.path.specs.Numbers.{mostTables};
 ghost use Rattle.model.specs.Answers.{saysAudit, pool};
 ghost use Rattle.model.specs.Audit.{tableWords, noneInside, auditW};
 ghost use Rattle.model.specs.Adds.{soundTree, addTests};
-ghost use Rattle.audit.specs.Checks.{Answers, granuleIn, Cut, Rooted, RunsFit, PageFit, TableFit, EntryFit, keptIn, isPage, isFresh, atTable, atWord, treeOf, freePass};
+ghost use Rattle.audit.specs.Checks.{Answers, granuleIn, strictly, Cut, Rooted, RunsFit, PageFit, TableFit, EntryFit, keptIn, isPage, isFresh, atTable, atWord, treeOf, freePass};
 
 // A mark for each table that a pool may have.
 const MARKS: usize = path::MOST_TABLES as usize;
@@ -306,18 +306,14 @@ pub fn add_tests<'a>(
     0
 }
 
-// The counts of reached tables and of mappings of a sound pool; refusal 1 for bad setup numbers or lengths, 8 for a broken rule.
-pub fn audit<'a>(s: Setup, words: &'a [u64], second: &'a [u64], list: &[u32]) -> AuditAnswer
-    ensures { λ r. ⌜ saysAudit r ≡ auditW (granuleOf (s .granule)) (pool s (now (words .entry) ++ now (second .entry)) (length (now (words .entry))) (now (list .entry))) ⌝ }
+// What the audit goes by: the pool's own regions, with which no frame may share a byte, and an empty table is damage.
+fn strict(s: Setup) -> Look
+    requires { ⌜ total (areaOf s) ≤ mostTables ⌝ }
+    ensures { λ r. ⌜ r ≡ strictly s ⌝ }
 {
-    if !path::good_setup(s, words.len(), second.len(), list.len()) {
-        return AuditAnswer::Refused(1);
-    }
     let n = s.tables as u16;
     let m = s.tables2 as u16;
-    let all = s.tables + s.tables2;
-    let mut marks = [0u8; MARKS];
-    let look = Look {
+    Look {
         granule: s.granule,
         base: s.base,
         tables: n,
@@ -328,7 +324,19 @@ pub fn audit<'a>(s: Setup, words: &'a [u64], second: &'a [u64], list: &[u32]) ->
         kept2: s.base2,
         many2: m,
         bare: false,
-    };
+    }
+}
+
+// The counts of reached tables and of mappings of a sound pool; refusal 1 for bad setup numbers or lengths, 8 for a broken rule.
+pub fn audit<'a>(s: Setup, words: &'a [u64], second: &'a [u64], list: &[u32]) -> AuditAnswer
+    ensures { λ r. ⌜ saysAudit r ≡ auditW (granuleOf (s .granule)) (pool s (now (words .entry) ++ now (second .entry)) (length (now (words .entry))) (now (list .entry))) ⌝ }
+{
+    if !path::good_setup(s, words.len(), second.len(), list.len()) {
+        return AuditAnswer::Refused(1);
+    }
+    let all = s.tables + s.tables2;
+    let mut marks = [0u8; MARKS];
+    let look = strict(s);
     let r = table_check(words, second, &mut marks, look, 0, (s.levels - 1) as usize);
     match r {
         Tally::Counts(tables, mappings) => {
