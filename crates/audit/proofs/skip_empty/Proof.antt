@@ -8,10 +8,10 @@ use Rattle.audit.proofs.skip_empty.Statement.{statement}
 use Rattle.audit.proofs.skip_empty.Tie as tie
 
 abbrev Inv-loop : tie.InvT-loop
-Inv-loop part left rest₀ rest = Passes part left rest
+Inv-loop part left n rest₀ rest = Passes part left rest
 
 abbrev μ-loop : tie.MeasureT-loop
-μ-loop part left rest₀ rest = rest
+μ-loop part left n rest₀ rest = rest
 
 loop-holds : tie.Need-loop-holds Inv-loop μ-loop
 loop-holds c = (search needs, λ k a b. absurd (omega arith))
