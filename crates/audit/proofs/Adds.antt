@@ -10,12 +10,12 @@ use borrow.Author.Tests.{not-true, not-false}
 use lib.Dec.{ltb, eqb}
 use lib.ListN.{length, length-append, length-replicate, replicate}
 use Rattle.path.specs.Geometry.{Granule, granuleOf, pageSize, entries}
-use Rattle.path.specs.Areas.{areaOf, oneRegion, total, GoodArea, meetsArea}
+use Rattle.path.specs.Areas.{areaOf, oneRegion, total, GoodArea}
 use Rattle.path.specs.Numbers.{mostTables, goodAdding, GoodAdding}
 use Rattle.path.specs.Laws.{apart-meets}
 use Rattle.path.specs.declared.Setup.{Setup}
-use Rattle.model.specs.Answers.{Mapping, Pool, pool}
-use Rattle.model.specs.Audit.{noneInside, ofPool}
+use Rattle.model.specs.Answers.{Mapping, pool}
+use Rattle.model.specs.Audit.{noneInside}
 use Rattle.model.specs.Adds.{goodAdd, soundTree, addTests}
 use Rattle.model.specs.AddLaws.{may-add}
 use Rattle.audit.specs.Checks.{Rooted, treeOf}
@@ -38,7 +38,7 @@ zeros n = replicate n 0
 -- the first test, for a free list of so many places
 module _ (s : Setup) (ws us : List ℕ) (q m places : ℕ) {r : Bool}
     (e : r ≡ (eqb (s .granule) (pageSize (granuleOf (s .granule)))
-        && (goodAdding (granuleOf (s .granule)) (s .levels) (areaOf s) q m (length ws) (length ws + length us) places && ltb (s .free) (total (areaOf s))))) where
+    && (goodAdding (granuleOf (s .granule)) (s .levels) (areaOf s) q m (length ws) (length ws + length us) places && ltb (s .free) (total (areaOf s))))) where
   tests : (list : List ℕ) → length list ≡ places → r ≡ goodAdd (granuleOf (s .granule)) (pool s (ws ++ us) (length ws) list) q m
   tests list l = rw (length-append ws us, l) e
 

@@ -8,7 +8,7 @@ use native.Mathlib.Omega.{arith}
 use mir.Val.{boolByte}
 use lib.Dec.{eqb, ltb}
 use borrow.Author.Tests.{eqb-true, eqb-false, eq-eqb, ne-eqb, ltb-true, lt-ltb}
-use Rattle.path.specs.Geometry.{Granule, Sane, pageSize, entries, sizeAt, atLevel}
+use Rattle.path.specs.Geometry.{Granule, pageSize, entries, sizeAt, atLevel}
 use Rattle.path.specs.Areas.{Area, GoodArea, meetsRegion, meetsArea}
 use Rattle.path.specs.Laws.{granule-sane, size-zero, page-pos, level-page, same-truth, meets-byte, byte-meets}
 use Rattle.path.specs.RegionLaws.{multiple-gap}

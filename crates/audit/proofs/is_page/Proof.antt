@@ -1,5 +1,4 @@
 -- `is_page` meets its contract: the base, the tables, and what the word is beside them.
-use mathlib.Core.Path.{ap, subst}
 use borrow.Author.Needs.{needs}
 use Rattle.audit.proofs.Pages.{page-askew, page-even, first-fit, second-fit, page-first, page-second, page-beside}
 use Rattle.audit.proofs.is_page.Statement.{statement}

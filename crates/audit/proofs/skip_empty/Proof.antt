@@ -1,6 +1,4 @@
 -- `skip_empty`: the entries passed are empty.
-use Prim.Native.Nat.{ℕ, _-_, _≤_, _<_}
-use mathlib.Core.Path.{_≡_, ap, _∙_}
 use native.Mathlib.Omega.{arith}
 use borrow.Author.Needs.{needs}
 use Rattle.audit.proofs.Tables.{Passes, passes-more}
