@@ -38,6 +38,13 @@ goodArea G area =
     && ((leb (area .base + pageSize G * area .tables) (area .base₂) || leb (area .base₂ + pageSize G * area .tables₂) (area .base))
     && (ltb 0 (area .tables₂) || eqb (area .base₂) 0)))))
 
+-- one region by itself, as code tests one after the other: it has no more tables than a pool may have, its base is a multiple of their size and its end is
+-- at most 2^48, and its run of words is as long as they are
+unfoldable pub goodRegion : Granule → ℕ → ℕ → ℕ → Bool
+goodRegion G base n words =
+    leb n mostTables
+    && (eqb (base % pageSize G) 0 && (leb (base + pageSize G * n) physical && eqb words (entries G * n)))
+
 -- Levels, bases and table counts are good; of the lent words, so many in all, the first `cut`, which are the first run, are as many as the tables of
 -- the first region have, and all of them as many as all tables have; and there are as many free-list places as tables.
 unfoldable pub goodNumbers : Granule → ℕ → Area → ℕ → ℕ → ℕ → Bool

@@ -1,21 +1,14 @@
 -- What the setup numbers ask of each region by itself. The code tests it of one region after the other.
 use Prim.Native.Nat.{ℕ, _+_, _*_, _%_, _≤_}
 use mathlib.Core.Path.{_≡_}
-use mathlib.Core.Bool.{Bool, true, false, _&&_}
-use lib.Dec.{leb, eqb}
+use mathlib.Core.Bool.{true, false}
 use borrow.Author.Tests.{leb-true, eqb-true, le-leb, eq-eqb}
+use lib.Dec.{leb, eqb}
 use Rattle.path.specs.Geometry.{Granule, pageSize, entries, physical}
-use Rattle.path.specs.Numbers.{mostTables}
+use Rattle.path.specs.Numbers.{mostTables, goodRegion}
 use Rattle.path.specs.Laws.{both, untrue}
 
--- it has no more tables than a pool may have, its base is a multiple of their size and its end is at most 2^48, and its run of words
--- is as long as they are
-unfoldable pub goodRegion : Granule → ℕ → ℕ → ℕ → Bool
-goodRegion G base n words =
-    leb n mostTables
-    && (eqb (base % pageSize G) 0 && (leb (base + pageSize G * n) physical && eqb words (entries G * n)))
-
--- the same rules as facts
+-- the rules of one region, as facts
 pub record GoodRegion (G : Granule) (base n words : ℕ) : Type 0 where
   pub few : n ≤ mostTables
   pub aligned : base % pageSize G ≡ 0

@@ -6,8 +6,7 @@ ghost use mathlib.Core.Bool.{_&&_};
 ghost use lib.Dec.{ltb, leb, eqb};
 ghost use Rattle.path.specs.Geometry.{goodGranule, granuleOf, pageSize, entries, sizeAt, atLevel, goodLevels, spaceOf, heightOf};
 ghost use Rattle.path.specs.Areas.{areaAt, areaOf, total, meetsRegion, meetsArea};
-ghost use Rattle.path.specs.Numbers.{noSetup, withFree, goodNumbers, goodSetup, goodAdding};
-ghost use Rattle.path.specs.OneRegion.{goodRegion};
+ghost use Rattle.path.specs.Numbers.{noSetup, withFree, goodRegion, goodNumbers, goodSetup, goodAdding};
 ghost use Rattle.path.specs.Paths.{indexAt, baseAt, pathOf, addressOf};
 
 // The bytes of a page, and of a table, of each granule; and the granule's number.
