@@ -617,7 +617,9 @@ fn lend_what_is_asked(call: Call, world: &World) -> Step {
     let mut setup = world.setup;
     match call {
         Call::Format { tables, second_tables, granule, .. } => {
-            setup.granule = granule;
+            // where nothing but the granule is another one, the words stay those of the pool
+            setup.granule = if tables == world.setup.tables { world.setup.granule } else { granule };
+            let granule = setup.granule;
             setup.tables = room(granule, tables, &world.memory.words);
             setup.second_tables = room(granule, second_tables, &world.memory.second);
         }
