@@ -394,10 +394,17 @@ fn planned() {
     let plan = [Store { place: 513, value: 6 }, Give { place: 1, table: 9 }, Wipe { table: 2 }, Nothing, Store { place: 7, value: 1 << 40 }, Give { place: 5, table: 4 }, Wipe { table: 9 }];
     for (first, more) in [(1536, 0), (1024, 512), (512, 1024)] {
         let (mut w, mut s, mut l) = (vec![3; first], vec![4; more], vec![8; 3]);
-        let r = tried(|| plans::write_words(&mut w, &mut s, plan));
+        let r = tried(|| plans::write_words(PAGE, &mut w, &mut s, plan));
         told_two(&format!("plans::write_words {first} {more}"), r, &w, &s, &l);
-        let r = tried(|| plans::write_all(&mut w, &mut s, &mut l, plan));
+        let r = tried(|| plans::write_all(PAGE, &mut w, &mut s, &mut l, plan));
         told_two(&format!("plans::write_all {first} {more}"), r, &w, &s, &l);
+    }
+    for (first, more) in [(6144, 0), (4096, 2048), (2048, 4096)] {
+        let (mut w, mut s, mut l) = (vec![3; first], vec![4; more], vec![8; 3]);
+        let r = tried(|| plans::write_words(KIB16, &mut w, &mut s, plan));
+        told_two(&format!("plans::write_words of 16 KiB {first} {more}"), r, &w, &s, &l);
+        let r = tried(|| plans::write_all(KIB16, &mut w, &mut s, &mut l, plan));
+        told_two(&format!("plans::write_all of 16 KiB {first} {more}"), r, &w, &s, &l);
     }
 }
 
@@ -405,7 +412,7 @@ fn planned() {
 #[derive(Clone)]
 struct Lent {
     name: String,
-    setup: [u64; 6],
+    setup: [u64; 7],
     words: Vec<u64>,
     second: Vec<u64>,
     list: Vec<u32>,
@@ -415,13 +422,14 @@ struct Lent {
 impl Lent {
     // A pool of one region, with the memory of so many tables lent.
     fn format(name: &str, levels: u64, base: u64, tables: u64, lent: usize) -> Lent {
-        Lent::format_two(name, levels, base, tables, 0, 0, lent, 0)
+        Lent::format_two(name, levels, base, tables, 0, 0, PAGE, lent, 0)
     }
 
-    fn format_two(name: &str, levels: u64, base: u64, tables: u64, base2: u64, tables2: u64, lent: usize, more: usize) -> Lent {
-        let (mut words, mut second, mut list, mut answer) = (vec![77; 512 * lent], vec![88; 512 * more], vec![66; lent + more], [55; 6]);
-        let r = tried(|| oakabut::oak_format(levels, base, tables, base2, tables2, &mut words, &mut second, &mut list, &mut answer));
-        let what = format!("{name} format {levels} {base:#x} {tables} {base2:#x} {tables2} {lent} {more}");
+    fn format_two(name: &str, levels: u64, base: u64, tables: u64, base2: u64, tables2: u64, granule: u64, lent: usize, more: usize) -> Lent {
+        let entries = if granule == KIB16 { 2048 } else { 512 };
+        let (mut words, mut second, mut list, mut answer) = (vec![77; entries * lent], vec![88; entries * more], vec![66; lent + more], [55; 7]);
+        let r = tried(|| oakabut::oak_format(levels, base, tables, base2, tables2, granule, &mut words, &mut second, &mut list, &mut answer));
+        let what = format!("{name} format {levels} {base:#x} {tables} {base2:#x} {tables2} {granule} {lent} {more}");
         told_two(&what, format!("{r} {answer:?}"), &words, &second, &list);
         Lent { name: name.to_string(), setup: answer, words, second, list, used: vec![] }
     }
@@ -431,27 +439,28 @@ impl Lent {
     }
 
     fn map(&mut self, address: u64, frame: u64, size: u64, attributes: u64) {
-        let mut answer = [55; 7];
+        let mut answer = [55; 8];
         let r = tried(|| oakabut::oak_map(&self.setup, &mut self.words, &mut self.second, &self.list, address, frame, size, attributes, &mut answer));
         self.told(&format!("map {address:#x} {frame:#x} {size:#x} {attributes}"), format!("{r} {answer:?}"));
         if r == "0" {
-            self.setup.copy_from_slice(&answer[..6]);
+            self.setup.copy_from_slice(&answer[..7]);
             self.used.push(address);
         }
     }
 
     fn unmap(&mut self, address: u64) {
-        let mut answer = [55; 12];
+        let mut answer = [55; 13];
         let r = tried(|| oakabut::oak_unmap(&self.setup, &mut self.words, &mut self.second, &mut self.list, address, &mut answer));
         self.told(&format!("unmap {address:#x}"), format!("{r} {answer:?}"));
         if r == "0" {
-            self.setup.copy_from_slice(&answer[..6]);
+            self.setup.copy_from_slice(&answer[..7]);
         }
     }
 
     // A second region of so many tables, with memory for so many. Refused, the pool goes on with the memory that it had.
     fn add(&mut self, base: u64, tables: u64, more: usize) {
-        let (mut second, mut list, mut answer) = (vec![88; 512 * more], self.list.clone(), [55; 6]);
+        let entries = if self.setup[6] == KIB16 { 2048 } else { 512 };
+        let (mut second, mut list, mut answer) = (vec![88; entries * more], self.list.clone(), [55; 7]);
         list.resize(self.list.len() + more, 66);
         let r = tried(|| oakabut::oak_add(&self.setup, &self.words, &mut second, &mut list, base, tables, &mut answer));
         let what = format!("{} add {base:#x} {tables} {more}", self.name);
@@ -466,8 +475,8 @@ impl Lent {
         let mut answer = [55; 6];
         let r = tried(|| oakabut::oak_query(&self.setup, &self.words, &self.second, &self.list, address, &mut answer));
         line(&format!("{} query {address:#x} = {r} {answer:?}", self.name));
-        let [levels, base, tables, free, base2, tables2] = self.setup;
-        let setup = || path::Setup { levels, base, tables, free, base2, tables2 };
+        let [levels, base, tables, free, base2, tables2, granule] = self.setup;
+        let setup = || path::Setup { levels, base, tables, free, base2, tables2, granule };
         let r = tried(|| armwalk::stage2(&self.words, &self.second, base, base2, levels, address));
         line(&format!("{} stage2 {address:#x} = {r}", self.name));
         for target in [0, 1, 2, 3] {
@@ -495,7 +504,7 @@ impl Lent {
 
     // The word that names a table.
     fn link(&self, table: u64) -> u64 {
-        let [_, base, tables, _, base2, tables2] = self.setup;
+        let [_, base, tables, _, base2, tables2, _] = self.setup;
         if table < tables || tables2 == 0 { base + PAGE * table + 3 } else { base2 + PAGE * (table - tables) + 3 }
     }
 
@@ -518,7 +527,7 @@ impl Lent {
         let address = (top + index[1] * GIB + index[2] * MIB2 + index[3] * PAGE) / size * size;
         let frame = GIB * (2 + height as u64) + random.below(7) * size;
         let attributes = random.below(16);
-        let [_, base, tables, _, base2, tables2] = self.setup;
+        let [_, base, tables, _, base2, tables2, _] = self.setup;
         let (base, tables) = if tables2 > 0 && random.below(2) == 0 { (base2, tables2) } else { (base, tables) };
         let pool = [base.wrapping_sub(size), base, base.wrapping_add(PAGE), base.wrapping_add(PAGE.wrapping_mul(tables))];
         match random.below(14) {
@@ -533,6 +542,51 @@ impl Lent {
     }
 }
 
+// A pool of 16 KiB tables: frames of both sizes and of none, addresses and bases that are multiples of 4096 alone, the ends of the space, a second region.
+fn of_16_kib(tables: u64, tables2: u64) {
+    let base2 = if tables2 == 0 { 0 } else { MORE };
+    let name = format!("pool of 16 KiB {tables}+{tables2}");
+    let mut lent = Lent::format_two(&name, 3, BASE, tables, base2, tables2, KIB16, tables as usize, tables2 as usize);
+    let (gib64, end) = (1 << 36, 1u64 << 47);
+    for (address, frame, size) in [
+        (0, GIB, KIB16), (KIB16, 2 * GIB, KIB16), (PAGE, GIB, KIB16), (3 * KIB16, GIB + PAGE, KIB16), (MIB32, MIB32, MIB32), (MIB32 + KIB16, GIB, KIB16),
+        (2 * MIB32, GIB, PAGE), (2 * MIB32, GIB, MIB2), (GIB, GIB, GIB), (gib64, gib64, gib64), (gib64, GIB, KIB16), (2 * gib64, GIB, MIB32), (5 * MIB32 + 2047 * KIB16, 3 * GIB, KIB16),
+        (end - KIB16, TOP - KIB16, KIB16), (end, GIB, KIB16), (end - MIB32, GIB, MIB32), (1 << 39, GIB, MIB32), (MIB32 * 9, BASE, KIB16), (MIB32 * 9, BASE + KIB16 * tables - KIB16, KIB16),
+        (MIB32 * 9, BASE + KIB16 * tables, KIB16), (MIB32 * 8, BASE - BASE % MIB32, MIB32), (MIB32 * 8, MORE, KIB16), (0, GIB, KIB16), (0, MIB32, MIB32),
+    ] {
+        lent.map(address, frame, size, 3);
+        lent.asked(address);
+        lent.asked(address.wrapping_add(size / 2));
+        lent.audit();
+    }
+    lent.clone().add(MORE, 1, 1);
+    lent.clone().add(MORE + PAGE, 1, 1);
+    for bit in [1, 2, 1 << 10, 1 << 12, 1 << 13, 1 << 14] {
+        for at in (0..lent.words.len()).filter(|&i| lent.words[i] != 0).collect::<Vec<_>>() {
+            let mut copy = lent.clone();
+            copy.name = format!("{name} damaged {at} {bit}");
+            copy.words[at] ^= bit;
+            copy.audit();
+            copy.clone().add(MORE, 1, 1);
+            copy.asked(0);
+            copy.unmap(0);
+        }
+    }
+    for address in lent.used.clone() {
+        lent.unmap(address + PAGE);
+        lent.unmap(address);
+        lent.asked(address);
+        lent.audit();
+    }
+    for granule in [0, 1, 4095, 8192, KIB16 - 1, KIB16 + 1, 1 << 16, PAGE + (1 << 32)] {
+        Lent::format_two(&format!("granule {granule}"), 3, BASE, 4, 0, 0, granule, 4, 0);
+    }
+    for levels in [2, 4, 5] {
+        Lent::format_two("levels of 16 KiB", levels, BASE, 4, 0, 0, KIB16, 4, 0);
+    }
+    Lent::format_two("half a table of 16 KiB", 3, BASE + PAGE, 4, 0, 0, KIB16, 4, 0);
+}
+
 // A history of calls, with damaged copies on the way.
 fn history(levels: u64, base: u64, tables: u64, seed: u64, steps: u64) {
     let lent = Lent::format(&format!("pool {levels}/{tables}/{seed}"), levels, base, tables, tables as usize);
@@ -542,7 +596,7 @@ fn history(levels: u64, base: u64, tables: u64, seed: u64, steps: u64) {
 // The same of a pool with two regions from the start.
 fn history_of_two(levels: u64, base: u64, tables: u64, base2: u64, tables2: u64, seed: u64, steps: u64) {
     let name = format!("pool {levels}/{tables}+{tables2}/{seed}");
-    let lent = Lent::format_two(&name, levels, base, tables, base2, tables2, tables as usize, tables2 as usize);
+    let lent = Lent::format_two(&name, levels, base, tables, base2, tables2, PAGE, tables as usize, tables2 as usize);
     go_on(lent, Random(seed * 1000 + levels * 100 + tables + tables2), steps);
 }
 
@@ -597,7 +651,7 @@ fn go_on(mut lent: Lent, mut random: Random, steps: u64) {
 
 // Breaks a rule of a sound pool, or several.
 fn damage(lent: &mut Lent, kind: u64, random: &mut Random) {
-    let ([_, base, first, free, base2, tables2], tables) = (lent.setup, lent.list.len() as u64);
+    let ([_, base, first, free, base2, tables2, _], tables) = (lent.setup, lent.list.len() as u64);
     let places = lent.words.len() + lent.second.len();
     let used: Vec<usize> = (0..places).filter(|&i| *lent.word(i) != 0).collect();
     let links: Vec<usize> = used.iter().copied().filter(|&i| *lent.word(i) % PAGE == 3).collect();
@@ -724,5 +778,7 @@ fn main() {
     audits(KIB16);
     planned();
     histories();
+    of_16_kib(9, 0);
+    of_16_kib(3, 5);
     OUT.with(|o| o.borrow_mut().flush().unwrap());
 }
