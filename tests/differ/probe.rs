@@ -8,7 +8,9 @@ use std::panic::{catch_unwind, AssertUnwindSafe};
 thread_local! { static OUT: RefCell<BufWriter<Stdout>> = RefCell::new(BufWriter::new(std::io::stdout())); }
 
 const PAGE: u64 = 4096;
+const KIB16: u64 = 16384;
 const MIB2: u64 = 1 << 21;
+const MIB32: u64 = 1 << 25;
 const GIB: u64 = 1 << 30;
 const TOP: u64 = 1 << 48;
 const BASE: u64 = 0x4000_0000;
@@ -61,91 +63,125 @@ impl Random {
 fn numbers() -> Vec<u64> {
     let mut all = vec![11, 15, 16, 17, 2048, 1 << 40, (1 << 39) + (2 << 30) + (3 << 21) + (4 << 12) + 5, u64::MAX];
     all.extend(0..6);
-    for limit in [64, 512, PAGE, MIB2, GIB, 1 << 39, TOP] {
+    for limit in [64, 512, PAGE, KIB16, MIB2, MIB32, GIB, 1 << 36, 1 << 39, 1 << 47, TOP] {
         all.extend([limit - 1, limit, limit + 1]);
     }
-    for size in [PAGE, MIB2, GIB] {
+    for size in [PAGE, KIB16, MIB2, MIB32, GIB] {
         all.extend([TOP - size, 0u64.wrapping_sub(size), 3 * size, 512 * size - size]);
     }
     all
 }
 
-fn one_region(levels: u64, base: u64, tables: u64, free: u64) -> path::Setup {
-    path::Setup { levels, base, tables, free, base2: 0, tables2: 0 }
+// The entries of a table, where a number names a granule.
+fn entries_with(granule: u64) -> u64 {
+    if granule == KIB16 { 2048 } else { 512 }
+}
+
+fn one_region(granule: u64, levels: u64, base: u64, tables: u64, free: u64) -> path::Setup {
+    path::Setup { levels, base, tables, free, base2: 0, tables2: 0, granule }
 }
 
 // Setups with two regions, good ones and bad ones, and what may be added.
-fn second_regions() {
-    for (base, tables) in [(BASE, 2), (BASE, 1), (BASE, 509), (0, 2), (TOP - 2 * PAGE, 2)] {
-        for more in [0, 1, 3, 510, 511, 512, 1 << 52, u64::MAX] {
-            let (end, bytes) = (base + PAGE * tables, PAGE.wrapping_mul(more));
+fn second_regions(granule: u64) {
+    let (page, entries) = (granule, entries_with(granule) as usize);
+    for (base, tables) in [(BASE, 2), (BASE, 1), (BASE, 509), (0, 2), (TOP - 2 * page, 2)] {
+        for more in [0, 1, 3, 510, 511, 512, 1 << 50, u64::MAX] {
+            let (end, bytes) = (base + page * tables, page.wrapping_mul(more));
             let below = base.wrapping_sub(bytes);
-            for at in [0, 1, MORE, MORE + 8, end, end.wrapping_sub(PAGE), below, below.wrapping_add(PAGE), base, TOP.wrapping_sub(bytes), TOP, u64::MAX - 4095] {
-                let (words, second, places) = (512 * tables as usize, 512usize.wrapping_mul(more as usize), tables.wrapping_add(more) as usize);
-                ask!(path::good_numbers, 3, base, tables, at, more, words, second, places);
+            for at in [0, 1, MORE, MORE + 8, MORE + PAGE, end, end.wrapping_sub(page), below, below.wrapping_add(page), base, TOP.wrapping_sub(bytes), TOP, u64::MAX - page + 1] {
+                let (words, second, places) = (entries * tables as usize, entries.wrapping_mul(more as usize), tables.wrapping_add(more) as usize);
+                ask!(path::good_numbers, granule, 3, base, tables, at, more, words, second, places);
                 for free in [0, tables - 1, tables, (places as u64).wrapping_sub(1), places as u64] {
-                    let two = path::Setup { levels: 3, base, tables, free, base2: at, tables2: more };
+                    let two = path::Setup { levels: 3, base, tables, free, base2: at, tables2: more, granule };
                     ask!(path::good_setup, two, words, second, places);
-                    ask!(path::good_adding, one_region(3, base, tables, free), at, more, words, second, places);
+                    ask!(path::good_adding, one_region(granule, 3, base, tables, free), at, more, words, second, places);
                     ask!(path::good_adding, two, at, more, words, second, places);
                 }
             }
         }
     }
-    for (words, second, places) in [(1024, 1536, 5), (1023, 1536, 5), (1024, 1535, 5), (1024, 1537, 5), (1024, 1536, 2), (1024, 1536, 6), (1536, 1024, 5), (1024, 0, 5)] {
-        ask!(path::good_numbers, 4, BASE, 2, MORE, 3, words, second, places);
-        ask!(path::good_adding, one_region(4, BASE, 2, 1), MORE, 3, words, second, places);
+    let (two, three) = (2 * entries, 3 * entries);
+    for (words, second, places) in [(two, three, 5), (two - 1, three, 5), (two, three - 1, 5), (two, three + 1, 5), (two, three, 2), (two, three, 6), (three, two, 5), (two, 0, 5)] {
+        for levels in [3, 4] {
+            ask!(path::good_numbers, granule, levels, BASE, 2, MORE, 3, words, second, places);
+            ask!(path::good_adding, one_region(granule, levels, BASE, 2, 1), MORE, 3, words, second, places);
+        }
     }
-    ask!(path::good_adding, path::Setup { levels: 3, base: BASE, tables: 2, free: 1, base2: MORE, tables2: 0 }, MORE, 3, 1024, 1536, 5);
+    ask!(path::good_adding, path::Setup { levels: 3, base: BASE, tables: 2, free: 1, base2: MORE, tables2: 0, granule }, MORE, 3, two, three, 5);
 }
 
-fn paths() {
-    ask!(path::no_setup,);
-    for free in [0, 1, 7, u64::MAX] {
-        ask!(path::with_free, path::Setup { levels: 3, base: BASE, tables: 5, free: 2, base2: MORE, tables2: 7 }, free);
-    }
-    second_regions();
+// Setups with one region, good ones and bad ones.
+fn first_regions(granule: u64) {
+    let (page, entries) = (granule, entries_with(granule));
     for levels in 0..7 {
-        for base in [0, 1, 2048, PAGE, BASE, TOP - 64 * PAGE, TOP - PAGE, TOP, TOP + PAGE, 0u64.wrapping_sub(PAGE), 0u64.wrapping_sub(64 * PAGE)] {
-            for tables in [0, 1, 2, 3, 4, 63, 64, 65, 511, 512, 513, 1 << 55, u64::MAX] {
-                for words in [512u64.wrapping_mul(tables), 511u64.wrapping_mul(tables), tables.wrapping_add(1)] {
+        for base in [0, 1, page / 2, PAGE, page, BASE, TOP - 64 * page, TOP - page, TOP, TOP + page, 0u64.wrapping_sub(page), 0u64.wrapping_sub(64 * page)] {
+            for tables in [0, 1, 2, 3, 4, 63, 64, 65, 511, 512, 513, 1 << 53, u64::MAX] {
+                for words in [entries.wrapping_mul(tables), (entries - 1).wrapping_mul(tables), tables.wrapping_add(1)] {
                     for places in [tables, tables.wrapping_sub(1), levels] {
-                        ask!(path::good_numbers, levels, base, tables, 0, 0, words as usize, 0, places as usize);
+                        ask!(path::good_numbers, granule, levels, base, tables, 0, 0, words as usize, 0, places as usize);
                     }
                 }
             }
         }
         for tables in [1, 2, 3, 4, 8, 64] {
             for free in [0, 1, 2, 3, 4, 5, 7, 8, 63, 64, u64::MAX] {
-                ask!(path::good_setup, one_region(levels, BASE, tables, free), 512 * tables as usize, 0, tables as usize);
+                ask!(path::good_setup, one_region(granule, levels, BASE, tables, free), (entries * tables) as usize, 0, tables as usize);
             }
         }
-        ask!(path::good_setup, one_region(levels, BASE, 2, 1), 2, 0, 1024);
+        ask!(path::good_setup, one_region(granule, levels, BASE, 2, 1), 2, 0, 1024);
     }
+}
+
+// Sizes, spaces and paths.
+fn sizes(granule: u64) {
     for n in numbers() {
-        for (levels, size) in [(2, 1), (3, 1), (4, 1), (5, 1), (3, PAGE), (4, GIB), (3, 1 << 39), (4, TOP), (3, TOP), (4, u64::MAX)] {
-            ask!(path::in_space, levels, n, size);
+        for (levels, size) in [(2, 1), (3, 1), (4, 1), (5, 1), (3, PAGE), (4, GIB), (3, 1 << 39), (3, 1 << 47), (4, TOP), (3, TOP), (4, u64::MAX)] {
+            ask!(path::in_space, granule, levels, n, size);
         }
         for (base, tables) in [(BASE, 0), (BASE, 1), (BASE, 64), (0, 2), (TOP - PAGE, 1), (u64::MAX - 4095, 9), (GIB + PAGE, u64::MAX)] {
             for size in [0, PAGE, MIB2, GIB, u64::MAX] {
-                for frame in [n, base.wrapping_sub(size), base.wrapping_sub(1), base, base.wrapping_add(PAGE.wrapping_mul(tables))] {
-                    ask!(path::meets_region, base, tables, frame, size);
-                    ask!(path::meets_area, base, tables, 0, 0, frame, size);
-                    ask!(path::meets_area, 3 * GIB, 2, base, tables, frame, size);
+                for frame in [n, base.wrapping_sub(size), base.wrapping_sub(1), base, base.wrapping_add(granule.wrapping_mul(tables))] {
+                    ask!(path::meets_region, granule, base, tables, frame, size);
+                    ask!(path::meets_area, granule, base, tables, 0, 0, frame, size);
+                    ask!(path::meets_area, granule, 3 * GIB, 2, base, tables, frame, size);
                 }
             }
         }
-        ask!(path::size_at, n as usize);
-        ask!(path::height_of, n);
-        ask!(path::path_of, n);
+        ask!(path::size_at, granule, n as usize);
+        ask!(path::height_of, granule, n);
+        ask!(path::path_of, granule, n);
+        ask!(path::pages_in, granule, n);
+        ask!(path::table_of, granule, n);
+        ask!(path::index_in, granule, n);
         for height in [0, 1, 2, 3, 4, 5, usize::MAX] {
-            ask!(path::index_at, n, height);
-            ask!(path::base_at, n, height);
-            ask!(path::rest_at, n, height);
+            ask!(path::index_at, granule, n, height);
+            ask!(path::base_at, granule, n, height);
+            ask!(path::rest_at, granule, n, height);
         }
     }
     for p in [[0, 0, 0, 0], [1, 2, 3, 4], [511, 0, 511, 1], [65535, 65535, 65535, 65535], [0, 0, 1, 0], [0, 1, 0, 0]] {
-        ask!(path::address_of, p);
+        ask!(path::address_of, granule, p);
+    }
+}
+
+fn paths() {
+    ask!(path::no_setup,);
+    for free in [0, 1, 7, u64::MAX] {
+        ask!(path::with_free, path::Setup { levels: 3, base: BASE, tables: 5, free: 2, base2: MORE, tables2: 7, granule: KIB16 }, free);
+    }
+    for n in numbers().into_iter().chain([8192, 1 << 16]) {
+        ask!(path::good_granule, n);
+        ask!(path::page_of, n);
+        ask!(path::entries_of, n);
+        ask!(path::large_of, n);
+        ask!(path::good_setup, one_region(n, 3, BASE, 2, 1), 1024, 0, 2);
+        ask!(path::good_setup, one_region(n, 3, BASE, 2, 1), 4096, 0, 2);
+        ask!(path::good_adding, one_region(n, 3, BASE, 2, 1), MORE, 3, 1024, 1536, 5);
+    }
+    for granule in [PAGE, KIB16] {
+        second_regions(granule);
+        first_regions(granule);
+        sizes(granule);
     }
 }
 
@@ -154,14 +190,14 @@ fn words_to_read() -> Vec<u64> {
     let mut all = vec![BASE + 1, BASE + 3, BASE + PAGE * 2 + 3, BASE + 512 + 3, BASE + PAGE + 4, BASE + PAGE - 1 + 3, TOP + 3];
     all.extend(numbers());
     for c in [0, 1, 2, 3, 4, 63, 64, 65] {
-        all.extend([BASE + PAGE * c + 3, PAGE * c + 3, MORE + PAGE * c + 3, MORE - PAGE + 3]);
+        all.extend([BASE + PAGE * c + 3, PAGE * c + 3, MORE + PAGE * c + 3, MORE - PAGE + 3, BASE + KIB16 * c + 3, MORE + KIB16 * c + 3]);
     }
     for attributes in 0..17 {
-        for (base, size) in [(0, PAGE), (PAGE * 5, PAGE), (MIB2, MIB2), (GIB, GIB), (TOP - PAGE, PAGE), (TOP - GIB, GIB)] {
+        for (base, size) in [(0, PAGE), (PAGE * 5, PAGE), (KIB16 * 5, KIB16), (MIB2, MIB2), (MIB32, MIB32), (GIB, GIB), (TOP - PAGE, PAGE), (TOP - GIB, GIB)] {
             all.push(entry::frame_word(base, size, attributes));
         }
     }
-    for (size, attributes) in [(PAGE, 0), (PAGE, 7), (MIB2, 9), (GIB, 14)] {
+    for (size, attributes) in [(PAGE, 0), (PAGE, 7), (KIB16, 5), (MIB2, 9), (MIB32, 3), (GIB, 14)] {
         for bit in 0..64 {
             all.push(entry::frame_word(GIB, size, attributes) ^ (1 << bit));
         }
@@ -174,10 +210,12 @@ fn entries() {
         ask!(entry::attr_word, n);
         for c in [0, 1, 2, 63, 64, u32::MAX] {
             for tables in [1, 2, 64, 512] {
-                ask!(entry::table_word, n, tables, MORE, c);
+                for granule in [PAGE, KIB16] {
+                    ask!(entry::table_word, granule, n, tables, MORE, c);
+                }
             }
         }
-        for size in [0, 1, PAGE, MIB2, GIB, 1 << 39, TOP] {
+        for size in [0, 1, PAGE, KIB16, 1 << 16, MIB2, MIB32, GIB, 1 << 36, 1 << 39, TOP] {
             for attributes in [0, 1, 5, 8, 15, 16, 17, u64::MAX] {
                 ask!(entry::frame_word, n, size, attributes);
                 ask!(oakabut::oak_frame_word, n, size, attributes);
@@ -195,22 +233,26 @@ fn entries() {
         }
     }
     for w in words_to_read() {
-        for (base, tables) in [(BASE, 4), (0, 64), (BASE, 1), (TOP + PAGE, 8)] {
-            ask!(entry::child_in, w, base, tables, 0, 0);
-            ask!(entry::child_in, w, MORE, 3, base, tables);
-            ask!(entry::child_in, w, base, tables, base.wrapping_add(PAGE * tables as u64), 2);
-        }
-        for size in [PAGE, MIB2, GIB, 1 << 39, 0] {
+        for size in [PAGE, KIB16, MIB2, MIB32, GIB, 1 << 36, 1 << 39, 0] {
             ask!(entry::word_meaning, w, size);
             ask!(oakabut::oak_word_meaning, w, size);
         }
         for height in [0, 1, 2, 3, 4] {
             ask!(entry::is_frame, w, height);
             ask!(entry::base_in, w);
-            ask!(entry::frame_at, w, height);
-            for (base, tables) in [(BASE, 1), (BASE, 3), (BASE, 64), (0, 2), (TOP - PAGE, 4), (u64::MAX, u16::MAX)] {
-                ask!(entry::read_word, w, height, base, tables, 0, 0);
-                ask!(entry::read_word, w, height, MORE, 2, base, tables);
+        }
+        for granule in [PAGE, KIB16] {
+            for (base, tables) in [(BASE, 4), (0, 64), (BASE, 1), (TOP + PAGE, 8)] {
+                ask!(entry::child_in, granule, w, base, tables, 0, 0);
+                ask!(entry::child_in, granule, w, MORE, 3, base, tables);
+                ask!(entry::child_in, granule, w, base, tables, base.wrapping_add(granule * tables as u64), 2);
+            }
+            for height in [0, 1, 2, 3, 4] {
+                ask!(entry::frame_at, granule, w, height);
+                for (base, tables) in [(BASE, 1), (BASE, 3), (BASE, 64), (0, 2), (TOP - PAGE, 4), (u64::MAX, u16::MAX)] {
+                    ask!(entry::read_word, granule, w, height, base, tables, 0, 0);
+                    ask!(entry::read_word, granule, w, height, MORE, 2, base, tables);
+                }
             }
         }
     }
