@@ -368,6 +368,28 @@ fn tables(granule: u64, k: usize) {
     }
 }
 
+// The audit, and the tests of an add, of a pool with one page and one block: each stands at a multiple of its size or of 4096 alone, elsewhere or in a region.
+fn audits(granule: u64) {
+    let k = entries_with(granule) as usize;
+    let block = granule * k as u64;
+    let setup = |free, base2, tables2| path::Setup { levels: 3, base: BASE, tables: 3, free, base2, tables2, granule };
+    let (links, second) = ([BASE + granule + 3, BASE + 2 * granule + 3], vec![0; k]);
+    let near = [0, PAGE, 2 * PAGE, granule, 2 * granule, 3 * granule, 0u64.wrapping_sub(PAGE), 0u64.wrapping_sub(granule)];
+    for at in [BASE, MORE, 2 * GIB, TOP].iter().flat_map(|&at| near.map(|more| at.wrapping_add(more) % TOP)) {
+        for (page, base) in [(2 * GIB, 4 * GIB), (at, 4 * GIB), (2 * GIB, at), (2 * GIB, at / block * block)] {
+            let mut words = vec![0; 3 * k];
+            (words[0], words[k]) = (links[0], links[1]);
+            (words[2 * k + 5], words[k + 1]) = (entry::word_of(page, 0, 5), entry::word_of(base, 1, 10));
+            let r = tried(|| audit::audit(setup(1, MORE, 1), &words, &second, &[3, 0, 0, 0]));
+            line(&format!("audit::audit {granule} {page:#x} {base:#x} = {r}"));
+            for region in [MORE, at] {
+                let r = tried(|| audit::add_tests(setup(0, 0, 0), &words, &second, 4, region, 1));
+                line(&format!("audit::add_tests {granule} {page:#x} {base:#x} {region:#x} = {r}"));
+            }
+        }
+    }
+}
+
 fn planned() {
     use plans::Step::*;
     let plan = [Store { place: 513, value: 6 }, Give { place: 1, table: 9 }, Wipe { table: 2 }, Nothing, Store { place: 7, value: 1 << 40 }, Give { place: 5, table: 4 }, Wipe { table: 9 }];
@@ -699,6 +721,8 @@ fn main() {
     paths();
     entries();
     pools();
+    audits(PAGE);
+    audits(KIB16);
     planned();
     histories();
     OUT.with(|o| o.borrow_mut().flush().unwrap());

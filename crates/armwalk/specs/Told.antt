@@ -7,7 +7,7 @@ use native.Mathlib.Decide.{decLt}
 use native.Mathlib.Omega.{arith}
 use lib.ListN.{length, getD}
 use borrow.Author.Tests.{le-leb, lt-ltb, le-ltb}
-use Rattle.path.specs.Geometry.{four, physical, goodLevels}
+use Rattle.path.specs.Geometry.{four, granuleOf, physical, goodLevels}
 use Rattle.path.specs.Areas.{Area, areaOf, total, tableAt, GoodArea}
 use Rattle.path.specs.declared.Setup.{Setup}
 use Rattle.model.specs.Answers.{pool}
@@ -15,7 +15,7 @@ use Rattle.model.specs.Ledger.{Ledger}
 use Rattle.demand.specs.Holds.{Holds}
 use Rattle.demand.specs.Demand3.{auditC}
 use Rattle.hardware.specs.Machine.{Stands, told}
-use Rattle.hardware.specs.Theorem.{promise-four}
+use Rattle.hardware.specs.Theorem.{promise-of}
 use Rattle.armwalk.specs.Runs.{memoryOf, stage2Of}
 use Rattle.armwalk.specs.Laws.{within-yes, within-not, memory-first, memory-second}
 
@@ -46,8 +46,8 @@ stands area first second placed long t i l m = go (decLt t (area .tables))
 pub walk-told :
     (s : Setup) (first second list : List ℕ) {A : Ledger} → Holds four (pool s (first ++ second) (length first) list) A → (a : ℕ)
     → stage2Of first second (s .base) (s .base2) (s .levels) a ≡ told (A .live) a
-unfolding goodLevels
+unfolding goodLevels granuleOf
 walk-told s first second list {A} H a =
     let N = H .good .numbers in
     rw (le-leb 3 (s .levels) (N .enough), le-leb (s .levels) 4 (N .not-more), le-leb (s .base) physical (omega (arith, N .placed .fits)))
-    (promise-four (pool s (first ++ second) (length first) list) A H [] auditC .rest (memoryOf (s .base) first (s .base2) second) (stands (areaOf s) first second (N .placed) (N .cut-is)) a)
+    (promise-of 4096 (pool s (first ++ second) (length first) list) A H [] auditC .rest (memoryOf (s .base) first (s .base2) second) (stands (areaOf s) first second (N .placed) (N .cut-is)) a)

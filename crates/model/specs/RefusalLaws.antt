@@ -9,7 +9,7 @@ use native.Mathlib.Omega.{arith}
 use lib.Dec.{ltb, leb, eqb}
 use lib.ListN.{length, getD, set, length-set}
 use lib.Seq.{getD-set-same, getD-set-other}
-use borrow.Author.Tests.{ltb-true, ltb-false, leb-true, leb-false, eqb-true, eqb-false, ne-eqb, lt-leb, not-true, not-false}
+use borrow.Author.Tests.{ltb-true, ltb-false, leb-true, leb-false, eqb-true, eqb-false, lt-leb, not-true, not-false}
 use Rattle.laws.specs.Lists.{part, among}
 use Rattle.laws.specs.ListLaws.{length-part-le, getD-part, allZero-at, allZero-of, among-mem, not-among}
 use Rattle.path.specs.Geometry.{Granule, four, sixteen, goodGranule, granuleOf, pageSize, entries, sizeAt, goodLevels, spaceOf, seek, heightOf, physical}

@@ -7,7 +7,7 @@ use mathlib.Core.Bool.{cond}
 use mathlib.Core.List.{List, [], _∷_, List·Memᴰ}
 use lib.Dec.{eqb}
 use lib.ListN.{length, getD}
-use Rattle.path.specs.Geometry.{Granule, four, sixteen, granuleOf, pageSize, entries, sizeAt, physical, spaceOf, heightOf}
+use Rattle.path.specs.Geometry.{Granule, four, sixteen, granuleOf, pageSize, entries, sizeAt, spaceOf, heightOf}
 use Rattle.path.specs.Areas.{Area, areaAt, areaOf}
 use Rattle.path.specs.Paths.{pathOf}
 use Rattle.entry.specs.declared.Entry.the-variants.{Empty, Table, Frame, Damaged}

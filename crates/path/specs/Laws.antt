@@ -11,7 +11,7 @@ use lib.Pow.{pow-pos, pow-mono, pow-lt, pow-add}
 use borrow.Author.Tests.{ltb-true, leb-true, leb-false, eqb-true, eqb-false, lt-ltb, le-ltb, le-leb, eq-eqb, ne-eqb}
 use Rattle.path.specs.Geometry.{Granule, Sane, four, sixteen, goodGranule, granuleOf, pageSize, entries, sizeAt, physical, atLevel, goodLevels, spaceOf, seek, heightOf}
 use Rattle.path.specs.Areas.{Area, areaOf, oneRegion, withSecond, total, tableAt, GoodArea, InRegion, Shares, meetsRegion, meetsArea}
-use Rattle.path.specs.Numbers.{mostTables, goodArea, goodRegion, goodNumbers, goodSetup, goodAdding, GoodRegion, GoodNumbers, GoodSetup, GoodAdding}
+use Rattle.path.specs.Numbers.{mostTables, goodArea, goodNumbers, goodSetup, goodAdding, GoodNumbers, GoodSetup, GoodAdding}
 use Rattle.path.specs.declared.Setup.{Setup}
 
 pub four-sane : Sane four
@@ -245,7 +245,7 @@ pub both : (a b : Bool) → (a && b) ≡ true → (a ≡ true) × (b ≡ true)
 both true b e = (refl, e)
 both false b e = absurd (false≢true e)
 
-untrue : (b : Bool) → (b ≡ true → ⊥) → b ≡ false
+pub untrue : (b : Bool) → (b ≡ true → ⊥) → b ≡ false
 untrue true f = absurd (f refl)
 untrue false f = refl
 
@@ -352,22 +352,6 @@ module _ {G : Granule} {area : Area} where
       second : Dec (area .tables₂ ≡ 0) → (ltb 0 (area .tables₂) || eqb (area .base₂) 0) ≡ true
       second (yes z) = right-true (ltb 0 (area .tables₂)) _ (eq-eqb (area .base₂) 0 (g .no-second z))
       second (no d) = left-true _ (eqb (area .base₂) 0) (lt-ltb 0 (area .tables₂) (omega arith))
-
-module _ {G : Granule} {base n words : ℕ} where
-  pub good-region : goodRegion G base n words ≡ true → GoodRegion G base n words
-  unfolding goodRegion
-  good-region e =
-      let (a, e₁) = both (leb n mostTables) _ e in
-      let (b, e₂) = both (eqb (base % pageSize G) 0) _ e₁ in
-      let (c, d) = both (leb (base + pageSize G * n) physical) _ e₂ in
-      record { few = leb-true _ _ a; aligned = eqb-true _ _ b; fits = leb-true _ _ c; words-are = eqb-true _ _ d }
-
-  pub region-good : GoodRegion G base n words → goodRegion G base n words ≡ true
-  unfolding goodRegion
-  region-good R = simp (le-leb _ _ (R .few), eq-eqb _ _ (R .aligned), le-leb _ _ (R .fits), eq-eqb _ _ (R .words-are))
-
-  pub region-bad : (GoodRegion G base n words → ⊥) → goodRegion G base n words ≡ false
-  region-bad f = untrue _ (λ e. f (good-region e))
 
 module _ {G : Granule} {levels : ℕ} {area : Area} {cut words places : ℕ} where
   pub good-numbers : goodNumbers G levels area cut words places ≡ true → GoodNumbers G levels area cut words places

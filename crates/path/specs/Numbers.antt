@@ -38,8 +38,8 @@ goodArea G area =
     && ((leb (area .base + pageSize G * area .tables) (area .base₂) || leb (area .base₂ + pageSize G * area .tables₂) (area .base))
     && (ltb 0 (area .tables₂) || eqb (area .base₂) 0)))))
 
--- one region by itself: it has no more tables than a pool may have, its base is a multiple of their size and its end is at most 2^48, and its run of words
--- is as long as they are
+-- one region by itself, as code tests one after the other: it has no more tables than a pool may have, its base is a multiple of their size and its end is
+-- at most 2^48, and its run of words is as long as they are
 unfoldable pub goodRegion : Granule → ℕ → ℕ → ℕ → Bool
 goodRegion G base n words =
     leb n mostTables
@@ -69,12 +69,6 @@ goodAdding G levels area q m cut words places =
     (eqb (area .base₂) 0 && eqb (area .tables₂) 0) && (ltb 0 m && goodNumbers G levels (withSecond area q m) cut words places)
 
 -- the same rules as facts
-pub record GoodRegion (G : Granule) (base n words : ℕ) : Type 0 where
-  pub few : n ≤ mostTables
-  pub aligned : base % pageSize G ≡ 0
-  pub fits : base + pageSize G * n ≤ physical
-  pub words-are : words ≡ entries G * n
-
 pub record GoodNumbers (G : Granule) (levels : ℕ) (area : Area) (cut words places : ℕ) : Type 0 where
   pub enough : G .fewest ≤ levels
   pub not-more : levels ≤ G .most

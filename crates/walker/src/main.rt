@@ -97,7 +97,7 @@ fn unmap(s: Setup, words: &mut Words, list: &mut List, address: u64) -> Setup {
 
 fn fresh(words: &mut Words, list: &mut List, levels: u64) -> Setup {
     let mut second = NO_WORDS;
-    let d = pagetable::format(levels, BASE, 4, 0, 0, words, &mut second, list);
+    let d = pagetable::format(levels, BASE, 4, 0, 0, 4096, words, &mut second, list);
     d.setup
 }
 

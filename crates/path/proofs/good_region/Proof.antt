@@ -8,7 +8,8 @@ use borrow.Author.Needs.{needs}
 use borrow.Author.Tests.{eqb-true, eq-eqb}
 use Rattle.path.specs.Geometry.{Granule, Sane, granuleOf, pageSize, entries}
 use Rattle.path.specs.Numbers.{mostTables}
-use Rattle.path.specs.Laws.{granule-sane, page-least, page-most, page-entries, good-region, region-good, region-bad, same-truth}
+use Rattle.path.specs.Laws.{granule-sane, page-least, page-most, page-entries, same-truth}
+use Rattle.path.specs.OneRegion.{good-region, region-good, region-bad}
 use Rattle.path.proofs.good_region.Statement.{statement}
 use Rattle.path.proofs.good_region.Tie as tie
 

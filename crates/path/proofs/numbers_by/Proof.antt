@@ -9,8 +9,9 @@ use borrow.Author.Needs.{needs}
 use borrow.Author.Tests.{eqb-true, eq-eqb, not-true, not-false}
 use Rattle.path.specs.Geometry.{Granule, granuleOf, pageSize, entries, goodLevels}
 use Rattle.path.specs.Areas.{areaAt}
-use Rattle.path.specs.Numbers.{mostTables, GoodRegion, GoodNumbers}
-use Rattle.path.specs.Laws.{good-levels, levels-some, good-region, region-good, good-numbers, numbers-good, numbers-bad, same-truth}
+use Rattle.path.specs.Numbers.{mostTables, GoodNumbers}
+use Rattle.path.specs.Laws.{good-levels, levels-some, good-numbers, numbers-good, numbers-bad, same-truth}
+use Rattle.path.specs.OneRegion.{GoodRegion, good-region, region-good}
 use Rattle.path.proofs.numbers_by.Statement.{statement}
 use Rattle.path.proofs.numbers_by.Tie as tie
 
