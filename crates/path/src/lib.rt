@@ -1,12 +1,12 @@
 // Setup numbers, sizes, and paths: the indices of an address, and back. A granule is a number: 16384 is that of 16 KiB pages, and every other number is read as
 // that of 4 KiB pages.
 ghost use mathlib.Core.Path.{_≡_};
-ghost use Prim.Native.Nat.{_+_, _*_, _/_, _%_};
+ghost use Prim.Native.Nat.{_+_, _*_, _/_, _%_, _≤_};
 ghost use mathlib.Core.Bool.{_&&_};
 ghost use lib.Dec.{ltb, leb, eqb};
 ghost use Rattle.path.specs.Geometry.{goodGranule, granuleOf, pageSize, entries, sizeAt, atLevel, goodLevels, spaceOf, heightOf};
 ghost use Rattle.path.specs.Areas.{areaAt, areaOf, total, meetsRegion, meetsArea};
-ghost use Rattle.path.specs.Numbers.{noSetup, withFree, goodRegion, goodNumbers, goodSetup, goodAdding};
+ghost use Rattle.path.specs.Numbers.{mostTables, noSetup, withFree, goodRegion, goodNumbers, goodSetup, goodAdding};
 ghost use Rattle.path.specs.Paths.{indexAt, baseAt, pathOf, addressOf};
 
 // The bytes of a page, and of a table, of each granule; and the granule's number.
@@ -144,15 +144,12 @@ pub fn good_levels(granule: u64, levels: u64) -> bool
     granule != KIB16
 }
 
-// Whether one region is good alone: it has no more tables than a pool may have, they stand at multiples of their size and end within 2^48, and its run of words
-// is as long as they are. The number of the granule is the size of a table, and eight bytes of it are a word.
+// Whether one region of no more tables than a pool may have is good alone: they stand at multiples of their size and end within 2^48, and its run of words is as
+// long as they are. The number of the granule is the size of a table, and eight bytes of it are a word.
 fn good_region(granule: u64, base: u64, tables: u64, words: usize) -> bool
-    requires { ⌜ granule ≡ pageSize (granuleOf granule) ⌝ }
+    requires { ⌜ (granule ≡ pageSize (granuleOf granule)) × (tables ≤ mostTables) ⌝ }
     ensures { λ r. ⌜ r ≡ goodRegion (granuleOf granule) base tables words ⌝ }
 {
-    if tables > MOST_TABLES {
-        return false;
-    }
     if base & (granule - 1) != 0 {
         return false;
     }
@@ -184,6 +181,9 @@ fn numbers_by(
     if tables < 1 {
         return false;
     }
+    if tables > MOST_TABLES {
+        return false;
+    }
     if !good_region(granule, base, tables, words) {
         return false;
     }
@@ -196,6 +196,9 @@ fn numbers_by(
         }
         return places as u64 == tables;
     }
+    if tables2 > MOST_TABLES - tables {
+        return false;
+    }
     if !good_region(granule, base2, tables2, second) {
         return false;
     }
@@ -203,9 +206,6 @@ fn numbers_by(
         if base < base2 + granule * tables2 {
             return false;
         }
-    }
-    if tables2 > MOST_TABLES - tables {
-        return false;
     }
     places as u64 == tables + tables2
 }

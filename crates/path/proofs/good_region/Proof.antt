@@ -28,46 +28,43 @@ module _ {G : Granule} (S : Sane G) {page : ℕ} (e : page ≡ pageSize G) where
       let x : page * n ≡ 8 * (entries G * n) = ap (λ (k : ℕ). k * n) (e ∙ page-entries G S) ∙ mul-assoc 8 (entries G) n in
       omega arith
 
+sub-if1 : tie.Need-sub-if1
+sub-if1 c =
+    let g = c .args .granule in
+    omega (arith, page-least (granuleOf g) (granule-sane g), c .pre .0)
+
 returns : tie.Need-returns
-returns c = sym (region-bad (λ R. omega (arith, R .few)))
-
-sub-if2 : tie.Need-sub-if2
-sub-if2 c =
-    let g = c .before .args .granule in
-    omega (arith, page-least (granuleOf g) (granule-sane g), c .before .pre)
-
-returns-2 : tie.Need-returns-2
-returns-2 c =
-    let a = c .before .before .args in
-    sym (region-bad (λ R. c .if2 .taken (page-rest (granule-sane (a .granule)) (c .before .before .pre) (a .base) ∙ R .aligned)))
+returns c =
+    let a = c .before .args in
+    sym (region-bad (λ R. c .if1 .taken (page-rest (granule-sane (a .granule)) (c .before .pre .0) (a .base) ∙ R .aligned)))
 
 mul-bytes : tie.Need-mul-bytes
 mul-bytes c =
-    let a = c .before .before .args in
-    omega (arith, few-bytes (granule-sane (a .granule)) (c .before .before .pre) {n = a .tables} (omega arith))
+    let a = c .before .args in
+    omega (arith, few-bytes (granule-sane (a .granule)) (c .before .pre .0) {n = a .tables} (c .before .pre .1))
 
-sub-if3 : tie.Need-sub-if3
-sub-if3 c =
-    let a = c .before .before .args in
-    omega (arith, few-bytes (granule-sane (a .granule)) (c .before .before .pre) {n = a .tables} (omega arith))
+sub-if2 : tie.Need-sub-if2
+sub-if2 c =
+    let a = c .before .args in
+    omega (arith, few-bytes (granule-sane (a .granule)) (c .before .pre .0) {n = a .tables} (c .before .pre .1))
+
+returns-2 : tie.Need-returns-2
+returns-2 c = sym (region-bad (λ R. omega (arith, rw (← c .before .before .pre .0) at (R .fits))))
 
 returns-3 : tie.Need-returns-3
-returns-3 c = sym (region-bad (λ R. omega (arith, rw (← c .before .before .before .pre) at (R .fits))))
-
-returns-4 : tie.Need-returns-4
-returns-4 c =
-    let a = c .before .before .before .args in
+returns-3 c =
+    let a = c .before .before .args in
     let S = granule-sane (a .granule) in
-    let p = c .before .before .before .pre in
+    let (p, few) = c .before .before .pre in
     rw (words-of S p (a .tables))
     (same-truth _ _
     (λ e. region-good (record {
-      few = omega arith;
+      few = few;
       aligned = sym (page-rest S p (a .base)) ∙ omega arith;
-      fits = rw (← p) (omega (arith, few-bytes S p {n = a .tables} (omega arith)));
+      fits = rw (← p) (omega (arith, few-bytes S p {n = a .tables} few));
       words-are = eqb-true _ _ e;
     }))
     (λ e. eq-eqb _ _ (good-region e .words-are)))
 
 pub good-region-spec : {M : Type 1} → statement M
-good-region-spec = tie.close (tie.spec returns sub-if2 returns-2 mul-bytes sub-if3 returns-3 returns-4)
+good-region-spec = tie.close (tie.spec sub-if1 returns mul-bytes sub-if2 returns-2 returns-3)

@@ -64,96 +64,90 @@ returns c =
 returns-2 : tie.Need-returns-2
 returns-2 c = sym (numbers-bad (λ N. omega (arith, N .some-table)))
 
-good-region-requires : tie.Need-good-region-requires
-good-region-requires c κs = c .before .before .before .pre
-
 returns-3 : tie.Need-returns-3
-returns-3 c = sym (numbers-bad (λ N. false≢true (sym (not-true _ (c .if3 .taken)) ∙ c .before .good-region .ensures ∙ region-good (first N))))
+returns-3 c = sym (numbers-bad (λ N. omega (arith, N .few)))
+
+good-region-requires : tie.Need-good-region-requires
+good-region-requires c κs = (c .before .before .before .before .pre, omega arith)
 
 returns-4 : tie.Need-returns-4
-returns-4 c = sym (numbers-bad (λ N. omega (arith, N .placed .no-second (omega arith))))
+returns-4 c = sym (numbers-bad (λ N. false≢true (sym (not-true _ (c .if4 .taken)) ∙ c .before .good-region .ensures ∙ region-good (first N))))
 
 returns-5 : tie.Need-returns-5
-returns-5 c =
-    let a = c .before .before .before .before .before .before .before .before .args in
-    sym (numbers-bad (λ N. omega (arith, second N .words-are, ap (λ (m : ℕ). entries (granuleOf (a .granule)) * m) (c .before .before .if4 .taken))))
+returns-5 c = sym (numbers-bad (λ N. omega (arith, N .placed .no-second (omega arith))))
 
 returns-6 : tie.Need-returns-6
 returns-6 c =
-    let k = c .before .before .before .before in
-    let a = k .before .before .before .before .args in
+    let a = c .before .before .before .before .before .before .before .before .before .args in
+    sym (numbers-bad (λ N. omega (arith, second N .words-are, ap (λ (m : ℕ). entries (granuleOf (a .granule)) * m) (c .before .before .if5 .taken))))
+
+returns-7 : tie.Need-returns-7
+returns-7 c =
+    let a = c .before .before .before .before .before .before .before .before .before .args in
     let G = granuleOf (a .granule) in
-    let R = good-region (sym (k .good-region .ensures) ∙ not-false _ (c .before .before .before .if3 .left)) in
+    let R = good-region (sym (c .before .before .before .before .good-region .ensures) ∙ not-false _ (c .before .before .before .if4 .left)) in
     same-truth _ _
     (λ e. numbers-good (good
-    (sym (k .before .before .before .good-levels .ensures) ∙ not-false _ (k .before .before .if1 .left))
+    (sym (c .before .before .before .before .before .before .before .before .good-levels .ensures) ∙ not-false _ (c .before .before .before .before .before .before .before .if1 .left))
     (omega arith)
     R
     (none G (omega arith) (omega arith) (omega arith))
     (omega (arith, R .few))
-    (inr (omega (arith, ap (λ (m : ℕ). pageSize G * m) (c .before .before .if4 .taken))))
+    (inr (omega (arith, ap (λ (m : ℕ). pageSize G * m) (c .before .before .if5 .taken))))
     (λ z. omega arith)
     (omega (arith, eqb-true (a .places) (a .tables) e))))
     (λ e. eq-eqb (a .places) (a .tables) (omega (arith, good-numbers e .places-are)))
 
-good-region-requires-2 : tie.Need-good-region-requires-2
-good-region-requires-2 c κs = c .before .before .before .before .before .before .pre
-
-returns-7 : tie.Need-returns-7
-returns-7 c = sym (numbers-bad (λ N. false≢true (sym (not-true _ (c .if7 .taken)) ∙ c .before .good-region2 .ensures ∙ region-good (second N))))
-
-mul-if8 : tie.Need-mul-if8
-mul-if8 c =
-    let R = good-region (sym (c .before .before .before .before .good-region .ensures) ∙ not-false _ (c .before .before .before .if3 .left)) in
-    omega (arith, rw (← c .before .before .before .before .before .before .before .before .pre) at (R .fits))
-
-add-if8 : tie.Need-add-if8
-add-if8 c =
-    let R = good-region (sym (c .before .before .before .before .good-region .ensures) ∙ not-false _ (c .before .before .before .if3 .left)) in
-    omega (arith, rw (← c .before .before .before .before .before .before .before .before .pre) at (R .fits))
-
-mul-if9 : tie.Need-mul-if9
-mul-if9 c =
-    let Q = good-region (sym (c .before .before .good-region2 .ensures) ∙ not-false _ (c .before .if7 .left)) in
-    omega (arith, rw (← c .before .before .before .before .before .before .before .before .before .pre) at (Q .fits))
-
-add-if9 : tie.Need-add-if9
-add-if9 c =
-    let Q = good-region (sym (c .before .before .good-region2 .ensures) ∙ not-false _ (c .before .if7 .left)) in
-    omega (arith, rw (← c .before .before .before .before .before .before .before .before .before .pre) at (Q .fits))
-
 returns-8 : tie.Need-returns-8
-returns-8 c =
-    let e = c .before .before .before .before .before .before .before .before .before .before .pre in
-    sym (numbers-bad (λ N. ⊎-elim (λ l. omega (arith, rw (← e) at l)) (λ l. omega (arith, rw (← e) at l)) (N .placed .apart)))
+returns-8 c = sym (numbers-bad (λ N. omega (arith, N .few)))
 
-sub-if10 : tie.Need-sub-if10
-sub-if10 c =
-    let R = good-region (sym (c .before .before .before .before .before .good-region .ensures) ∙ not-false _ (c .before .before .before .before .if3 .left)) in
-    omega (arith, R .few)
+good-region-requires-2 : tie.Need-good-region-requires-2
+good-region-requires-2 c κs = (c .before .before .before .before .before .before .before .before .pre, omega arith)
 
 returns-9 : tie.Need-returns-9
-returns-9 c = sym (numbers-bad (λ N. omega (arith, N .few)))
+returns-9 c = sym (numbers-bad (λ N. false≢true (sym (not-true _ (c .if9 .taken)) ∙ c .before .good-region2 .ensures ∙ region-good (second N))))
 
-add-result : tie.Need-add-result
-add-result c =
-    let R = good-region (sym (c .before .before .before .before .before .before .good-region .ensures) ∙ not-false _ (c .before .before .before .before .before .if3 .left)) in
-    let Q = good-region (sym (c .before .before .before .good-region2 .ensures) ∙ not-false _ (c .before .before .if7 .left)) in
-    omega (arith, R .few, Q .few)
+mul-if10 : tie.Need-mul-if10
+mul-if10 c =
+    let R = good-region (sym (c .before .before .before .before .before .good-region .ensures) ∙ not-false _ (c .before .before .before .before .if4 .left)) in
+    omega (arith, rw (← c .before .before .before .before .before .before .before .before .before .before .pre) at (R .fits))
+
+add-if10 : tie.Need-add-if10
+add-if10 c =
+    let R = good-region (sym (c .before .before .before .before .before .good-region .ensures) ∙ not-false _ (c .before .before .before .before .if4 .left)) in
+    omega (arith, rw (← c .before .before .before .before .before .before .before .before .before .before .pre) at (R .fits))
+
+mul-if11 : tie.Need-mul-if11
+mul-if11 c =
+    let Q = good-region (sym (c .before .before .good-region2 .ensures) ∙ not-false _ (c .before .if9 .left)) in
+    omega (arith, rw (← c .before .before .before .before .before .before .before .before .before .before .before .pre) at (Q .fits))
+
+add-if11 : tie.Need-add-if11
+add-if11 c =
+    let Q = good-region (sym (c .before .before .good-region2 .ensures) ∙ not-false _ (c .before .if9 .left)) in
+    omega (arith, rw (← c .before .before .before .before .before .before .before .before .before .before .before .pre) at (Q .fits))
 
 returns-10 : tie.Need-returns-10
 returns-10 c =
-    let R = good-region (sym (c .before .before .before .before .before .before .good-region .ensures) ∙ not-false _ (c .before .before .before .before .before .if3 .left)) in
-    let Q = good-region (sym (c .before .before .before .good-region2 .ensures) ∙ not-false _ (c .before .before .if7 .left)) in
-    let e = c .before .before .before .before .before .before .before .before .before .before .pre in
+    let e = c .before .before .before .before .before .before .before .before .before .before .before .before .pre in
+    sym (numbers-bad (λ N. ⊎-elim (λ l. omega (arith, rw (← e) at l)) (λ l. omega (arith, rw (← e) at l)) (N .placed .apart)))
+
+add-result : tie.Need-add-result
+add-result c = search needs
+
+returns-11 : tie.Need-returns-11
+returns-11 c =
+    let R = good-region (sym (c .before .before .before .before .before .before .good-region .ensures) ∙ not-false _ (c .before .before .before .before .before .if4 .left)) in
+    let Q = good-region (sym (c .before .before .good-region2 .ensures) ∙ not-false _ (c .before .if9 .left)) in
+    let e = c .before .before .before .before .before .before .before .before .before .before .before .pre in
     same-truth _ _
     (λ t. numbers-good (good
-    (sym (c .before .before .before .before .before .before .before .before .before .good-levels .ensures) ∙ not-false _ (c .before .before .before .before .before .before .before .before .if1 .left))
+    (sym (c .before .before .before .before .before .before .before .before .before .before .good-levels .ensures) ∙ not-false _ (c .before .before .before .before .before .before .before .before .before .if1 .left))
     (omega arith)
     R
     Q
-    (omega (arith, R .few))
-    (⊎-elim (λ way. inr (rw (← e) (omega (arith, way .1 .left)))) (λ way. inl (rw (← e) (omega (arith, way .left)))) (c .before .if8 .came))
+    (omega arith)
+    (⊎-elim (λ way. inr (rw (← e) (omega (arith, way .1 .left)))) (λ way. inl (rw (← e) (omega (arith, way .left)))) (c .if10 .came))
     (λ z. omega arith)
     (eqb-true _ _ t)))
     (λ t. eq-eqb _ _ (good-numbers t .places-are))
@@ -165,19 +159,19 @@ numbers-by-spec =
     good-levels-requires
     returns
     returns-2
-    good-region-requires
     returns-3
+    good-region-requires
     returns-4
     returns-5
     returns-6
-    good-region-requires-2
     returns-7
-    mul-if8
-    add-if8
-    mul-if9
-    add-if9
     returns-8
-    sub-if10
+    good-region-requires-2
     returns-9
+    mul-if10
+    add-if10
+    mul-if11
+    add-if11
+    returns-10
     add-result
-    returns-10)
+    returns-11)
