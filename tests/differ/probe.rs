@@ -147,6 +147,7 @@ fn sizes(granule: u64) {
                 }
             }
         }
+        ask!(path::good_levels, granule, n);
         ask!(path::size_at, granule, n as usize);
         ask!(path::height_of, granule, n);
         ask!(path::path_of, granule, n);
@@ -315,7 +316,7 @@ fn pools() {
         let r = tried(|| pool::clear(&mut w));
         told(&format!("pool::clear {n}"), r, &w, &[]);
     }
-    for (granule, k) in [(4096, 512), (16384, 2048)] {
+    for (granule, k) in [(PAGE, 512), (KIB16, 2048)] {
         tables(granule, k);
     }
     for c in [0, 1, 2, 3, 4, 5] {

@@ -8,11 +8,11 @@ use lib.Dec.{eqb}
 use lib.ListN.{length, getD, set, length-set, length-append}
 use lib.Seq.{getD-set-same}
 use borrow.Author.Tests.{eq-eqb, ne-eqb}
-use Rattle.path.specs.Geometry.{Granule, Sane, entries}
+use Rattle.path.specs.Geometry.{Granule, Sane, entries, atLevel}
 use Rattle.path.specs.Areas.{areaOf, total}
-use Rattle.path.specs.Paths.{pathOf}
-use Rattle.path.specs.Laws.{words-fit, in-table}
-use Rattle.path.specs.PathLaws.{path-of-path}
+use Rattle.path.specs.Paths.{indexAt, pathOf}
+use Rattle.path.specs.Laws.{words-fit, level-some, in-table}
+use Rattle.path.specs.PathLaws.{index-below, path-of-at}
 use Rattle.path.specs.declared.Setup.{Setup}
 use Rattle.entry.specs.Words.{childAt, entryAt}
 use Rattle.entry.specs.Laws.{child-only}
@@ -30,13 +30,12 @@ Told G s ws target a r way =
     × (r / 4 < length ws → r / 4 ≡ slot G (atHeight way (r % 4)) (atHeight (pathOf G a) (r % 4)))
 
 -- Before the turn at the height h - 1, which is at table t: `way` has the tables above it, and `up` is the nearest of them.
-pub record Turn (G : Granule) (s : Setup) (ws : List ℕ) (target a : ℕ) (path : List ℕ) (h : ℕ) (way : List ℕ) (t up : ℕ) : Type 0 where
+pub record Turn (G : Granule) (s : Setup) (ws : List ℕ) (target a h : ℕ) (way : List ℕ) (t up : ℕ) : Type 0 where
   pub above : target < h
   pub low : h ≤ 4
   pub inside : t < total (areaOf s)
   pub places : length way ≡ 4
   pub can : canWalk G s (length ws) target ≡ true
-  pub by-path : path ≡ pathOf G a
   pub going : Going G ws (areaOf s) target (pathOf G a) (s .levels - 1) h way t
   pub passed : Above (h - 1) way t up
 
@@ -49,8 +48,8 @@ module _ (G : Granule) (s : Setup) (ws : List ℕ) (target a : ℕ) where
   )
 
   -- before the first turn
-  pub turn-first : {path : List ℕ} → canWalk G s (length ws) target ≡ true → path ≡ pathOf G a → Turn G s ws target a path 4 noWay 0 0
-  turn-first can e =
+  pub turn-first : Sane G → canWalk G s (length ws) target ≡ true → Turn G s ws target a 4 noWay 0 0
+  turn-first S can =
       let w = can-walk can in
       record {
         above = omega arith;
@@ -58,17 +57,16 @@ module _ (G : Granule) (s : Setup) (ws : List ℕ) (target a : ℕ) where
         inside = omega arith;
         places = refl;
         can = can;
-        by-path = e;
         going = going-first G ws (areaOf s) target (pathOf G a) (omega arith);
         passed = above-first;
       }
 
-module _ {G : Granule} {s : Setup} {ws : List ℕ} {target a : ℕ} {path : List ℕ} {h : ℕ} {way : List ℕ} {t up : ℕ} (T : Turn G s ws target a path h way t up) where
+module _ {G : Granule} {s : Setup} {ws : List ℕ} {target a h : ℕ} {way : List ℕ} {t up : ℕ} (T : Turn G s ws target a h way t up) where
   pub few-words : Sane G → length ws ≤ 2 ^ 54
   few-words S = let w = can-walk (T .can) in rw (w .whole) (words-fit G S refl (omega arith))
 
   -- a turn above the tree
-  pub turn-past : s .levels ≤ h - 1 → Turn G s ws target a path (h - 1) way t up
+  pub turn-past : s .levels ≤ h - 1 → Turn G s ws target a (h - 1) way t up
   turn-past l =
       let w = can-walk (T .can) in
       record {
@@ -77,27 +75,32 @@ module _ {G : Granule} {s : Setup} {ws : List ℕ} {target a : ℕ} {path : List
         inside = T .inside;
         places = T .places;
         can = T .can;
-        by-path = T .by-path;
         going = going-past G ws (areaOf s) target (pathOf G a) (T .going) (omega arith);
         passed = above-past (h - 1) (omega arith) (T .passed);
       }
 
   -- ---- a turn in it, which comes to the path's entry of table t, at a place among the words
 
-  module _ (l : h - 1 < s .levels) {place : ℕ} (p : place ≡ slot G t (getD path (3 - (h - 1)) 0)) where
+  module _ (l : h - 1 < s .levels) {i place : ℕ} (q : i ≡ atLevel G (h - 1) (indexAt G a (h - 1))) (p : place ≡ slot G t i) where
     abbrev now-way : List ℕ
     now-way = set way (3 - (h - 1)) t
+
+    index : i ≡ indexAt G a (h - 1)
+    index = let w = can-walk (T .can) in q ∙ level-some G (omega arith) (indexAt G a (h - 1))
+
+    place-at : place ≡ slot G t (atHeight (pathOf G a) (h - 1))
+    place-at = p ∙ ap (slot G t) (index ∙ sym (path-of-at G a (omega arith)))
 
     pub place-lt : place < length ws
     place-lt =
         let w = can-walk (T .can) in
-        rw (p, T .by-path, w .whole) (in-table (entries G) (T .inside) (path-of-path G a .below (3 - (h - 1)) (omega arith)))
+        rw (p, index, w .whole) (in-table (entries G) (T .inside) (index-below G a (h - 1)))
 
     whole : walkAt G ws (areaOf s) target (pathOf G a) (h - 1) way t ≡ walkIf G s ws target a
     whole = T .going .goes (omega arith) ∙ sym (walk-if G s ws target a (T .can) 0 [])
 
     word-is : getD ws place 0 ≡ wordOf G ws (areaOf s) target (pathOf G a) (h - 1) t
-    word-is = rw (p, T .by-path)
+    word-is = ap (λ (k : ℕ). getD ws k 0) place-at
 
     at-place : {w : ℕ} → w ≡ getD ws place 0 → endOf G ws (areaOf s) (4 * place + (h - 1)) now-way ≡ stop (entryAt G (areaOf s) (h - 1) w) (h - 1) now-way
     at-place e =
@@ -106,9 +109,9 @@ module _ {G : Granule} {s : Setup} {ws : List ℕ} {target a : ℕ} {path : List
 
     place-is : (4 * place + (h - 1)) / 4 ≡ slot G (atHeight now-way ((4 * place + (h - 1)) % 4)) (atHeight (pathOf G a) ((4 * place + (h - 1)) % 4))
     place-is =
-        let q : (4 * place + (h - 1)) / 4 ≡ place = omega arith in
-        let r : (4 * place + (h - 1)) % 4 ≡ h - 1 = omega arith in
-        rw (q, r, getD-set-same way (3 - (h - 1)) t 0 (omega arith)) (p ∙ ap (λ (x : List ℕ). slot G t (getD x (3 - (h - 1)) 0)) (T .by-path))
+        let x : (4 * place + (h - 1)) / 4 ≡ place = omega arith in
+        let y : (4 * place + (h - 1)) % 4 ≡ h - 1 = omega arith in
+        rw (x, y, getD-set-same way (3 - (h - 1)) t 0 (omega arith)) place-at
 
     -- it ends at the target height,
     pub tells-target : h - 1 ≡ target → Told G s ws target a (4 * place + (h - 1)) now-way
@@ -127,7 +130,7 @@ module _ {G : Granule} {s : Setup} {ws : List ℕ} {target a : ℕ} {path : List
         λ m. place-is,
       )
 
-      module _ {c : ℕ} (q : c ≡ childAt G (areaOf s) w) (some : c ≡ 0 → ⊥) (high : h - 1 ≡ target → ⊥) where
+      module _ {c : ℕ} (k : c ≡ childAt G (areaOf s) w) (some : c ≡ 0 → ⊥) (high : h - 1 ≡ target → ⊥) where
         known : 1 ≤ c
         known = omega (arith, some)
 
@@ -139,9 +142,9 @@ module _ {G : Granule} {s : Setup} {ws : List ℕ} {target a : ℕ} {path : List
             let z : 4 * n + (h - 1) - 1 ≡ 4 * length ws + (h - 1 - 1) = omega arith in (
               ap (λ (r : ℕ). endOf G ws (areaOf s) r now-way) z
                   ∙ end-past G ws (areaOf s) now-way (h - 1 - 1) (omega arith)
-                  ∙ comes-again G ws (areaOf s) target (pathOf G a) (h - 1) way t (e ∙ word-is) q known below (on-way (h - 1) (omega arith) (omega arith) (T .passed) known ∙ m)
+                  ∙ comes-again G ws (areaOf s) target (pathOf G a) (h - 1) way t (e ∙ word-is) k known below (on-way (h - 1) (omega arith) (omega arith) (T .passed) known ∙ m)
                   ∙ whole,
-              λ k. absurd (omega arith),
+              λ j. absurd (omega arith),
             )
 
         -- it ends at table t come to again, or at the one above it,
@@ -152,18 +155,17 @@ module _ {G : Granule} {s : Setup} {ws : List ℕ} {target a : ℕ} {path : List
         tells-above m = again (rw (eq-eqb up c (sym m)))
 
         -- and goes on to any other
-        pub turn-down : (c ≡ t → ⊥) → (c ≡ up → ⊥) → Turn G s ws target a path (h - 1) now-way c t
+        pub turn-down : (c ≡ t → ⊥) → (c ≡ up → ⊥) → Turn G s ws target a (h - 1) now-way c t
         turn-down n m =
             record {
               above = below;
               low = omega arith;
-              inside = child-only G (areaOf s) w (sym q) known .0;
+              inside = child-only G (areaOf s) w (sym k) known .0;
               places = length-set way (3 - (h - 1)) t ∙ T .places;
               can = T .can;
-              by-path = T .by-path;
               going =
                   going-down G ws (areaOf s) target (pathOf G a) (T .going) (omega arith)
-                  (goes-down G ws (areaOf s) target (pathOf G a) (h - 1) way t (e ∙ word-is) q known below
+                  (goes-down G ws (areaOf s) target (pathOf G a) (h - 1) way t (e ∙ word-is) k known below
                   (on-way (h - 1) (omega arith) (omega arith) (T .passed) known ∙ rw (ne-eqb up c (λ x. m (sym x)), ne-eqb t c (λ x. n (sym x)))));
               passed = above-down (h - 1) c (omega arith) (T .passed);
             }

@@ -152,7 +152,7 @@ fn walkable(s: Setup, words: u64, target: usize) -> bool
     if s.base > path::PHYSICAL {
         return false;
     }
-    if s.levels > 4 {
+    if !path::good_levels(s.granule, s.levels) {
         return false;
     }
     if target as u64 >= s.levels {
@@ -193,7 +193,6 @@ pub fn reach(
     if !walkable(s, all, target) {
         return past;
     }
-    let path = path::path_of(s.granule, address);
     let tables = s.tables as u16;
     let tables2 = s.tables2 as u16;
     let mut t: u32 = 0;
@@ -203,7 +202,8 @@ pub fn reach(
         h -= 1;
         if (h as u64) < s.levels {
             way[3 - h] = t;
-            let place = pool::entry_place(s.granule, t, path[3 - h]);
+            let i = path::index_at(s.granule, address, h);
+            let place = pool::entry_place(s.granule, t, i);
             let end = 4 * (place as u64) + (h as u64);
             if h == target {
                 return end;

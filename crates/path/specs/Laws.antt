@@ -48,6 +48,10 @@ granule-page number = go (ℕ-discrete number 16384)
     go (yes e) = rw (granule-sixteen e, e)
     go (no n) = rw (granule-four n, ne-eqb number 16384 n) (or-false (eqb number 4096))
 
+-- the size of a granule's pages names it
+pub page-names : (number : ℕ) → granuleOf (pageSize (granuleOf number)) ≡ granuleOf number
+page-names = granule-either (λ G. granuleOf (pageSize G) ≡ G) (granule-four (λ e. omega arith)) (granule-sixteen refl)
+
 -- ---- sizes
 
 module _ (G : Granule) where
@@ -62,6 +66,10 @@ module _ (G : Granule) where
 
   pub page-least : Sane G → 4096 ≤ pageSize G
   page-least S = pow-mono {i = 12} (S .page-least)
+
+  -- a table takes a page, and an entry 8 bytes
+  pub page-entries : Sane G → pageSize G ≡ 8 * entries G
+  page-entries S = ap (λ (k : ℕ). 2 ^ k) (sym (S .table-page)) ∙ pow-add 2 (G .index) 3 ∙ mul-comm (entries G) 8
 
   -- no page is so large that the tables of a pool could not stand below 2^48
   pub page-most : Sane G → pageSize G ≤ 2 ^ 25
@@ -251,6 +259,10 @@ unfolding goodLevels
 good-levels G levels e =
     let (a, b) = both (leb (G .fewest) levels) (leb levels (G .most)) e in
     (leb-true (G .fewest) levels a, leb-true levels (G .most) b)
+
+pub levels-some : (G : Granule) {levels : ℕ} → G .fewest ≤ levels → levels ≤ G .most → goodLevels G levels ≡ true
+unfolding goodLevels
+levels-some G l m = rw (le-leb _ _ l, le-leb _ _ m)
 
 pub levels-none : (G : Granule) (levels : ℕ) → (G .fewest ≤ levels → levels ≤ G .most → ⊥) → goodLevels G levels ≡ false
 levels-none G levels f = untrue (goodLevels G levels) (λ e. f (good-levels G levels e .0) (good-levels G levels e .1))

@@ -1,12 +1,12 @@
 // Setup numbers, sizes, and paths: the indices of an address, and back. A granule is a number: 16384 is that of 16 KiB pages, and every other number is read as
 // that of 4 KiB pages.
 ghost use mathlib.Core.Path.{_≡_};
-ghost use Prim.Native.Nat.{_+_, _*_, _/_, _%_};
+ghost use Prim.Native.Nat.{_+_, _*_, _/_, _%_, _≤_};
 ghost use mathlib.Core.Bool.{_&&_};
 ghost use lib.Dec.{ltb, leb, eqb};
 ghost use Rattle.path.specs.Geometry.{goodGranule, granuleOf, pageSize, entries, sizeAt, atLevel, goodLevels, spaceOf, heightOf};
 ghost use Rattle.path.specs.Areas.{areaAt, areaOf, total, meetsRegion, meetsArea};
-ghost use Rattle.path.specs.Numbers.{noSetup, withFree, goodRegion, goodNumbers, goodSetup, goodAdding};
+ghost use Rattle.path.specs.Numbers.{mostTables, noSetup, withFree, goodRegion, goodNumbers, goodSetup, goodAdding};
 ghost use Rattle.path.specs.Paths.{indexAt, baseAt, pathOf, addressOf};
 
 // The bytes of a page, and of a table, of each granule; and the granule's number.
@@ -131,25 +131,37 @@ pub fn index_in(granule: u64, place: u64) -> u16
     (place % 512) as u16
 }
 
-// Whether one region is good alone: it has no more tables than a pool may have, they stand at multiples of their size and end within 2^48, and its run of words
-// is as long as they are.
-fn good_region(granule: u64, base: u64, tables: u64, words: usize) -> bool
-    ensures { λ r. ⌜ r ≡ goodRegion (granuleOf granule) base tables words ⌝ }
+// Whether a tree may have so many levels.
+pub fn good_levels(granule: u64, levels: u64) -> bool
+    ensures { λ r. ⌜ r ≡ goodLevels (granuleOf granule) levels ⌝ }
 {
-    if tables > MOST_TABLES {
+    if levels == 3 {
+        return true;
+    }
+    if levels != 4 {
         return false;
     }
-    if rest_at(granule, base, 0) != 0 {
-        return false;
-    }
-    if base > PHYSICAL - page_of(granule) * tables {
-        return false;
-    }
-    words as u64 == entries_of(granule) * tables
+    granule != KIB16
 }
 
-// Whether levels, bases, table counts and the three lengths are good, of the first run of words, of the second, and of the free list.
-pub fn good_numbers(
+// Whether one region of no more tables than a pool may have is good alone: they stand at multiples of their size and end within 2^48, and its run of words is as
+// long as they are. The number of the granule is the size of a table, and eight bytes of it are a word.
+fn good_region(granule: u64, base: u64, tables: u64, words: usize) -> bool
+    requires { ⌜ (granule ≡ pageSize (granuleOf granule)) × (tables ≤ mostTables) ⌝ }
+    ensures { λ r. ⌜ r ≡ goodRegion (granuleOf granule) base tables words ⌝ }
+{
+    if base & (granule - 1) != 0 {
+        return false;
+    }
+    let bytes = granule * tables;
+    if base > PHYSICAL - bytes {
+        return false;
+    }
+    words as u64 == bytes / 8
+}
+
+// Whether levels, bases, table counts and the three lengths are good, of the first run of words, of the second, and of the free list, by the number of a granule.
+fn numbers_by(
     granule: u64,
     levels: u64,
     base: u64,
@@ -160,12 +172,16 @@ pub fn good_numbers(
     second: usize,
     places: usize,
 ) -> bool
+    requires { ⌜ granule ≡ pageSize (granuleOf granule) ⌝ }
     ensures { λ r. ⌜ r ≡ goodNumbers (granuleOf granule) levels (areaAt base tables base2 tables2) words (words + second) places ⌝ }
 {
-    if space_of(granule, levels) == 0 {
+    if !good_levels(granule, levels) {
         return false;
     }
     if tables < 1 {
+        return false;
+    }
+    if tables > MOST_TABLES {
         return false;
     }
     if !good_region(granule, base, tables, words) {
@@ -180,19 +196,46 @@ pub fn good_numbers(
         }
         return places as u64 == tables;
     }
-    if !good_region(granule, base2, tables2, second) {
-        return false;
-    }
-    let page = page_of(granule);
-    if base2 < base + page * tables {
-        if base < base2 + page * tables2 {
-            return false;
-        }
-    }
     if tables2 > MOST_TABLES - tables {
         return false;
     }
+    if !good_region(granule, base2, tables2, second) {
+        return false;
+    }
+    if base2 < base + granule * tables {
+        if base < base2 + granule * tables2 {
+            return false;
+        }
+    }
     places as u64 == tables + tables2
+}
+
+// The same by any number.
+pub fn good_numbers(
+    granule: u64,
+    levels: u64,
+    base: u64,
+    tables: u64,
+    base2: u64,
+    tables2: u64,
+    words: usize,
+    second: usize,
+    places: usize,
+) -> bool
+    ensures { λ r. ⌜ r ≡ goodNumbers (granuleOf granule) levels (areaAt base tables base2 tables2) words (words + second) places ⌝ }
+{
+    let page = page_of(granule);
+    numbers_by(
+        page,
+        levels,
+        base,
+        tables,
+        base2,
+        tables2,
+        words,
+        second,
+        places,
+    )
 }
 
 // Whether the setup numbers and the three lengths are good.
@@ -202,7 +245,7 @@ pub fn good_setup(s: Setup, words: usize, second: usize, places: usize) -> bool
     if !good_granule(s.granule) {
         return false;
     }
-    if good_numbers(
+    if numbers_by(
         s.granule,
         s.levels,
         s.base,
@@ -246,7 +289,7 @@ pub fn good_adding(
     if s.free >= s.tables {
         return false;
     }
-    good_numbers(
+    numbers_by(
         s.granule,
         s.levels,
         s.base,
@@ -413,17 +456,17 @@ pub fn rest_at(granule: u64, address: u64, height: usize) -> u64
     address - base_at(granule, address, height)
 }
 
-// The indices of an address, top first: nine bits each, or eleven with 16 KiB pages.
+// The indices of an address, top first: nine bits each, or eleven with 16 KiB pages. These are taken from the last one up, which keeps the compiler from making one
+// computation of the two, by numbers that it would have to pick at run time.
 pub fn path_of(granule: u64, address: u64) -> [u16; 4]
     ensures { λ r. ⌜ r ≡ pathOf (granuleOf granule) address ⌝ }
 {
     if granule == KIB16 {
-        return [
-            (address / TIB128 % 2048) as u16,
-            (address / GIB64 % 2048) as u16,
-            (address / MIB32 % 2048) as u16,
-            (address / KIB16 % 2048) as u16,
-        ];
+        let page = (address / KIB16 % 2048) as u16;
+        let large = (address / MIB32 % 2048) as u16;
+        let table = (address / GIB64 % 2048) as u16;
+        let top = (address / TIB128 % 2048) as u16;
+        return [top, table, large, page];
     }
     [
         (address / GIB512 % 512) as u16,

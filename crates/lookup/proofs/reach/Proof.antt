@@ -13,11 +13,11 @@ use Rattle.lookup.proofs.reach.Statement.{statement}
 use Rattle.lookup.proofs.reach.Tie as tie
 
 abbrev Inv-loop : tie.InvT-loop
-Inv-loop s words second target address way₀ all past path tables tables2 t₀ up₀ h₀ way t up h =
-    Turn (granuleOf (s .granule)) s (words ++ second) target address path h way t up
+Inv-loop s words second target address way₀ all past tables tables2 t₀ up₀ h₀ way t up h =
+    Turn (granuleOf (s .granule)) s (words ++ second) target address h way t up
 
 abbrev μ-loop : tie.MeasureT-loop
-μ-loop s words second target address way₀ all past path tables tables2 t₀ up₀ h₀ way t up h = h
+μ-loop s words second target address way₀ all past tables tables2 t₀ up₀ h₀ way t up h = h
 
 add-all : tie.Need-add-all Inv-loop μ-loop
 add-all c = search needs
@@ -36,25 +36,23 @@ returns c =
     tells-nowhere G (a .s) ws (a .target) (a .address) (length-append (a .words .now) (a .second .now))
     (can-both G (a .s) (a .words .now) (a .second .now) (a .target) (c .before .walkable .ensures) (not-true _ (c .if1 .taken)))
 
-path-of-requires : tie.Need-path-of-requires Inv-loop μ-loop
-path-of-requires c κs = search needs
-
 cast-tables : tie.Need-cast-tables Inv-loop μ-loop
 cast-tables c =
-    let w = can-walk (sym (c .before .before .before .walkable .ensures) ∙ not-false _ (c .before .before .if1 .left)) in
+    let w = can-walk (sym (c .before .before .walkable .ensures) ∙ not-false _ (c .before .if1 .left)) in
     omega (arith, w)
 
 cast-tables2 : tie.Need-cast-tables2 Inv-loop μ-loop
 cast-tables2 c =
-    let w = can-walk (sym (c .before .before .before .before .walkable .ensures) ∙ not-false _ (c .before .before .before .if1 .left)) in
+    let w = can-walk (sym (c .before .before .before .walkable .ensures) ∙ not-false _ (c .before .before .if1 .left)) in
     omega (arith, w)
 
 loop-holds : tie.Need-loop-holds Inv-loop μ-loop
 loop-holds c =
-    let a = c .before .before .before .before .before .before .before .before .args in
+    let a = c .before .before .before .before .before .before .before .args in
     let G = granuleOf (a .s .granule) in
     let ws = a .words .now ++ a .second .now in
-    turn-first G (a .s) ws (a .target) (a .address) (can-both G (a .s) (a .words .now) (a .second .now) (a .target) (c .before .before .before .before .walkable .ensures) (not-false _ (c .before .before .before .if1 .left))) (c .before .before .path-of .ensures)
+    turn-first G (a .s) ws (a .target) (a .address) (granule-sane (a .s .granule))
+    (can-both G (a .s) (a .words .now) (a .second .now) (a .target) (c .before .before .before .walkable .ensures) (not-false _ (c .before .before .if1 .left)))
 
 sub-h : tie.Need-sub-h Inv-loop μ-loop
 sub-h c = search needs
@@ -68,32 +66,26 @@ mul-way c = search needs
 element-write-way : tie.Need-element-write-way Inv-loop μ-loop
 element-write-way c = search needs
 
-sub-entry-place : tie.Need-sub-entry-place Inv-loop μ-loop
-sub-entry-place c = search needs
-
-mul-entry-place : tie.Need-mul-entry-place Inv-loop μ-loop
-mul-entry-place c = search needs
-
-array-read-entry-place : tie.Need-array-read-entry-place Inv-loop μ-loop
-array-read-entry-place c = search needs
+index-at-requires : tie.Need-index-at-requires Inv-loop μ-loop
+index-at-requires c κs = search needs
 
 entry-place-requires : tie.Need-entry-place-requires Inv-loop μ-loop
 entry-place-requires c κs = search needs
 
 mul-end : tie.Need-mul-end Inv-loop μ-loop
 mul-end c =
-    let T = c .before .before .before .before .loop .inv in
-    omega (arith, place-lt T (omega arith) (c .entry-place .ensures), few-words T (granule-sane _))
+    let T = c .before .before .before .before .before .loop .inv in
+    omega (arith, place-lt T (omega arith) (c .before .index-at .ensures) (c .entry-place .ensures), few-words T (granule-sane _))
 
 add-end : tie.Need-add-end Inv-loop μ-loop
 add-end c =
-    let T = c .before .before .before .before .loop .inv in
-    omega (arith, place-lt T (omega arith) (c .entry-place .ensures), few-words T (granule-sane _))
+    let T = c .before .before .before .before .before .loop .inv in
+    omega (arith, place-lt T (omega arith) (c .before .index-at .ensures) (c .entry-place .ensures), few-words T (granule-sane _))
 
 returns-2 : tie.Need-returns-2 Inv-loop μ-loop
 returns-2 c =
-    let T = c .before .before .before .before .before .loop .inv in
-    tells-target T (omega arith) (c .before .entry-place .ensures) (c .if3 .taken)
+    let T = c .before .before .before .before .before .before .loop .inv in
+    tells-target T (omega arith) (c .before .before .index-at .ensures) (c .before .entry-place .ensures) (c .if3 .taken)
 
 word-requires : tie.Need-word-requires Inv-loop μ-loop
 word-requires c κs = search needs
@@ -103,13 +95,13 @@ child-in-requires c κs = search needs
 
 returns-3 : tie.Need-returns-3 Inv-loop μ-loop
 returns-3 c =
-    let T = c .before .before .before .before .before .before .before .before .loop .inv in
-    tells-none T (omega arith) (c .before .before .before .before .entry-place .ensures) (c .before .before .word .ensures) (sym (c .before .child-in .ensures) ∙ c .if4 .taken)
+    let T = c .before .before .before .before .before .before .before .before .before .loop .inv in
+    tells-none T (omega arith) (c .before .before .before .before .before .index-at .ensures) (c .before .before .before .before .entry-place .ensures) (c .before .before .word .ensures) (sym (c .before .child-in .ensures) ∙ c .if4 .taken)
 
 add-result : tie.Need-add-result Inv-loop μ-loop
 add-result c =
     let a = c .before .before .before .before .before .before .before .before .before .before .before .before .before .before .before .before .before .before .args in
-    let T = c .before .before .before .before .before .before .before .before .before .loop .inv in
+    let T = c .before .before .before .before .before .before .before .before .before .before .loop .inv in
     omega (arith, few-words T (granule-sane _), length-append (a .words .now) (a .second .now))
 
 sub-result : tie.Need-sub-result Inv-loop μ-loop
@@ -118,13 +110,13 @@ sub-result c = search needs
 returns-4 : tie.Need-returns-4 Inv-loop μ-loop
 returns-4 c =
     let a = c .before .before .before .before .before .before .before .before .before .before .before .before .before .before .before .before .before .before .args in
-    let T = c .before .before .before .before .before .before .before .before .before .loop .inv in
-    tells-itself T (omega arith) (c .before .before .before .before .before .entry-place .ensures) (c .before .before .before .word .ensures) (c .before .before .child-in .ensures) (c .before .if4 .left) (c .before .before .before .before .if3 .left) (c .if5 .taken) (length-append (a .words .now) (a .second .now))
+    let T = c .before .before .before .before .before .before .before .before .before .before .loop .inv in
+    tells-itself T (omega arith) (c .before .before .before .before .before .before .index-at .ensures) (c .before .before .before .before .before .entry-place .ensures) (c .before .before .before .word .ensures) (c .before .before .child-in .ensures) (c .before .if4 .left) (c .before .before .before .before .if3 .left) (c .if5 .taken) (length-append (a .words .now) (a .second .now))
 
 add-result-2 : tie.Need-add-result-2 Inv-loop μ-loop
 add-result-2 c =
     let a = c .before .before .before .before .before .before .before .before .before .before .before .before .before .before .before .before .before .before .before .args in
-    let T = c .before .before .before .before .before .before .before .before .before .before .loop .inv in
+    let T = c .before .before .before .before .before .before .before .before .before .before .before .loop .inv in
     omega (arith, few-words T (granule-sane _), length-append (a .words .now) (a .second .now))
 
 sub-result-2 : tie.Need-sub-result-2 Inv-loop μ-loop
@@ -133,16 +125,16 @@ sub-result-2 c = search needs
 returns-5 : tie.Need-returns-5 Inv-loop μ-loop
 returns-5 c =
     let a = c .before .before .before .before .before .before .before .before .before .before .before .before .before .before .before .before .before .before .before .args in
-    let T = c .before .before .before .before .before .before .before .before .before .before .loop .inv in
-    tells-above T (omega arith) (c .before .before .before .before .before .before .entry-place .ensures) (c .before .before .before .before .word .ensures) (c .before .before .before .child-in .ensures) (c .before .before .if4 .left) (c .before .before .before .before .before .if3 .left) (c .if6 .taken) (length-append (a .words .now) (a .second .now))
+    let T = c .before .before .before .before .before .before .before .before .before .before .before .loop .inv in
+    tells-above T (omega arith) (c .before .before .before .before .before .before .before .index-at .ensures) (c .before .before .before .before .before .before .entry-place .ensures) (c .before .before .before .before .word .ensures) (c .before .before .before .child-in .ensures) (c .before .before .if4 .left) (c .before .before .before .before .before .if3 .left) (c .if6 .taken) (length-append (a .words .now) (a .second .now))
 
 loop-less : tie.Need-loop-less Inv-loop μ-loop
 loop-less c = search needs
 
 loop-again : tie.Need-loop-again Inv-loop μ-loop
 loop-again c =
-    let T = c .before .before .before .before .before .before .before .before .before .before .loop .inv in
-    turn-down T (omega arith) (c .before .before .before .before .before .before .entry-place .ensures) (c .before .before .before .before .word .ensures) (c .before .before .before .child-in .ensures) (c .before .before .if4 .left) (c .before .before .before .before .before .if3 .left) (c .before .if5 .left) (c .if6 .left)
+    let T = c .before .before .before .before .before .before .before .before .before .before .before .loop .inv in
+    turn-down T (omega arith) (c .before .before .before .before .before .before .before .index-at .ensures) (c .before .before .before .before .before .before .entry-place .ensures) (c .before .before .before .before .word .ensures) (c .before .before .before .child-in .ensures) (c .before .before .if4 .left) (c .before .before .before .before .before .if3 .left) (c .before .if5 .left) (c .if6 .left)
 
 loop-less-2 : tie.Need-loop-less-2 Inv-loop μ-loop
 loop-less-2 c = search needs
@@ -166,7 +158,6 @@ reach-spec =
     mul-past
     walkable-requires
     returns
-    path-of-requires
     cast-tables
     cast-tables2
     loop-holds
@@ -174,9 +165,7 @@ reach-spec =
     sub-way
     mul-way
     element-write-way
-    sub-entry-place
-    mul-entry-place
-    array-read-entry-place
+    index-at-requires
     entry-place-requires
     mul-end
     add-end

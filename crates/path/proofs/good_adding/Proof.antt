@@ -5,7 +5,7 @@ use mathlib.Core.Bool.{Bool, true, false, _&&_}
 use native.Mathlib.Omega.{arith}
 use lib.Dec.{ltb, eqb}
 use borrow.Author.Needs.{needs}
-use borrow.Author.Tests.{lt-ltb, le-ltb, not-true, not-false}
+use borrow.Author.Tests.{lt-ltb, le-ltb, eqb-true, not-true, not-false}
 use Rattle.path.specs.Geometry.{granuleOf, pageSize}
 use Rattle.path.specs.Areas.{areaOf, withSecond, total}
 use Rattle.path.specs.Numbers.{goodNumbers, goodAdding, GoodAdding}
@@ -69,14 +69,14 @@ returns-4 c = sym (not-adding _ _ _ _ _ _ (λ A. omega (arith, A .some-new)))
 returns-5 : tie.Need-returns-5
 returns-5 c = sym (no-room _ _ _ _ _ _ (omega arith))
 
-good-numbers-requires : tie.Need-good-numbers-requires
-good-numbers-requires c κs = search needs
+numbers-by-requires : tie.Need-numbers-by-requires
+numbers-by-requires c κs = eqb-true _ _ (sym (granule-page _) ∙ sym (c .before .before .before .before .before .before .before .before .good-granule .ensures) ∙ not-false _ (c .before .before .before .before .before .before .before .if1 .left))
 
 returns-6 : tie.Need-returns-6
 returns-6 c =
     let k = c .before .before .before .before .before .before .before .before in
     let a = k .before .before .args in
-    c .good-numbers .ensures
+    c .numbers-by .ensures
     ∙ numbers-left (a .s) (a .base2) (a .tables2) (a .words) (a .words + a .second) (a .places)
     (sym (granule-page _) ∙ sym (k .before .good-granule .ensures) ∙ not-false _ (k .if1 .left))
     (omega arith, omega arith)
@@ -84,4 +84,4 @@ returns-6 c =
     (omega arith)
 
 pub good-adding-spec : {M : Type 1} → statement M
-good-adding-spec = tie.close (tie.spec good-granule-requires returns returns-2 returns-3 returns-4 returns-5 good-numbers-requires returns-6)
+good-adding-spec = tie.close (tie.spec good-granule-requires returns returns-2 returns-3 returns-4 returns-5 numbers-by-requires returns-6)

@@ -1,189 +1,31 @@
--- `path::good_numbers` meets its contract: each test refuses what breaks its rule, and what is left keeps them all.
-use Prim.Native.Nat.{ℕ, _+_, _*_, _≤_}
+-- `path::good_numbers` meets its contract: any number stands for the size of its granule's pages.
 use mathlib.Core.Path.{_≡_, sym, ap, _∙_}
-use mathlib.Core.Logic.{_⊎_, inl, inr, ⊎-elim}
-use mathlib.Core.Bool.{true, false≢true}
-use native.Mathlib.Nat.{mul-add, zero-mod}
-use native.Mathlib.Omega.{arith}
 use borrow.Author.Needs.{needs}
-use borrow.Author.Tests.{eqb-true, eq-eqb, not-true, not-false}
-use Rattle.path.specs.Geometry.{Granule, granuleOf, pageSize, entries, goodLevels}
+use Prim.Native.Nat.{ℕ, _+_}
+use mathlib.Core.Bool.{Bool}
+use Rattle.path.specs.Geometry.{Granule, granuleOf, pageSize}
 use Rattle.path.specs.Areas.{areaAt}
-use Rattle.path.specs.Numbers.{mostTables, GoodNumbers}
-use Rattle.path.specs.Laws.{size-pos, good-levels, space-some, space-there, good-numbers, numbers-good, numbers-bad, same-truth}
-use Rattle.path.specs.OneRegion.{GoodRegion, good-region, region-good}
+use Rattle.path.specs.Numbers.{goodNumbers}
+use Rattle.path.specs.Laws.{page-names}
 use Rattle.path.proofs.good_numbers.Statement.{statement}
 use Rattle.path.proofs.good_numbers.Tie as tie
 
-module _ {G : Granule} {levels b n q m w places : ℕ} where
-  -- the rules of the levels and of the first region, and what is left
-  good : {v : ℕ} → goodLevels G levels ≡ true
-      → 1 ≤ n
-      → GoodRegion G b n w
-      → GoodRegion G q m v
-      → n + m ≤ mostTables
-      → (b + pageSize G * n ≤ q) ⊎ (q + pageSize G * m ≤ b)
-      → (m ≡ 0 → q ≡ 0)
-      → places ≡ n + m
-      → GoodNumbers G levels (areaAt b n q m) w (w + v) places
-  good e s R Q f apart none p = record {
-    enough = good-levels G levels e .0;
-    not-more = good-levels G levels e .1;
-    some-table = s;
-    few = f;
-    placed = record { aligned = R .aligned; fits = R .fits; aligned₂ = Q .aligned; fits₂ = Q .fits; apart = apart; no-second = none };
-    cut-is = R .words-are;
-    words-are = omega (arith, mul-add (entries G) n m, R .words-are, Q .words-are);
-    places-are = p;
-  }
-
-  -- the numbers ask of each region what is asked of it by itself
-  first : {words : ℕ} → GoodNumbers G levels (areaAt b n q m) w words places → GoodRegion G b n w
-  first N = record { few = omega (arith, N .few); aligned = N .placed .aligned; fits = N .placed .fits; words-are = N .cut-is }
-
-  second : {v : ℕ} → GoodNumbers G levels (areaAt b n q m) w (w + v) places → GoodRegion G q m v
-  second N = record {
-    few = omega (arith, N .few);
-    aligned = N .placed .aligned₂;
-    fits = N .placed .fits₂;
-    words-are = omega (arith, mul-add (entries G) n m, N .cut-is, N .words-are);
-  }
-
--- no region at all
-none : (G : Granule) {q m v : ℕ} → q ≡ 0 → m ≡ 0 → v ≡ 0 → GoodRegion G q m v
-none G e f g = record { few = omega arith; aligned = rw e (zero-mod (pageSize G)); fits = rw (e, f) (omega arith); words-are = rw f (omega arith) }
-
-space-of-requires : tie.Need-space-of-requires
-space-of-requires c κs = search needs
-
-returns : tie.Need-returns
-returns c =
-    let a = c .before .before .args in
-    let G = granuleOf (a .granule) in
-    sym (numbers-bad (λ N. omega (arith, c .before .space-of .ensures, space-some G (N .enough) (N .not-more), size-pos G (a .levels))))
-
-returns-2 : tie.Need-returns-2
-returns-2 c = sym (numbers-bad (λ N. omega (arith, N .some-table)))
-
-good-region-requires : tie.Need-good-region-requires
-good-region-requires c κs = search needs
-
-returns-3 : tie.Need-returns-3
-returns-3 c = sym (numbers-bad (λ N. false≢true (sym (not-true _ (c .if3 .taken)) ∙ c .before .good-region .ensures ∙ region-good (first N))))
-
-returns-4 : tie.Need-returns-4
-returns-4 c = sym (numbers-bad (λ N. omega (arith, N .placed .no-second (omega arith))))
-
-returns-5 : tie.Need-returns-5
-returns-5 c =
-    let a = c .before .before .before .before .before .before .before .before .args in
-    sym (numbers-bad (λ N. omega (arith, second N .words-are, ap (λ (m : ℕ). entries (granuleOf (a .granule)) * m) (c .before .before .if4 .taken))))
-
-returns-6 : tie.Need-returns-6
-returns-6 c =
-    let k = c .before .before .before .before in
-    let a = k .before .before .before .before .args in
-    let G = granuleOf (a .granule) in
-    let R = good-region (sym (k .good-region .ensures) ∙ not-false _ (c .before .before .before .if3 .left)) in
-    same-truth _ _
-    (λ e. numbers-good (good
-    (space-there G (a .levels) (λ z. k .before .before .if1 .left (k .before .before .before .space-of .ensures ∙ z)))
-    (omega arith)
-    R
-    (none G (omega arith) (omega arith) (omega arith))
-    (omega (arith, R .few))
-    (inr (omega (arith, ap (λ (m : ℕ). pageSize G * m) (c .before .before .if4 .taken))))
-    (λ z. omega arith)
-    (omega (arith, eqb-true (a .places) (a .tables) e))))
-    (λ e. eq-eqb (a .places) (a .tables) (omega (arith, good-numbers e .places-are)))
-
-good-region-requires-2 : tie.Need-good-region-requires-2
-good-region-requires-2 c κs = search needs
-
-returns-7 : tie.Need-returns-7
-returns-7 c = sym (numbers-bad (λ N. false≢true (sym (not-true _ (c .if7 .taken)) ∙ c .before .good-region2 .ensures ∙ region-good (second N))))
+-- the granule that the size of a granule's pages names
+same : (number : ℕ) {page : ℕ} → page ≡ pageSize (granuleOf number) → granuleOf page ≡ granuleOf number
+same number e = ap granuleOf e ∙ page-names number
 
 page-of-requires : tie.Need-page-of-requires
 page-of-requires c κs = search needs
 
-mul-if8 : tie.Need-mul-if8
-mul-if8 c =
-    let R = good-region (sym (c .before .before .before .before .before .good-region .ensures) ∙ not-false _ (c .before .before .before .before .if3 .left)) in
-    omega (arith, rw (← c .page-of .ensures) at (R .fits))
+numbers-by-requires : tie.Need-numbers-by-requires
+numbers-by-requires c κs = c .page-of .ensures ∙ ap pageSize (sym (same (c .before .args .granule) (c .page-of .ensures)))
 
-add-if8 : tie.Need-add-if8
-add-if8 c =
-    let R = good-region (sym (c .before .before .before .before .before .good-region .ensures) ∙ not-false _ (c .before .before .before .before .if3 .left)) in
-    omega (arith, rw (← c .page-of .ensures) at (R .fits))
-
-mul-if9 : tie.Need-mul-if9
-mul-if9 c =
-    let Q = good-region (sym (c .before .before .before .good-region2 .ensures) ∙ not-false _ (c .before .before .if7 .left)) in
-    omega (arith, rw (← c .before .page-of .ensures) at (Q .fits))
-
-add-if9 : tie.Need-add-if9
-add-if9 c =
-    let Q = good-region (sym (c .before .before .before .good-region2 .ensures) ∙ not-false _ (c .before .before .if7 .left)) in
-    omega (arith, rw (← c .before .page-of .ensures) at (Q .fits))
-
-returns-8 : tie.Need-returns-8
-returns-8 c =
-    let e = c .before .before .page-of .ensures in
-    sym (numbers-bad (λ N. ⊎-elim (λ l. omega (arith, rw (← e) at l)) (λ l. omega (arith, rw (← e) at l)) (N .placed .apart)))
-
-sub-if10 : tie.Need-sub-if10
-sub-if10 c =
-    let R = good-region (sym (c .before .before .before .before .before .before .good-region .ensures) ∙ not-false _ (c .before .before .before .before .before .if3 .left)) in
-    omega (arith, R .few)
-
-returns-9 : tie.Need-returns-9
-returns-9 c = sym (numbers-bad (λ N. omega (arith, N .few)))
-
-add-result : tie.Need-add-result
-add-result c =
-    let R = good-region (sym (c .before .before .before .before .before .before .before .good-region .ensures) ∙ not-false _ (c .before .before .before .before .before .before .if3 .left)) in
-    let Q = good-region (sym (c .before .before .before .before .good-region2 .ensures) ∙ not-false _ (c .before .before .before .if7 .left)) in
-    omega (arith, R .few, Q .few)
-
-returns-10 : tie.Need-returns-10
-returns-10 c =
-    let a = c .before .before .before .before .before .before .before .before .before .before .before .args in
-    let R = good-region (sym (c .before .before .before .before .before .before .before .good-region .ensures) ∙ not-false _ (c .before .before .before .before .before .before .if3 .left)) in
-    let Q = good-region (sym (c .before .before .before .before .good-region2 .ensures) ∙ not-false _ (c .before .before .before .if7 .left)) in
-    let e = c .before .before .page-of .ensures in
-    same-truth _ _
-    (λ t. numbers-good (good
-    (space-there (granuleOf (a .granule)) (a .levels) (λ z. c .before .before .before .before .before .before .before .before .before .if1 .left (c .before .before .before .before .before .before .before .before .before .before .space-of .ensures ∙ z)))
-    (omega arith)
-    R
-    Q
-    (omega (arith, R .few))
-    (⊎-elim (λ way. inr (rw (← e) (omega (arith, way .1 .left)))) (λ way. inl (rw (← e) (omega (arith, way .left)))) (c .before .if8 .came))
-    (λ z. omega arith)
-    (eqb-true _ _ t)))
-    (λ t. eq-eqb _ _ (good-numbers t .places-are))
+returns : tie.Need-returns
+returns c =
+    let a = c .before .before .args in
+    c .numbers-by .ensures
+    ∙ ap (λ (G : Granule). goodNumbers G (a .levels) (areaAt (a .base) (a .tables) (a .base2) (a .tables2)) (a .words) (a .words + a .second) (a .places))
+    (same (a .granule) (c .before .page-of .ensures))
 
 pub good-numbers-spec : {M : Type 1} → statement M
-good-numbers-spec =
-    tie.close
-    (tie.spec
-    space-of-requires
-    returns
-    returns-2
-    good-region-requires
-    returns-3
-    returns-4
-    returns-5
-    returns-6
-    good-region-requires-2
-    returns-7
-    page-of-requires
-    mul-if8
-    add-if8
-    mul-if9
-    add-if9
-    returns-8
-    sub-if10
-    returns-9
-    add-result
-    returns-10)
+good-numbers-spec = tie.close (tie.spec page-of-requires numbers-by-requires returns)
