@@ -478,7 +478,7 @@ impl Lent {
         line(&format!("{} query {address:#x} = {r} {answer:?}", self.name));
         let [levels, base, tables, free, base2, tables2, granule] = self.setup;
         let setup = || path::Setup { levels, base, tables, free, base2, tables2, granule };
-        let r = tried(|| armwalk::stage2(&self.words, &self.second, base, base2, levels, address));
+        let r = tried(|| armwalk::stage2(granule, &self.words, &self.second, base, base2, levels, address));
         line(&format!("{} stage2 {address:#x} = {r}", self.name));
         for target in [0, 1, 2, 3] {
             let r = tried(|| lookup::walk_to(setup(), &self.words, &self.second, target, address));

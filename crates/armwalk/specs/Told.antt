@@ -45,7 +45,7 @@ stands G S area first second placed long t i l m = go (decLt t (area .tables))
         let at = area .base₂ + pageSize G * (t - area .tables) + 8 * i in
         let z : t ≡ area .tables + (t - area .tables) = omega arith in
         let e : length first + (at - area .base₂) / 8 ≡ entries G * t + i =
-            omega (arith, bytes (t - area .tables), ap (λ (x : ℕ). entries G * x) z, mul-add (entries G) (area .tables) (t - area .tables)) in
+        omega (arith, bytes (t - area .tables), ap (λ (x : ℕ). entries G * x) z, mul-add (entries G) (area .tables) (t - area .tables)) in
         rw (le-ltb t (area .tables) (omega arith))
         (sym (memory-second (area .base) first (area .base₂) second at (within-not (area .base) (length first) at (past (placed .apart))) (omega arith)) ∙ ap (λ (j : ℕ). getD (first ++ second) j 0) e)
       where
