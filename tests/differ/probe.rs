@@ -722,7 +722,7 @@ fn histories() {
         Lent::format("refused", levels, base, tables, lent).audit();
     }
     for (base2, tables2) in [(BASE, 2), (BASE + PAGE, 2), (BASE - PAGE, 2), (MORE, 0), (MORE + 1, 2), (TOP - PAGE, 2), (MORE, 511), (MORE, 1)] {
-        Lent::format_two("refused", 3, BASE, 2, base2, tables2, 2, 2).audit();
+        Lent::format_two("refused", 3, BASE, 2, base2, tables2, PAGE, 2, 2).audit();
     }
     for levels in [3, 4] {
         for tables in [1, 2, 3, 4, 5, 6, 8] {
