@@ -12,7 +12,7 @@ use lib.ListN.{length, getD}
 use lib.Pow.{pow-pos, pow-mono, pow-add, mod-pow-add}
 use borrow.Author.Tests.{eq-eqb, ne-eqb, le-leb, lt-leb, lt-ltb, le-ltb, leb-true, leb-false, ltb-true}
 use Rattle.laws.specs.ListLaws.{getD-first, getD-later}
-use Rattle.path.specs.Geometry.{Granule, four, sixteen, granuleOf, entries, physical, goodLevels}
+use Rattle.path.specs.Geometry.{Granule, granuleOf, entries, physical, goodLevels}
 use Rattle.path.specs.Laws.{granule-either, granule-sane, entries-most}
 use Rattle.hardware.specs.Machine.{Translation, validBit, tableBit, accessFlag, addressFrom, shift, indexBits, outputOf, largestBlock, inputEnd}
 use Rattle.hardware.specs.Machine.{leaf, valid, stepBy, onStep, walk, stage2}

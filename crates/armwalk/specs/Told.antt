@@ -10,7 +10,7 @@ use lib.ListN.{length, getD}
 use lib.Pow.{pow-add}
 use borrow.Author.Tests.{le-leb, lt-ltb, le-ltb}
 use Rattle.path.specs.Geometry.{Granule, Sane, granuleOf, pageSize, entries, physical, goodLevels}
-use Rattle.path.specs.Areas.{Area, areaOf, total, tableAt, GoodArea}
+use Rattle.path.specs.Areas.{Area, areaOf, tableAt, GoodArea}
 use Rattle.path.specs.Laws.{granule-sane, in-table}
 use Rattle.path.specs.declared.Setup.{Setup}
 use Rattle.model.specs.Answers.{pool}
