@@ -1,11 +1,12 @@
 /* The machine as judge: does the processor's own walker read the tables as oak_query does?
  *
  * Runs at EL2 on the board (arm/judge). The pool stands at its own physical address, in one region or in two, and is the machine's
- * stage 2. Seeded histories of calls change it; in some a second region is added. After each call, and at the end of a history for every live mapping, the machine is asked by AT S12E1R and
- * AT S12E1W what it makes of an address: inside mappings and outside, at their edges, past the space. Its answer, PAR_EL1, has to be
- * what oak_query says: the frame, memory type and shareability, or a fault of the right kind and level; where nothing is mapped, the
- * level at which the machine's walk stopped is that of the hole. oak_query has to say what a plain list of the accepted maps says, and
- * the audit has to count as many mappings.
+ * stage 2: three or four levels of 4 KiB tables, or three of 16 KiB. Seeded histories of calls change it; in some a second region is
+ * added. After each call, and at the end of a history for every live mapping, the machine is asked by AT S12E1R and AT S12E1W what it
+ * makes of an address: inside mappings and outside, at their edges, past the space. Its answer, PAR_EL1, has to be what oak_query says:
+ * the frame, memory type and shareability, or a fault of the right kind and level; where nothing is mapped, the level at which the
+ * machine's walk stopped is that of the hole. oak_query has to say what a plain list of the accepted maps says, and the audit has to
+ * count as many mappings.
  *
  * AT does not tell whether an instruction may be fetched. So a guest also loads, stores and fetches, under all sixteen attributes.
  * The last line is 'N passed, M failed': each history is one test, and each of the two parts at the end is one. */
@@ -14,18 +15,39 @@
 #include "board.h"
 #include "oakabut.h"
 
-enum { HISTORIES = 64, CALLS = 96, MOST_TABLES = 512, MOST_SECOND = 8 };
+/* the last third of the histories is of the larger granule */
+enum { HISTORIES = 96, CALLS = 96, MOST_TABLES = 512, MOST_SECOND = 8 };
 
-static uint64_t pool[512 * MOST_TABLES] __attribute__((aligned(4096)));
-static uint64_t spare[512 * MOST_SECOND] __attribute__((aligned(4096))); /* the second region, where there is one */
+static uint64_t pool[2048 * MOST_TABLES] __attribute__((aligned(16384)));
+static uint64_t spare[2048 * MOST_SECOND] __attribute__((aligned(16384))); /* the second region, where there is one */
 static uint32_t list[MOST_TABLES];
 static oak_setup setup;
-#define LENT pool, 512 * setup.tables, spare, 512 * setup.second_tables, list, setup.tables + setup.second_tables
+#define WORDS(tables) (granule / 8 * (tables))
+#define LENT pool, WORDS(setup.tables), spare, WORDS(setup.second_tables), list, setup.tables + setup.second_tables
 
 static uint64_t passed, failed, differences;
-static const uint64_t sizes[3] = {OAK_4_KIB, OAK_2_MIB, OAK_1_GIB};
 
-static uint64_t size_number(uint64_t size) { return size == OAK_4_KIB ? 0 : size == OAK_2_MIB ? 1 : 2; }
+/* ---- the granule of the pool: the sizes of its frames, and the trees that there are */
+
+static uint64_t granule;
+
+enum { THREE, FOUR, LARGE, TREES };
+static unsigned tree(void) { return granule == OAK_16_KIB ? LARGE : setup.levels == 3 ? THREE : FOUR; }
+
+static const uint64_t of_4_kib[] = {OAK_4_KIB, OAK_2_MIB, OAK_1_GIB}, of_16_kib[] = {OAK_16_KIB, OAK_32_MIB};
+static uint64_t size_count(void) { return granule == OAK_16_KIB ? 2 : 3; }
+static uint64_t size_of(uint64_t number) { return granule == OAK_16_KIB ? of_16_kib[number] : of_4_kib[number]; }
+
+static uint64_t size_number(uint64_t size) {
+    uint64_t number = 0;
+    while (number + 1 < size_count() && size_of(number) != size) number++;
+    return number;
+}
+
+/* what an entry of a level stands for: the last level is 3 */
+static uint64_t size_at(uint64_t level) { return UINT64_C(1) << (granule == OAK_16_KIB ? 47 - 11 * level : 39 - 9 * level); }
+
+static uint64_t space(void) { return granule == OAK_16_KIB ? UINT64_C(1) << 47 : setup.levels == 3 ? UINT64_C(1) << 39 : UINT64_C(1) << 48; }
 
 static void test(bool good) {
     if (good) passed++;
@@ -55,8 +77,6 @@ static const oak_found *live_in(uint64_t base, uint64_t size) {
     return NULL;
 }
 
-static uint64_t size_at(uint64_t level) { return UINT64_C(1) << (39 - 9 * level); }
-
 /* The level of the entry at which a walk for an address that is not mapped must end: the first whose region has no mapping in it, since
  * tables stand exactly where mappings need them. */
 static uint64_t hole_level(uint64_t address) {
@@ -69,7 +89,7 @@ static uint64_t hole_level(uint64_t address) {
 
 enum { TRANSLATED, FORBIDDEN, NOTHING, PAST, KINDS };
 static uint64_t asked[KINDS];      /* how often each kind of answer was due */
-static uint64_t hits[2][3][16][2]; /* the same for mapped addresses: by levels, size, attributes, read or write */
+static uint64_t hits[TREES][3][16][2]; /* the same for mapped addresses: by tree, size, attributes, read or write */
 
 /* PAR_EL1's ATTR and SH. Stage 1 says 'normal, write-back, not shared', so what they show is what stage 2 says. */
 #define DEVICE 0x00     /* Device-nGnRnE */
@@ -98,7 +118,7 @@ static bool agrees(uint64_t address, bool write, uint64_t refusal, const oak_fou
                found->hole_base == address - address % size_at(level);
     }
     if (refusal != 0) return false;
-    hits[setup.levels - 3][size_number(found->size)][found->attributes][write]++;
+    hits[tree()][size_number(found->size)][found->attributes][write]++;
     if (!(found->attributes & (write ? OAK_WRITE : OAK_READ))) {
         asked[FORBIDDEN]++;
         return fault && stage2 && kind == 3 && level == 3 - size_number(found->size);
@@ -113,7 +133,7 @@ static void ask(uint64_t address) {
     oak_found found;
     const oak_found *want = live_in(address, 1);
     uint64_t refusal = oak_query(&setup, LENT, address, &found);
-    bool as_listed = want == NULL ? refusal == (address >> (setup.levels == 3 ? 39 : 48) ? 4 : 9)
+    bool as_listed = want == NULL ? refusal == (address >= space() ? 4 : 9)
                                   : refusal == 0 && memcmp(want, &found, sizeof found) == 0;
     for (int write = 0; write < 2; write++) {
         uint64_t par = machine(address, write);
@@ -138,18 +158,18 @@ static void ask_around(uint64_t address, uint64_t size) {
 
 /* an address in one of few regions, so that mappings lie side by side: at each level one of four indices, or any */
 static uint64_t some_address(uint64_t size) {
-    static const uint64_t few[] = {0, 1, 2, 511};
+    const uint64_t few[] = {0, 1, 2, granule / 8 - 1};
     uint64_t address = 0;
-    for (uint64_t level = 0; level < setup.levels; level++) {
-        uint64_t index = below(8) == 0 ? below(512) : few[below(4)];
-        address += index << (12 + 9 * level);
+    for (uint64_t level = 4 - setup.levels; level < 4; level++) {
+        uint64_t index = below(8) == 0 ? below(granule / 8) : few[below(4)];
+        address += index * size_at(level);
     }
     return address - address % size;
 }
 
 static void map_something(void) {
     oak_mapped answer;
-    uint64_t size = sizes[below(3)], address = some_address(size), last = (UINT64_C(1) << 48) - size;
+    uint64_t size = size_of(below(size_count())), address = some_address(size), last = (UINT64_C(1) << 48) - size;
     uint64_t frame = below(8) == 0 ? last : below(last / size) * size, attributes = below(16);
     if (oak_map(&setup, LENT, address, frame, size, attributes, &answer) == 0)
         live[lives++] = (oak_found){address, frame, size, attributes, 0, 0};
@@ -160,7 +180,7 @@ static void map_something(void) {
 
 static void unmap_something(void) {
     oak_unmapped answer;
-    uint64_t which = below(CALLS), address = which < lives ? live[which].base : some_address(OAK_4_KIB);
+    uint64_t which = below(CALLS), address = which < lives ? live[which].base : some_address(granule);
     uint64_t refusal = oak_unmap(&setup, LENT, address, &answer);
     for (uint64_t i = 0; refusal == 0 && i < lives; i++)
         if (live[i].base == address) {
@@ -169,7 +189,7 @@ static void unmap_something(void) {
         }
     setup = answer.setup;
     stage2_changed();
-    ask_around(address, refusal == 0 ? answer.size : OAK_4_KIB);
+    ask_around(address, refusal == 0 ? answer.size : granule);
 }
 
 static uint64_t tables_there(void) { return setup.tables + setup.second_tables; }
@@ -181,8 +201,9 @@ static bool add_something(uint64_t tables) {
     oak_setup answer;
     bool inside = false;
     for (uint64_t i = 0; i < lives; i++)
-        inside |= live[i].frame < (uint64_t)spare + 4096 * tables && (uint64_t)spare < live[i].frame + live[i].size;
-    uint64_t refusal = oak_add(&setup, pool, 512 * setup.tables, spare, 512 * tables, list, setup.tables + tables, (uint64_t)spare, tables, &answer);
+        inside |= live[i].frame < (uint64_t)spare + granule * tables && (uint64_t)spare < live[i].frame + live[i].size;
+    uint64_t refusal =
+        oak_add(&setup, pool, WORDS(setup.tables), spare, WORDS(tables), list, setup.tables + tables, (uint64_t)spare, tables, &answer);
     setup = answer;
     if (refusal == 0) added++;
     else not_added++;
@@ -193,17 +214,19 @@ static bool add_something(uint64_t tables) {
 
 static void history(uint64_t number) {
     static const uint64_t counts[] = {1, 2, 3, 4, 6, 9, 16, 512};
-    uint64_t levels = 3 + number % 2, tables = counts[number / 2 % 8], before = differences, unsound = 0;
+    uint64_t larger = number >= HISTORIES / 3 * 2, levels = larger ? 3 : 3 + number % 2, tables = counts[number / 2 % 8];
+    uint64_t before = differences, unsound = 0;
     /* a third of the pools has two regions from the start, and a third gets the second one half way */
     uint64_t more = tables + MOST_SECOND > MOST_TABLES ? 0 : 1 + number % MOST_SECOND, at_once = number % 3 == 0 ? more : 0;
+    granule = larger ? OAK_16_KIB : OAK_4_KIB;
     state = 1000003 * number;
     lives = 0;
-    memset(pool, 0xFF, sizeof pool);
+    memset(pool, 0xFF, WORDS(tables) * sizeof *pool);
     memset(spare, 0xFF, sizeof spare);
-    if (oak_format(levels, (uint64_t)pool, tables, at_once == 0 ? 0 : (uint64_t)spare, at_once, pool, 512 * tables, spare, 512 * at_once, list,
-                   tables + at_once, &setup) != 0)
+    if (oak_format(levels, (uint64_t)pool, tables, at_once == 0 ? 0 : (uint64_t)spare, at_once, granule, pool, WORDS(tables), spare,
+                   WORDS(at_once), list, tables + at_once, &setup) != 0)
         unsound++;
-    stage2_on(levels, (uint64_t)pool);
+    stage2_on(levels, granule, (uint64_t)pool);
     for (uint64_t call = 0; call < CALLS; call++) {
         oak_audited counted;
         if (call == CALLS / 2 && number % 3 == 1 && more != 0 && !add_something(more)) unsound++;
@@ -211,8 +234,8 @@ static void history(uint64_t number) {
         else map_something();
         if (oak_audit(&setup, LENT, &counted) != 0 || counted.mappings != lives || counted.tables + setup.free != tables_there()) unsound++;
         for (int i = 0; i < 4; i++) {
-            uint64_t page = some_address(OAK_4_KIB);
-            ask(page + below(OAK_4_KIB));
+            uint64_t page = some_address(granule);
+            ask(page + below(granule));
         }
         maps = lives > maps ? lives : maps;
     }
@@ -222,16 +245,17 @@ static void history(uint64_t number) {
     bool good = differences == before && unsound == 0;
     test(good);
     if (!good)
-        say("history %u: %u levels, %u tables: %u differences, %u calls refused or pools not accepted\n", number, levels, tables,
-            differences - before, unsound);
+        say("history %u: %u levels, %u tables of %u bytes: %u differences, %u calls refused or pools not accepted\n", number, levels, tables,
+            granule, differences - before, unsound);
 }
 
-/* every size and attribute was asked in both spaces, for reading and for writing */
+/* every size and attribute was asked in each tree, for reading and for writing */
 static void all_asked(void) {
     uint64_t least = UINT64_MAX;
-    const uint64_t *hit = &hits[0][0][0][0];
-    for (size_t i = 0; i < sizeof hits / sizeof *hit; i++)
-        if (hit[i] < least) least = hit[i];
+    for (unsigned of = 0; of < TREES; of++)
+        for (unsigned size = 0; size < (of == LARGE ? 2 : 3); size++)
+            for (unsigned i = 0; i < 32; i++)
+                if (hits[of][size][i / 2][i % 2] < least) least = hits[of][size][i / 2][i % 2];
     say("%u histories of %u calls, up to %u mappings, %u tables; a second region added %u times, %u times refused\n", (uint64_t)HISTORIES,
         (uint64_t)CALLS, maps, (uint64_t)MOST_TABLES, added, not_added);
     say("AT: %u translated, %u not permitted, %u not mapped, %u past the space; each size and attribute at least %u times; %u differences\n",
@@ -242,7 +266,7 @@ static void all_asked(void) {
 /* ---- a guest that loads, stores and fetches */
 
 /* the guest's program: a load and a store at x1, each followed by a call */
-__asm__(".text\n .balign 4096\n load_stub: ldr x0, [x1]\n hvc #0\n store_stub: str x0, [x1, #8]\n hvc #0\n .balign 4096");
+__asm__(".text\n .balign 16384\n load_stub: ldr x0, [x1]\n hvc #0\n store_stub: str x0, [x1, #8]\n hvc #0\n .balign 16384");
 extern const char load_stub[], store_stub[];
 
 /* what it reaches, in a GiB of memory that holds nothing else: the word at the spot is the instruction HVC, the next is for the store */
@@ -257,7 +281,7 @@ static uint64_t access_count, access_wrong;
  * there for that reason. At EL0 the call that follows is no instruction: it goes to the guest's own vectors, where nothing is mapped. */
 static void access_at(uint64_t pstate, enum cause cause, uint64_t address, bool mapped, bool may) {
     struct registers guest = {.x = {[0] = 77, [1] = address}, .pstate = pstate};
-    guest.pc = cause == FETCH ? address : (uint64_t)(cause == READ ? load_stub : store_stub) % 4096;
+    guest.pc = cause == FETCH ? address : (uint64_t)(cause == READ ? load_stub : store_stub) % granule;
     spot[0] = HVC, spot[1] = 0;
     run_guest(&guest);
     struct trap trap = why();
@@ -295,18 +319,20 @@ static void accesses(uint64_t size, uint64_t attributes) {
     access(FETCH, address, false, false);
 }
 
-static void all_accesses(uint64_t levels) {
+static void all_accesses(uint64_t levels, uint64_t of_granule) {
     oak_mapped mapped;
-    access_wrong += oak_format(levels, (uint64_t)pool, 2, (uint64_t)spare, 6, pool, 512 * 2, spare, 512 * 6, list, 8, &setup) != 0;
-    access_wrong += oak_map(&setup, LENT, 0, (uint64_t)load_stub, OAK_4_KIB, OAK_READ | OAK_EXECUTE, &mapped) != 0;
+    granule = of_granule;
+    access_wrong +=
+        oak_format(levels, (uint64_t)pool, 2, (uint64_t)spare, 6, granule, pool, WORDS(2), spare, WORDS(6), list, 8, &setup) != 0;
+    access_wrong += oak_map(&setup, LENT, 0, (uint64_t)load_stub, granule, OAK_READ | OAK_EXECUTE, &mapped) != 0;
     setup = mapped.setup;
     /* a guest is never given its own tables */
-    access_wrong += oak_map(&setup, LENT, OAK_4_KIB, (uint64_t)pool, OAK_4_KIB, OAK_READ, &mapped) != OAK_REFUSED_POOL;
-    access_wrong += oak_map(&setup, LENT, OAK_4_KIB, (uint64_t)spare, OAK_4_KIB, OAK_READ, &mapped) != OAK_REFUSED_POOL;
-    stage2_on(levels, (uint64_t)pool);
+    access_wrong += oak_map(&setup, LENT, granule, (uint64_t)pool, granule, OAK_READ, &mapped) != OAK_REFUSED_POOL;
+    access_wrong += oak_map(&setup, LENT, granule, (uint64_t)spare, granule, OAK_READ, &mapped) != OAK_REFUSED_POOL;
+    stage2_on(levels, granule, (uint64_t)pool);
     WRITE_REGISTER(vbar_el1, NO_VECTORS);
-    for (uint64_t i = 0; i < 3; i++)
-        for (uint64_t attributes = 0; attributes < 16; attributes++) accesses(sizes[i], attributes);
+    for (uint64_t i = 0; i < size_count(); i++)
+        for (uint64_t attributes = 0; attributes < 16; attributes++) accesses(size_of(i), attributes);
 }
 
 /* How much of our stack was ever used: it is filled with a pattern before the first call. */
@@ -326,10 +352,15 @@ static uint64_t stack_used(void) {
 
 int main(void) {
     paint_stack();
+    if (!has_16_kib()) {
+        say("this processor has no granule of 16 KiB at stage 2\n0 passed, 1 failed\n");
+        return 1;
+    }
     for (uint64_t number = 0; number < HISTORIES; number++) history(number);
     all_asked();
-    all_accesses(3);
-    all_accesses(4);
+    all_accesses(3, OAK_4_KIB);
+    all_accesses(4, OAK_4_KIB);
+    all_accesses(3, OAK_16_KIB);
     say("a guest's accesses: %u, %u differences\n", access_count, access_wrong);
     test(access_wrong == 0);
     say("stack: at most %u bytes, this program's own part included\n", stack_used());

@@ -3,8 +3,9 @@
  * arm/same builds this file twice, for x86-64 and for Arm, each time with the library of that machine, runs both and compares what
  * they write. All calls come from one fixed generator. A history formats a pool and then makes calls of every kind on it, most of them
  * sensible, some past a limit, some with a setup or a length that breaks the rules; every other history also damages the pool now
- * and then. Some pools have two regions of tables from the start, and to the others one may be added. Each answer goes into a hash,
- * refusals and records alike, and after each call all words of both runs and places of the list do too.
+ * and then. Some pools have two regions of tables from the start, and to the others one may be added. A third of the histories begins
+ * with the larger granule; now and then a pool is lent under the number of the other one. Each answer goes into a hash, refusals and
+ * records alike, and after each call all words of both runs and places of the list do too.
  *
  * A line begins with the number of its history: every 64th call with its answer, and at the end the hashes. The last line counts
  * how often each function gave each answer; the program fails where one that can be given never was. */
@@ -15,12 +16,17 @@
 
 #include "oakabut.h"
 
-enum { HISTORIES = 96, CALLS = 256, SHOW = 64, MOST_TABLES = 512, USUAL_TABLES = 64, MOST_SECOND = 16, MAPPED = 16 };
+enum { HISTORIES = 144, CALLS = 256, SHOW = 64, MOST_TABLES = 512, USUAL_TABLES = 64, MOST_SECOND = 16, MAPPED = 16 };
+enum { WORDS = 512 * MOST_TABLES, SECOND_WORDS = 2048 * MOST_SECOND, PLACES = MOST_TABLES + 4 * MOST_SECOND };
 #define LIMIT (UINT64_C(1) << 48)
 
-static uint64_t words[512 * MOST_TABLES], second[512 * MOST_SECOND];
-static uint32_t list[MOST_TABLES + MOST_SECOND];
+static uint64_t words[WORDS], second[SECOND_WORDS];
+static uint32_t list[PLACES];
 static oak_setup setup;
+
+/* the size of the pool's tables and the words of so many; of the smaller granule where the number is none */
+static uint64_t table(void) { return setup.granule == OAK_16_KIB ? OAK_16_KIB : OAK_4_KIB; }
+static uint64_t words_of(uint64_t granule, uint64_t tables) { return (granule == OAK_16_KIB ? 2048 : 512) * tables; }
 
 /* ---- numbers from a fixed generator; no expression draws two, since C leaves their order open */
 
@@ -44,24 +50,33 @@ static uint64_t anything(void) {
 
 static uint64_t some_size(void) {
     static const uint64_t sizes[] = {OAK_4_KIB, OAK_4_KIB, OAK_4_KIB, OAK_2_MIB, OAK_2_MIB, OAK_1_GIB};
+    static const uint64_t larger[] = {OAK_16_KIB, OAK_16_KIB, OAK_16_KIB, OAK_32_MIB, OAK_32_MIB, OAK_32_MIB};
     if (once_in(32)) return anything();
     if (once_in(32)) return UINT64_C(1) << below(64);
-    return sizes[below(6)];
+    return once_in(16) == (table() == OAK_16_KIB) ? sizes[below(6)] : larger[below(6)];
+}
+
+/* a granule's number, or one beside it */
+static uint64_t some_granule(void) {
+    static const uint64_t numbers[] = {0, 4095, 4096, 8192, 16383, 16384, 65536};
+    return once_in(8) ? anything() : numbers[below(7)];
 }
 
 static uint64_t some_attributes(void) { return once_in(32) ? anything() : below(16); }
 
 /* an address in one of few regions, so that calls meet each other: at each level one of four indices, or any */
 static uint64_t some_address(uint64_t size) {
-    static const uint64_t few[] = {0, 1, 2, 511};
-    uint64_t address = 0;
+    const uint64_t entries = table() / 8, few[] = {0, 1, 2, entries - 1};
+    uint64_t address = 0, region = table();
     if (once_in(32)) return anything();
     for (unsigned level = 0; level < setup.levels && level < 4; level++) {
-        uint64_t index = once_in(12) ? below(512) : few[below(4)];
-        address += index << (12 + 9 * level);
+        uint64_t index = once_in(12) ? below(entries) : few[below(4)];
+        address += index * region;
+        region *= entries;
     }
     if (once_in(40)) address += UINT64_C(1) << (39 + below(25));
-    if (once_in(32)) return address + below(4096);
+    if (once_in(32)) return address + below(table());
+    if (once_in(32)) return address + OAK_4_KIB * below(4);
     return size != 0 && !once_in(32) ? address - address % size : address;
 }
 
@@ -69,7 +84,7 @@ static uint64_t some_frame(uint64_t size) {
     if (once_in(32)) return anything();
     if (once_in(16)) return LIMIT - size;
     if (once_in(12) && size != 0) {
-        uint64_t first = setup.base + 4096 * below(setup.tables + 1), more = setup.second_base + 4096 * below(setup.second_tables + 1);
+        uint64_t first = setup.base + table() * below(setup.tables + 1), more = setup.second_base + table() * below(setup.second_tables + 1);
         uint64_t near = (setup.second_tables != 0 && once_in(2) ? more : first) - (once_in(3) ? size : 0);
         return near - near % size;
     }
@@ -87,15 +102,15 @@ static void add(uint64_t number) {
     hash ^= hash >> 29;
 }
 
-static void add_memory(uint64_t tables, uint64_t second_tables) {
-    for (size_t i = 0; i < 512 * tables; i++) add(words[i]);
-    for (size_t i = 0; i < 512 * second_tables; i++) add(second[i]);
-    for (size_t i = 0; i < tables + second_tables; i++) add(list[i]);
+static void add_memory(size_t words_len, size_t second_len, size_t list_len) {
+    for (size_t i = 0; i < words_len; i++) add(words[i]);
+    for (size_t i = 0; i < second_len; i++) add(second[i]);
+    for (size_t i = 0; i < list_len; i++) add(list[i]);
 }
 
 /* takes an answer of count numbers into the hash, and writes it now and then */
 static void answered(unsigned function, const char *name, uint64_t refusal, const void *answer, size_t count) {
-    uint64_t numbers[12];
+    uint64_t numbers[13];
     memcpy(numbers, answer, 8 * count);
     given[function][refusal < 12 ? refusal : function > 5 ? 0 : 12]++;
     add(refusal);
@@ -114,17 +129,29 @@ struct lent {
 };
 #define LENT(l) words, l.words, second, l.second, list, l.list
 
+/* the same words under the number of the other granule, where one table is four of the smaller */
+static struct lent mixed_up(struct lent l) {
+    oak_setup *s = &l.setup;
+    if (table() == OAK_16_KIB) s->granule = OAK_4_KIB, s->tables *= 4, s->second_tables *= 4;
+    else s->granule = OAK_16_KIB, s->levels = 3, s->tables /= 4, s->second_tables /= 4, s->free /= 4;
+    l.words = words_of(s->granule, s->tables), l.second = words_of(s->granule, s->second_tables), l.list = s->tables + s->second_tables;
+    if (s->second_tables == 0) s->second_base = 0;
+    return l;
+}
+
 /* the setup and the lengths of the pool; now and then one of them is wrong */
 static struct lent lent(void) {
-    struct lent l = {setup, 512 * setup.tables, 512 * setup.second_tables, setup.tables + setup.second_tables};
+    struct lent l = {setup, words_of(setup.granule, setup.tables), words_of(setup.granule, setup.second_tables), setup.tables + setup.second_tables};
     if (!once_in(20)) return l;
-    switch (below(10)) {
-    case 7: l.setup.second_base = once_in(2) ? anything() : l.setup.base + 4096 * below(3); break;
+    switch (below(12)) {
+    case 10: l.setup.granule = some_granule(); break;
+    case 11: return mixed_up(l);
+    case 7: l.setup.second_base = once_in(2) ? anything() : l.setup.base + table() * below(3); break;
     case 8: l.setup.second_tables = once_in(2) ? anything() : below(MOST_SECOND); break;
     case 9: l.second = once_in(2) ? l.second + 1 : 512; break;
     case 0: l.setup.levels = below(7); break;
-    case 1: l.setup.base = once_in(2) ? l.setup.base + 1 : anything(); break;
-    case 2: l.setup.base = LIMIT - 4096 * l.setup.tables + 4096 * below(2); break;
+    case 1: l.setup.base = once_in(3) ? l.setup.base + 1 : once_in(2) ? l.setup.base + OAK_4_KIB : anything(); break;
+    case 2: l.setup.base = LIMIT - table() * l.setup.tables + OAK_4_KIB * below(5); break;
     case 3: l.setup.tables = once_in(2) ? anything() : once_in(2) ? MOST_TABLES + below(2) : below(USUAL_TABLES + 2); break;
     case 4: l.setup.free = once_in(2) ? anything() : l.setup.tables + l.setup.second_tables; break;
     case 5: l.words += once_in(2) ? 1 : 512; break;
@@ -135,13 +162,14 @@ static struct lent lent(void) {
 
 /* a base for a second region of so many tables: touching the first, at a limit, overlapping it, or anywhere */
 static uint64_t some_second_base(uint64_t tables) {
-    uint64_t anywhere = below(LIMIT / 8192) * 4096;
-    switch (below(8)) {
-    case 0: return setup.base + 4096 * setup.tables;
-    case 1: return setup.base - 4096 * tables;
-    case 2: return LIMIT - 4096 * tables;
-    case 3: return setup.base + 4096 * (setup.tables - 1);
-    case 4: return setup.base - 4096 * tables + 4096;
+    uint64_t anywhere = below(LIMIT / (2 * table())) * table();
+    switch (below(9)) {
+    case 8: return anywhere + OAK_4_KIB;
+    case 0: return setup.base + table() * setup.tables;
+    case 1: return setup.base - table() * tables;
+    case 2: return LIMIT - table() * tables;
+    case 3: return setup.base + table() * (setup.tables - 1);
+    case 4: return setup.base - table() * tables + table();
     case 5: return once_in(2) ? anywhere + 1 : anything();
     default: return anywhere;
     }
@@ -154,12 +182,13 @@ static void call_format(void) {
     uint64_t tables = once_in(8) ? below(USUAL_TABLES + 3) : setup.tables, room = once_in(8) ? below(USUAL_TABLES + 1) : tables;
     uint64_t more = once_in(4) ? below(MOST_SECOND + 2) : setup.second_tables, second_room = once_in(8) ? below(MOST_SECOND + 1) : more;
     uint64_t second_base = more != setup.second_tables ? some_second_base(more) : setup.second_base;
+    uint64_t granule = once_in(4) ? some_granule() : setup.granule;
     if (more == 0 && !once_in(8)) second_base = 0;
-    if (room > MOST_TABLES) room = MOST_TABLES;
+    if (words_of(granule, room) > WORDS) room = WORDS / words_of(granule, 1);
     if (second_room > MOST_SECOND) second_room = MOST_SECOND;
-    struct lent l = {setup, 512 * room, 512 * second_room, room + second_room};
-    uint64_t refusal = oak_format(levels, base, tables, second_base, more, LENT(l), &answer);
-    answered(0, "format", refusal, &answer, 6);
+    struct lent l = {setup, words_of(granule, room), words_of(granule, second_room), room + second_room};
+    uint64_t refusal = oak_format(levels, base, tables, second_base, more, granule, LENT(l), &answer);
+    answered(0, "format", refusal, &answer, 7);
     if (refusal == 0) setup = answer;
 }
 
@@ -172,7 +201,7 @@ static void call_map(void) {
     memset(&answer, 0x5A, sizeof answer);
     uint64_t address = some_address(size), frame = some_frame(size), attributes = some_attributes();
     uint64_t refusal = oak_map(&l.setup, LENT(l), address, frame, size, attributes, &answer);
-    answered(1, "map", refusal, &answer, 7);
+    answered(1, "map", refusal, &answer, 8);
     if (refusal == 0) setup = answer.setup, mapped[below(MAPPED)] = address;
 }
 
@@ -180,9 +209,9 @@ static void call_unmap(void) {
     oak_unmapped answer;
     struct lent l = lent();
     memset(&answer, 0x5A, sizeof answer);
-    uint64_t address = once_in(2) ? mapped[below(MAPPED)] : some_address(OAK_4_KIB);
+    uint64_t address = once_in(2) ? mapped[below(MAPPED)] : some_address(table());
     uint64_t refusal = oak_unmap(&l.setup, LENT(l), address, &answer);
-    answered(2, "unmap", refusal, &answer, 12);
+    answered(2, "unmap", refusal, &answer, 13);
     if (refusal == 0) setup = answer.setup;
 }
 
@@ -190,7 +219,7 @@ static void call_query(void) {
     oak_found answer;
     struct lent l = lent();
     memset(&answer, 0x5A, sizeof answer);
-    uint64_t address = once_in(2) ? mapped[below(MAPPED)] + below(4096) : some_address(0);
+    uint64_t address = once_in(2) ? mapped[below(MAPPED)] + below(table()) : some_address(0);
     uint64_t refusal = oak_query(&l.setup, LENT(l), address, &answer);
     answered(3, "query", refusal, &answer, 6);
 }
@@ -211,15 +240,16 @@ static void call_add(void) {
     if (once_in(2)) {
         oak_found found;
         uint64_t address = mapped[below(MAPPED)];
-        if (oak_query(&setup, words, 512 * setup.tables, second, 512 * setup.second_tables, list, setup.tables + setup.second_tables, address,
-                      &found) == 0)
-            base = found.frame + (once_in(2) ? found.size : 0) - 4096 * below(3);
+        struct lent good = {setup, words_of(setup.granule, setup.tables), words_of(setup.granule, setup.second_tables),
+                            setup.tables + setup.second_tables};
+        if (oak_query(&setup, LENT(good), address, &found) == 0) base = found.frame + (once_in(2) ? found.size : 0) - table() * below(3);
     }
-    if (l.second == 512 * l.setup.second_tables && tables <= MOST_SECOND) l.second = 512 * tables, l.list = l.setup.tables + tables;
-    if (l.list > MOST_TABLES + MOST_SECOND) l.list = MOST_TABLES;
+    if (l.second == words_of(setup.granule, l.setup.second_tables) && tables <= MOST_SECOND)
+        l.second = words_of(setup.granule, tables), l.list = l.setup.tables + tables;
+    if (l.list > PLACES) l.list = MOST_TABLES;
     memset(&answer, 0x5A, sizeof answer);
     uint64_t refusal = oak_add(&l.setup, LENT(l), base, tables, &answer);
-    answered(5, "add", refusal, &answer, 6);
+    answered(5, "add", refusal, &answer, 7);
     if (refusal == 0) setup = answer;
 }
 
@@ -236,16 +266,16 @@ static void call_words(void) {
 /* one change that no call makes: of a word, mostly one in use, or of the list; the setup's free count may lag behind too */
 static void damage(void) {
     uint64_t size = some_size(), frame = some_frame(size), all = setup.tables + setup.second_tables, place = below(all);
-    uint64_t *word = &words[below(512 * setup.tables)];
+    uint64_t entries = table() / 8, *word = &words[below(entries * setup.tables)];
     for (size_t i = 0; i < 512 && *word == 0; i++) {
-        uint64_t table = below(all), entry = below(3);
-        word = table < setup.tables ? &words[512 * table + entry] : &second[512 * (table - setup.tables) + entry];
+        uint64_t number = below(all), entry = below(3);
+        word = number < setup.tables ? &words[entries * number + entry] : &second[entries * (number - setup.tables) + entry];
     }
     switch (below(7)) {
     case 0: *word ^= UINT64_C(1) << below(64); break;
     case 1: *word = random64(); break;
-    case 2: *word = setup.base + 4096 * below(setup.tables + 1) + 3; break;
-    case 6: *word = setup.second_base + 4096 * below(setup.second_tables + 1) + 3; break;
+    case 2: *word = setup.base + table() * below(setup.tables + 1) + 3; break;
+    case 6: *word = setup.second_base + table() * below(setup.second_tables + 1) + 3; break;
     case 3: *word = oak_frame_word(frame, size, below(16)); break;
     case 4: list[place] = (uint32_t)below(all + 2); break;
     default: setup.free = below(all); break;
@@ -255,20 +285,21 @@ static void damage(void) {
 static void one_history(void) {
     static const uint64_t counts[] = {1, 2, 3, 4, 5, 6, 8, 8};
     hash = history, state = UINT64_C(1000003) * history;
-    uint64_t tables = history % 16 == 15 ? MOST_TABLES : counts[history / 2 % 8];
-    uint64_t bases[] = {UINT64_C(0x40000000), 0, LIMIT - 4096 * tables, below(LIMIT / 8192) * 4096};
-    setup = (oak_setup){history % 4 < 2 ? 3 : 4, bases[below(4)], tables, 0, 0, 0};
+    uint64_t granule = history < HISTORIES / 3 * 2 ? OAK_4_KIB : OAK_16_KIB, most = WORDS / words_of(granule, 1);
+    uint64_t tables = history % 16 == 15 ? most : counts[history / 2 % 8];
+    uint64_t bases[] = {UINT64_C(0x40000000), 0, LIMIT - granule * tables, below(LIMIT / (2 * granule)) * granule};
+    setup = (oak_setup){granule == OAK_16_KIB || history % 4 < 2 ? 3 : 4, bases[below(4)], tables, 0, 0, 0, granule};
     /* every third pool has two regions from the start: the second touches the first, or stands far from it */
-    uint64_t more = history % 3 == 0 && tables + MOST_SECOND <= MOST_TABLES ? 1 + below(MOST_SECOND) : 0, above = setup.base + 4096 * tables;
-    uint64_t second_base = more == 0 ? 0 : above + 4096 * more > LIMIT ? setup.base - 4096 * more : above + (once_in(2) ? 0 : 4096 * below(5));
-    if (second_base + 4096 * more > LIMIT) second_base = setup.base - 4096 * more;
+    uint64_t more = history % 3 == 0 && tables + MOST_SECOND <= most ? 1 + below(MOST_SECOND) : 0, above = setup.base + granule * tables;
+    uint64_t second_base = more == 0 ? 0 : above + granule * more > LIMIT ? setup.base - granule * more : above + (once_in(2) ? 0 : granule * below(5));
+    if (second_base + granule * more > LIMIT) second_base = setup.base - granule * more;
     memset(words, 0xA5, sizeof words);
     memset(second, 0xA5, sizeof second);
     memset(list, 0xA5, sizeof list);
     memset(mapped, 0, sizeof mapped);
-    uint64_t refusal = oak_format(setup.levels, setup.base, tables, second_base, more, words, 512 * tables, second, 512 * more, list,
-                                  tables + more, &setup);
-    answered(0, "format", refusal, &setup, 6);
+    uint64_t refusal = oak_format(setup.levels, setup.base, tables, second_base, more, granule, words, words_of(granule, tables), second,
+                                  words_of(granule, more), list, tables + more, &setup);
+    answered(0, "format", refusal, &setup, 7);
     for (call = 1; call <= CALLS; call++) {
         uint64_t kind = below(64);
         if (history % 2 == 1 && once_in(16)) damage();
@@ -279,13 +310,14 @@ static void one_history(void) {
         else if (kind < 60) call_audit();
         else if (kind < 62) call_add();
         else call_words();
-        add_memory(setup.tables, setup.second_tables);
+        add_memory(words_of(setup.granule, setup.tables), words_of(setup.granule, setup.second_tables), setup.tables + setup.second_tables);
     }
     uint64_t answers = hash;
     hash = 0;
-    add_memory(MOST_TABLES, MOST_SECOND);
-    printf("%u levels %" PRIu64 " tables %" PRIu64 " and %" PRIu64 " calls %d: answers and memory %016" PRIx64 ", memory at the end %016" PRIx64 "\n", history,
-           setup.levels, setup.tables, setup.second_tables, CALLS, answers, hash);
+    add_memory(WORDS, SECOND_WORDS, PLACES);
+    printf("%u levels %" PRIu64 " tables %" PRIu64 " and %" PRIu64 " of %" PRIu64 " bytes calls %d: ", history, setup.levels, setup.tables,
+           setup.second_tables, setup.granule, CALLS);
+    printf("answers and memory %016" PRIx64 ", memory at the end %016" PRIx64 "\n", answers, hash);
 }
 
 /* the refusals that a function can give, as bits; bit 0 is an answer */

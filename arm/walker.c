@@ -4,8 +4,9 @@
  * Runs at EL2 on the board. AT S12E1R and AT S12E1W say whether an address may be read and written, where it leads and what memory
  * that is. Whether it may be run they do not say: arm/judge.c has a guest for that.
  *
- * The last pool has the word of a block in a root of four levels. By our reading of Arm's manual it is invalid where VTCR_EL2.DS is 0,
- * and qemu 7.2 reads it as a block of 512 GiB: a known difference, in arm/walker.qemu. The library never writes that word. */
+ * The last two pools have the word of a block in a root of four levels, and in the root of 16 KiB tables. By our reading of Arm's manual it
+ * is invalid where VTCR_EL2.DS is 0, and qemu 7.2 reads it as a block of 512 GiB, and of 64 GiB: a known difference, in arm/walker.qemu.
+ * The library never writes that word. */
 #include <stdbool.h>
 
 #include "board.h"
@@ -15,14 +16,18 @@
 #define BLOCK UINT64_C(0x800007FD) /* the word of the block of 1 GiB below */
 #define ACCESS_FLAG UINT64_C(0x400)
 
-static uint64_t pool[512 * 4] __attribute__((aligned(4096)));
+static uint64_t small[512 * 4] __attribute__((aligned(4096)));    /* four tables of 4 KiB */
+static uint64_t large[2048 * 4] __attribute__((aligned(16384))); /* four of 16 KiB */
+static uint64_t *pool;                                           /* one of the two */
 static uint32_t list[4];
 static oak_setup setup;
 static uint64_t wrong; /* calls that were refused */
-#define LENT pool, 512 * setup.tables, OAK_NO_WORDS, 0, list, setup.tables
+#define LENT pool, setup.granule / 8 * setup.tables, OAK_NO_WORDS, 0, list, setup.tables
 
 static const uint64_t three[] = {0, 0xFFF, 0x1ABC, 0x2000, 0x3008, 0x200000, 0x201234, 0x3FFFFF, 0x400000, 0x7FFFFFF000, 0x8000000000};
 static const uint64_t four[] = {0, 0x40000000, 0x7FFFFFFF, 0x80000000, 0xFFFFFFFFF123, 0x1000000000000};
+static const uint64_t sixteen[] = {0,         0x3FFF,    0x5ABC,    0x8000,       0xC008,         0x2000000,
+                                   0x2012345, 0x3FFFFFF, 0x4000000, 0x1000000000, 0x7FFFFFFFC123, 0x800000000000};
 
 static uint64_t machine(uint64_t address, bool write) {
     if (write) __asm__ volatile("at s12e1w, %0\n isb" : : "r"(address) : "memory");
@@ -64,10 +69,12 @@ static void lines(const char *title, const uint64_t *addresses, size_t count) {
 }
 #define THREE three, sizeof three / sizeof *three
 #define FOUR four, sizeof four / sizeof *four
+#define SIXTEEN sixteen, sizeof sixteen / sizeof *sixteen
 
-static void format(uint64_t levels, uint64_t tables) {
-    wrong += oak_format(levels, (uint64_t)pool, tables, 0, 0, pool, 512 * tables, OAK_NO_WORDS, 0, list, tables, &setup) != 0;
-    stage2_on(levels, (uint64_t)pool);
+static void format(uint64_t levels, uint64_t granule) {
+    pool = granule == OAK_16_KIB ? large : small;
+    wrong += oak_format(levels, (uint64_t)pool, 4, 0, 0, granule, pool, granule / 8 * 4, OAK_NO_WORDS, 0, list, 4, &setup) != 0;
+    stage2_on(levels, granule, (uint64_t)pool);
 }
 
 static void map(uint64_t address, uint64_t frame, uint64_t size, uint64_t attributes) {
@@ -83,7 +90,7 @@ static void unmap(uint64_t address) {
 }
 
 static void first_cases(void) {
-    format(3, 4);
+    format(3, OAK_4_KIB);
     lines("case 1, a fresh format:", THREE);
     map(0, FRAME, OAK_4_KIB, 3);
     map(0x1000, FRAME + 0x1000, OAK_4_KIB, 5);
@@ -103,20 +110,47 @@ static void later_cases(void) {
 }
 
 static void four_levels(void) {
-    format(4, 4);
+    format(4, OAK_4_KIB);
     map(OAK_1_GIB, FRAME, OAK_1_GIB, 7);
     map(0xFFFFFFE00000, FRAME, OAK_2_MIB, 1);
     lines("four levels, a block of 1 GiB and the last of 2 MiB:", FOUR);
-    pool[513] = BLOCK - ACCESS_FLAG;
+    small[513] = BLOCK - ACCESS_FLAG;
     lines("the first without its access flag:", FOUR);
-    pool[0] = BLOCK;
+}
+
+/* the cases in large: pages of 16 KiB and a block of 32 MiB */
+static void larger_granule(void) {
+    format(3, OAK_16_KIB);
+    map(0, FRAME, OAK_16_KIB, 3);
+    map(0x4000, FRAME + 0x4000, OAK_16_KIB, 5);
+    map(OAK_32_MIB, FRAME + OAK_32_MIB, OAK_32_MIB, 3);
+    map(0xC000, 0x9000000, OAK_16_KIB, 11);
+    lines("16 KiB, two pages and a block, with a device page:", SIXTEEN);
+    unmap(0);
+    unmap(0x4000);
+    unmap(0xC000);
+    lines("16 KiB, the block alone:", SIXTEEN);
+    unmap(OAK_32_MIB);
+    map(0x7FFFFFFFC000, FRAME, OAK_16_KIB, 3);
+    lines("16 KiB, the last page of the space:", SIXTEEN);
+}
+
+/* words that the library never writes, in the last two pools */
+static void blocks_in_the_root(void) {
+    stage2_on(4, OAK_4_KIB, (uint64_t)small);
+    small[0] = BLOCK;
     lines("a block of 512 GiB, which there is not:", FOUR);
+    stage2_on(3, OAK_16_KIB, (uint64_t)large);
+    large[1] = BLOCK;
+    lines("a block of 64 GiB, which there is not:", SIXTEEN);
 }
 
 int main(void) {
     first_cases();
     later_cases();
     four_levels();
+    larger_granule();
+    blocks_in_the_root();
     if (wrong != 0) say("%u calls were refused\n", wrong);
     return 0;
 }

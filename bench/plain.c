@@ -6,56 +6,77 @@
 
 #define ALWAYS_INLINE __attribute__((always_inline)) static inline
 
-/* ---- limits and geometry */
+/* ---- limits and geometry
+ *
+ * `bits` is the granule: a page and a table have 2^bits bytes, 12 or 14. Each call is written once, with `bits` as its first argument, and
+ * compiled for both, so that a shift or a mask is a constant in either. */
 
 enum {
-    PAGE_BITS = 12,  /* a page and a table have 2^12 bytes */
-    INDEX_BITS = 9,  /* a table has 2^9 entries */
+    FOUR = 12,
+    SIXTEEN = 14,
     MIN_LEVELS = 3,
     MAX_LEVELS = 4,
-    FRAME_LEVELS = 3, /* frames stand in the tables with at most so many levels left */
-    MAX_TABLES = 512,
-    ENTRIES = 1 << INDEX_BITS
+    MAX_TABLES = 512
 };
 
-#define PAGE (UINT64_C(1) << PAGE_BITS)
 #define LIMIT (UINT64_C(1) << 48) /* no frame and no table reaches past this address */
 
-/* the address bit at which the regions of entries start, in a table with so many levels left */
-static inline unsigned shift_of(unsigned left) { return PAGE_BITS + INDEX_BITS * (left - 1); }
+/* A call for the granule of a number. One that names none is refused by either. */
+#define OF_GRANULE(number, call, ...) ((number) == OAK_16_KIB ? call(SIXTEEN, __VA_ARGS__) : call(FOUR, __VA_ARGS__))
 
-static inline uint64_t space_of(uint64_t levels) { return PAGE << (INDEX_BITS * levels); }
+static inline uint64_t page_of(unsigned bits) { return UINT64_C(1) << bits; }
+
+/* the bits of an index, and the entries of a table */
+static inline unsigned index_bits(unsigned bits) { return bits - 3; }
+static inline size_t entries_of(unsigned bits) { return (size_t)1 << index_bits(bits); }
+
+/* four levels are of the smaller granule alone */
+static inline unsigned most_levels(unsigned bits) { return bits == FOUR ? MAX_LEVELS : MIN_LEVELS; }
+
+/* frames stand in the tables with at most so many levels left */
+static inline unsigned frame_levels(unsigned bits) { return bits == FOUR ? 3 : 2; }
+
+/* the address bit at which the regions of entries start, in a table with so many levels left */
+static inline unsigned shift_of(unsigned bits, unsigned left) { return bits + index_bits(bits) * (left - 1); }
+
+static inline uint64_t region_of(unsigned bits, unsigned left) { return UINT64_C(1) << shift_of(bits, left); }
+
+static inline uint64_t space_of(unsigned bits, uint64_t levels) { return page_of(bits) << (index_bits(bits) * levels); }
 
 /* the levels left in the tables that hold frames of a size; 0 where no table does */
-static inline unsigned level_of(uint64_t size) {
-    if (size == PAGE)
+static inline unsigned level_of(unsigned bits, uint64_t size) {
+    if (size == region_of(bits, 1))
         return 1;
-    if (size == PAGE << INDEX_BITS)
+    if (size == region_of(bits, 2))
         return 2;
-    return size == PAGE << 2 * INDEX_BITS ? 3 : 0;
+    return bits == FOUR && size == region_of(bits, 3) ? 3 : 0;
 }
 
-static inline size_t place_of(size_t table, uint64_t address, unsigned left) {
-    return table * ENTRIES + (address >> shift_of(left) & (ENTRIES - 1));
+static inline size_t place_of(unsigned bits, size_t table, uint64_t address, unsigned left) {
+    return table * entries_of(bits) + (address >> shift_of(bits, left) & (entries_of(bits) - 1));
 }
 
 /* the tables of both regions */
 static inline uint64_t total(const oak_setup *s) { return s->tables + s->second_tables; }
 
 /* whether so many tables, at most MAX_TABLES, may stand from an address on */
-static inline bool is_region(uint64_t base, uint64_t tables) { return base % PAGE == 0 && base <= LIMIT - PAGE * tables; }
-
-/* whether a second region that has a table is good beside a good first one */
-static bool good_second(const oak_setup *s, size_t second_len) {
-    return s->second_tables <= MAX_TABLES - s->tables && is_region(s->second_base, s->second_tables) &&
-           (s->base + PAGE * s->tables <= s->second_base || s->second_base + PAGE * s->second_tables <= s->base) &&
-           second_len == ENTRIES * s->second_tables;
+static inline bool is_region(unsigned bits, uint64_t base, uint64_t tables) {
+    return base % page_of(bits) == 0 && base <= LIMIT - page_of(bits) * tables;
 }
 
-static inline bool good(const oak_setup *s, size_t words_len, size_t second_len, size_t list_len) {
-    return s->levels - MIN_LEVELS <= MAX_LEVELS - MIN_LEVELS && s->tables - 1 < MAX_TABLES && is_region(s->base, s->tables) &&
-           words_len == ENTRIES * s->tables && (s->second_tables == 0 ? (s->second_base | second_len) == 0 : good_second(s, second_len)) &&
-           s->free < total(s) && list_len == total(s);
+/* whether a second region that has a table is good beside a good first one */
+ALWAYS_INLINE bool good_second(unsigned bits, const oak_setup *s, size_t second_len) {
+    uint64_t page = page_of(bits);
+    return s->second_tables <= MAX_TABLES - s->tables && is_region(bits, s->second_base, s->second_tables) &&
+           (s->base + page * s->tables <= s->second_base || s->second_base + page * s->second_tables <= s->base) &&
+           second_len == entries_of(bits) * s->second_tables;
+}
+
+ALWAYS_INLINE bool good(unsigned bits, const oak_setup *s, size_t words_len, size_t second_len, size_t list_len) {
+    return s->granule == page_of(bits) && s->levels - MIN_LEVELS <= most_levels(bits) - MIN_LEVELS && s->tables - 1 < MAX_TABLES &&
+           is_region(bits, s->base, s->tables) && words_len == entries_of(bits) * s->tables &&
+           (s->second_tables == 0 ? (s->second_base | second_len) == 0 : good_second(bits, s, second_len)) && s->free < total(s) &&
+           list_len == total(s);
 }
 
 /* ---- the two runs of words */
@@ -68,7 +89,7 @@ typedef struct {
 
 static inline uint64_t *word_at(runs r, size_t place) { return place < r.cut ? r.first + place : r.second + (place - r.cut); }
 
-static inline uint64_t *table_at(runs r, size_t table) { return word_at(r, table * ENTRIES); }
+static inline uint64_t *table_at(unsigned bits, runs r, size_t table) { return word_at(r, table * entries_of(bits)); }
 
 /* the runs of a call that only reads; nothing is written through them then */
 static inline runs runs_of(const uint64_t *words, size_t words_len, const uint64_t *second) {
@@ -86,50 +107,60 @@ static inline runs runs_of(const uint64_t *words, size_t words_len, const uint64
 
 static inline uint64_t type_of(unsigned left) { return left == 1 ? 3 : 1; }
 
-static inline uint64_t frame_at(uint64_t base, unsigned left, uint64_t attributes) {
+/* the type of the frames of a size of either granule; 0 where no frame has it */
+static inline uint64_t type_of_size(uint64_t size) {
+    return size == OAK_4_KIB || size == OAK_16_KIB ? 3 : size == OAK_2_MIB || size == OAK_1_GIB || size == OAK_32_MIB ? 1 : 0;
+}
+
+static inline uint64_t frame_at(uint64_t base, uint64_t type, uint64_t attributes) {
     uint64_t kind = attributes & OAK_DEVICE ? DEVICE : NORMAL;
-    return base | type_of(left) | kind | (attributes & 3) << 6 | (~attributes & OAK_EXECUTE) << 52;
+    return base | type | kind | (attributes & 3) << 6 | (~attributes & OAK_EXECUTE) << 52;
 }
 
-/* whether a word that is not 0 is a frame's, in a table with so many levels left */
-static inline bool is_frame(uint64_t word, unsigned left) {
-    uint64_t fixed = word & ~((LIMIT - (UINT64_C(1) << shift_of(left))) | READ_AND_WRITE | NO_EXECUTE);
-    return left <= FRAME_LEVELS && (fixed == (NORMAL | type_of(left)) || fixed == (DEVICE | type_of(left)));
+/* whether a word is that of a frame of this size and type */
+static inline bool is_frame_of(uint64_t word, uint64_t size, uint64_t type) {
+    uint64_t fixed = word & ~((LIMIT - size) | READ_AND_WRITE | NO_EXECUTE);
+    return fixed == (NORMAL | type) || fixed == (DEVICE | type);
 }
 
-static inline uint64_t base_in(uint64_t word) { return word & (LIMIT - PAGE); }
+/* whether a word is a frame's, in a table with so many levels left */
+static inline bool is_frame(unsigned bits, uint64_t word, unsigned left) {
+    return left <= frame_levels(bits) && is_frame_of(word, region_of(bits, left), type_of(left));
+}
+
+static inline uint64_t base_in(uint64_t word) { return word & (LIMIT - page_of(FOUR)); }
 
 /* whether a frame that ends at LIMIT or below shares a byte with so many tables from an address on */
-static inline bool in_region(uint64_t base, uint64_t size, uint64_t first, uint64_t tables) {
-    return tables != 0 && base < first + PAGE * tables && first < base + size;
+static inline bool in_region(unsigned bits, uint64_t base, uint64_t size, uint64_t first, uint64_t tables) {
+    return tables != 0 && base < first + page_of(bits) * tables && first < base + size;
 }
 
 /* the same with the tables of a good pool */
-static inline bool in_pool(const oak_setup *s, uint64_t base, uint64_t size) {
-    return in_region(base, size, s->base, s->tables) || in_region(base, size, s->second_base, s->second_tables);
+static inline bool in_pool(unsigned bits, const oak_setup *s, uint64_t base, uint64_t size) {
+    return in_region(bits, base, size, s->base, s->tables) || in_region(bits, base, size, s->second_base, s->second_tables);
 }
 
 static inline uint64_t attributes_in(uint64_t word) { return (word >> 6 & 3) | (~word >> 52 & 4) | (~word >> 5 & 8); }
 
 /* How many tables past an address the table stands that a word names. Words that name none turn into huge numbers. */
-static inline uint64_t tables_past(uint64_t base, uint64_t word) {
+static inline uint64_t tables_past(unsigned bits, uint64_t base, uint64_t word) {
     uint64_t offset = word - base - TABLE;
-    return offset >> PAGE_BITS | offset << (64 - PAGE_BITS);
+    return offset >> bits | offset << (64 - bits);
 }
 
 /* The table below the root that a word names, or 0. */
-static inline uint64_t child_in(const oak_setup *s, uint64_t word) {
-    uint64_t first = tables_past(s->base, word);
+static inline uint64_t child_in(unsigned bits, const oak_setup *s, uint64_t word) {
+    uint64_t first = tables_past(bits, s->base, word);
     if (first - 1 < s->tables - 1)
         return first;
-    uint64_t second = tables_past(s->second_base, word);
+    uint64_t second = tables_past(bits, s->second_base, word);
     return second < s->second_tables ? s->tables + second : 0;
 }
 
 static inline bool is_child(const oak_setup *s, uint64_t number) { return number - 1 < total(s) - 1; }
 
-static inline uint64_t address_of(const oak_setup *s, uint64_t table) {
-    return table < s->tables ? s->base + PAGE * table : s->second_base + PAGE * (table - s->tables);
+static inline uint64_t address_of(unsigned bits, const oak_setup *s, uint64_t table) {
+    return table < s->tables ? s->base + page_of(bits) * table : s->second_base + page_of(bits) * (table - s->tables);
 }
 
 /* ---- the walk */
@@ -156,7 +187,7 @@ typedef struct {
 } ending;
 
 /* Goes down until an entry is not a table or the target level is reached. */
-ALWAYS_INLINE ending walk_from(unsigned levels, const oak_setup *s, runs r, uint64_t address, unsigned target, way *w) {
+ALWAYS_INLINE ending walk_from(unsigned bits, unsigned levels, const oak_setup *s, runs r, uint64_t address, unsigned target, way *w) {
     size_t table = 0, place = 0;
     uint64_t word = 0;
 #pragma GCC unroll 4
@@ -164,13 +195,13 @@ ALWAYS_INLINE ending walk_from(unsigned levels, const oak_setup *s, runs r, uint
         if (left < levels && on_way(w, table, left, levels))
             return (ending){true, left, place, word};
         w->at[left] = table;
-        place = place_of(table, address, left);
+        place = place_of(bits, table, address, left);
         word = *word_at(r, place);
         if (word == 0)
             return (ending){false, left, place, word};
-        table = left == 1 ? 0 : child_in(s, word);
+        table = left == 1 ? 0 : child_in(bits, s, word);
         if (table == 0)
-            return (ending){!is_frame(word, left), left, place, word};
+            return (ending){!is_frame(bits, word, left), left, place, word};
         if (left == target)
             return (ending){false, left, place, word};
     }
@@ -178,15 +209,16 @@ ALWAYS_INLINE ending walk_from(unsigned levels, const oak_setup *s, runs r, uint
 }
 
 /* With the levels as a constant, the loop is unrolled whole. */
-ALWAYS_INLINE ending walk(const oak_setup *s, runs r, uint64_t address, unsigned target, way *w) {
-    return s->levels == MIN_LEVELS ? walk_from(MIN_LEVELS, s, r, address, target, w) : walk_from(MAX_LEVELS, s, r, address, target, w);
+ALWAYS_INLINE ending walk(unsigned bits, const oak_setup *s, runs r, uint64_t address, unsigned target, way *w) {
+    return s->levels == MIN_LEVELS || bits != FOUR ? walk_from(bits, MIN_LEVELS, s, r, address, target, w)
+                                                   : walk_from(bits, MAX_LEVELS, s, r, address, target, w);
 }
 
 /* ---- the calls */
 
 uint64_t plain_frame_word(uint64_t base, uint64_t size, uint64_t attributes) {
-    unsigned left = level_of(size);
-    if (left == 0)
+    uint64_t type = type_of_size(size);
+    if (type == 0)
         return OAK_REFUSED_SIZE;
     if (attributes > 15)
         return OAK_REFUSED_ATTRIBUTES;
@@ -194,22 +226,23 @@ uint64_t plain_frame_word(uint64_t base, uint64_t size, uint64_t attributes) {
         return OAK_REFUSED_END;
     if (base & (size - 1))
         return OAK_REFUSED_BASE;
-    return frame_at(base, left, attributes);
+    return frame_at(base, type, attributes);
 }
 
 uint64_t plain_word_meaning(uint64_t word, uint64_t size) {
-    unsigned left = level_of(size);
-    if (left == 0)
+    uint64_t type = type_of_size(size);
+    if (type == 0)
         return OAK_REFUSED_SIZE;
-    if (!is_frame(word, left))
+    if (!is_frame_of(word, size, type))
         return OAK_REFUSED_DAMAGED;
     return base_in(word) + 16 + attributes_in(word);
 }
 
-uint64_t plain_format(uint64_t levels, uint64_t base, uint64_t tables, uint64_t second_base, uint64_t second_tables, uint64_t *words,
-                      size_t words_len, uint64_t *second, size_t second_len, uint32_t *list, size_t list_len, oak_setup *answer) {
-    oak_setup s = {levels, base, tables, tables + second_tables - 1, second_base, second_tables};
-    if (!good(&s, words_len, second_len, list_len)) {
+uint64_t plain_format(uint64_t levels, uint64_t base, uint64_t tables, uint64_t second_base, uint64_t second_tables, uint64_t granule,
+                      uint64_t *words, size_t words_len, uint64_t *second, size_t second_len, uint32_t *list, size_t list_len,
+                      oak_setup *answer) {
+    oak_setup s = {levels, base, tables, tables + second_tables - 1, second_base, second_tables, granule};
+    if (!OF_GRANULE(granule, good, &s, words_len, second_len, list_len)) {
         *answer = (oak_setup){0};
         return OAK_REFUSED_SETUP;
     }
@@ -226,25 +259,26 @@ static inline uint64_t refuse_map(const oak_setup *s, uint64_t refusal, oak_mapp
     return refusal;
 }
 
-uint64_t plain_map(const oak_setup *s, uint64_t *words, size_t words_len, uint64_t *second, size_t second_len, const uint32_t *list,
-                   size_t list_len, uint64_t address, uint64_t frame, uint64_t size, uint64_t attributes, oak_mapped *answer) {
-    if (!good(s, words_len, second_len, list_len))
+ALWAYS_INLINE uint64_t map(unsigned bits, const oak_setup *s, uint64_t *words, size_t words_len, uint64_t *second, size_t second_len,
+                           const uint32_t *list, size_t list_len, uint64_t address, uint64_t frame, uint64_t size, uint64_t attributes,
+                           oak_mapped *answer) {
+    if (!good(bits, s, words_len, second_len, list_len))
         return refuse_map(s, OAK_REFUSED_SETUP, answer);
-    unsigned target = level_of(size), levels = (unsigned)s->levels;
+    unsigned target = level_of(bits, size), levels = (unsigned)s->levels;
     if (target == 0)
         return refuse_map(s, OAK_REFUSED_SIZE, answer);
     if (attributes > 15)
         return refuse_map(s, OAK_REFUSED_ATTRIBUTES, answer);
-    if (address > space_of(levels) - size || frame > LIMIT - size)
+    if (address > space_of(bits, levels) - size || frame > LIMIT - size)
         return refuse_map(s, OAK_REFUSED_END, answer);
     if ((address | frame) & (size - 1))
         return refuse_map(s, OAK_REFUSED_BASE, answer);
-    if (in_pool(s, frame, size))
+    if (in_pool(bits, s, frame, size))
         return refuse_map(s, OAK_REFUSED_POOL, answer);
 
     way w;
     runs r = {words, second, words_len};
-    ending e = walk(s, r, address, target, &w);
+    ending e = walk(bits, s, r, address, target, &w);
     if (e.damaged)
         return refuse_map(s, OAK_REFUSED_DAMAGED, answer);
     if (e.word != 0)
@@ -264,14 +298,19 @@ uint64_t plain_map(const oak_setup *s, uint64_t *words, size_t words_len, uint64
     size_t place = e.place;
     for (unsigned left = e.left - 1; left >= target; left--) {
         size_t table = w.at[left];
-        memset(table_at(r, table), 0, ENTRIES * sizeof *words);
-        *word_at(r, place) = address_of(s, table) + TABLE;
-        place = place_of(table, address, left);
+        memset(table_at(bits, r, table), 0, entries_of(bits) * sizeof *words);
+        *word_at(r, place) = address_of(bits, s, table) + TABLE;
+        place = place_of(bits, table, address, left);
     }
-    *word_at(r, place) = frame_at(frame, target, attributes);
+    *word_at(r, place) = frame_at(frame, type_of(target), attributes);
     *answer = (oak_mapped){*s, needed};
     answer->setup.free -= needed;
     return 0;
+}
+
+uint64_t plain_map(const oak_setup *s, uint64_t *words, size_t words_len, uint64_t *second, size_t second_len, const uint32_t *list,
+                   size_t list_len, uint64_t address, uint64_t frame, uint64_t size, uint64_t attributes, oak_mapped *answer) {
+    return OF_GRANULE(s->granule, map, s, words, words_len, second, second_len, list, list_len, address, frame, size, attributes, answer);
 }
 
 static inline uint64_t refuse_unmap(const oak_setup *s, uint64_t refusal, oak_unmapped *answer) {
@@ -295,22 +334,22 @@ static inline bool are_zero(const uint64_t *w, size_t count) {
     return true;
 }
 
-uint64_t plain_unmap(const oak_setup *s, uint64_t *words, size_t words_len, uint64_t *second, size_t second_len, uint32_t *list,
-                     size_t list_len, uint64_t address, oak_unmapped *answer) {
-    if (!good(s, words_len, second_len, list_len))
+ALWAYS_INLINE uint64_t unmap(unsigned bits, const oak_setup *s, uint64_t *words, size_t words_len, uint64_t *second, size_t second_len,
+                             uint32_t *list, size_t list_len, uint64_t address, oak_unmapped *answer) {
+    if (!good(bits, s, words_len, second_len, list_len))
         return refuse_unmap(s, OAK_REFUSED_SETUP, answer);
     unsigned levels = (unsigned)s->levels;
-    if (address >= space_of(levels))
+    if (address >= space_of(bits, levels))
         return refuse_unmap(s, OAK_REFUSED_END, answer);
-    if (address % PAGE)
+    if (address % page_of(bits))
         return refuse_unmap(s, OAK_REFUSED_BASE, answer);
 
     way w;
     runs r = {words, second, words_len};
-    ending e = walk(s, r, address, 1, &w);
+    ending e = walk(bits, s, r, address, 1, &w);
     if (e.damaged)
         return refuse_unmap(s, OAK_REFUSED_DAMAGED, answer);
-    uint64_t size = UINT64_C(1) << shift_of(e.left);
+    uint64_t size = region_of(bits, e.left);
     if (e.word == 0) {
         *answer = (oak_unmapped){.setup = *s, .hole_base = address & -size, .hole_size = size};
         return OAK_REFUSED_EMPTY;
@@ -321,9 +360,9 @@ uint64_t plain_unmap(const oak_setup *s, uint64_t *words, size_t words_len, uint
     /* from the deepest table of the path upward: those that hold nothing but their entry of the path */
     unsigned top = e.left;
     for (; top < levels; top++) {
-        const uint64_t *table = table_at(r, w.at[top]);
-        size_t index = place_of(0, address, top);
-        if (!are_zero(table, index) || !are_zero(table + index + 1, ENTRIES - 1 - index))
+        const uint64_t *table = table_at(bits, r, w.at[top]);
+        size_t index = place_of(bits, 0, address, top);
+        if (!are_zero(table, index) || !are_zero(table + index + 1, entries_of(bits) - 1 - index))
             break;
     }
     unsigned given = top - e.left;
@@ -334,11 +373,16 @@ uint64_t plain_unmap(const oak_setup *s, uint64_t *words, size_t words_len, uint
     *word_at(r, e.place) = 0;
     for (unsigned i = 0; i < given; i++) {
         list[s->free + i] = (uint32_t)w.at[e.left + i];
-        *word_at(r, place_of(w.at[e.left + i + 1], address, e.left + i + 1)) = 0;
+        *word_at(r, place_of(bits, w.at[e.left + i + 1], address, e.left + i + 1)) = 0;
     }
     *answer = (oak_unmapped){*s, base_in(e.word), size, attributes_in(e.word), given, 0, 0};
     answer->setup.free += given;
     return 0;
+}
+
+uint64_t plain_unmap(const oak_setup *s, uint64_t *words, size_t words_len, uint64_t *second, size_t second_len, uint32_t *list,
+                     size_t list_len, uint64_t address, oak_unmapped *answer) {
+    return OF_GRANULE(s->granule, unmap, s, words, words_len, second, second_len, list, list_len, address, answer);
 }
 
 static inline uint64_t refuse_query(uint64_t refusal, oak_found *answer) {
@@ -346,24 +390,29 @@ static inline uint64_t refuse_query(uint64_t refusal, oak_found *answer) {
     return refusal;
 }
 
-uint64_t plain_query(const oak_setup *s, const uint64_t *words, size_t words_len, const uint64_t *second, size_t second_len,
-                     const uint32_t *list, size_t list_len, uint64_t address, oak_found *answer) {
-    (void)list;
-    if (!good(s, words_len, second_len, list_len))
+ALWAYS_INLINE uint64_t query(unsigned bits, const oak_setup *s, const uint64_t *words, size_t words_len, const uint64_t *second,
+                             size_t second_len, size_t list_len, uint64_t address, oak_found *answer) {
+    if (!good(bits, s, words_len, second_len, list_len))
         return refuse_query(OAK_REFUSED_SETUP, answer);
-    if (address >= space_of(s->levels))
+    if (address >= space_of(bits, s->levels))
         return refuse_query(OAK_REFUSED_END, answer);
     way w;
-    ending e = walk(s, runs_of(words, words_len, second), address, 1, &w);
+    ending e = walk(bits, s, runs_of(words, words_len, second), address, 1, &w);
     if (e.damaged)
         return refuse_query(OAK_REFUSED_DAMAGED, answer);
-    uint64_t size = UINT64_C(1) << shift_of(e.left);
+    uint64_t size = region_of(bits, e.left);
     if (e.word == 0) {
         *answer = (oak_found){.hole_base = address & -size, .hole_size = size};
         return OAK_REFUSED_EMPTY;
     }
     *answer = (oak_found){address & -size, base_in(e.word), size, attributes_in(e.word), 0, 0};
     return 0;
+}
+
+uint64_t plain_query(const oak_setup *s, const uint64_t *words, size_t words_len, const uint64_t *second, size_t second_len,
+                     const uint32_t *list, size_t list_len, uint64_t address, oak_found *answer) {
+    (void)list;
+    return OF_GRANULE(s->granule, query, s, words, words_len, second, second_len, list_len, address, answer);
 }
 
 /* ---- the audit, and what an add looks at */
@@ -376,13 +425,13 @@ typedef struct {
 } audit;
 
 /* Audits a table of pages: no branch in the loop. A page is one of a region's tables where it is less than their bytes past their base. */
-static bool audit_pages(audit *a, const uint64_t *table) {
-    uint64_t in_use = 0, frames = 0;
-    uint64_t base = a->s->base, first = PAGE * a->s->tables, second_base = a->s->second_base, second = PAGE * a->s->second_tables;
-    for (size_t i = 0; i < ENTRIES; i++) {
+ALWAYS_INLINE bool audit_pages(unsigned bits, audit *a, const uint64_t *table) {
+    uint64_t in_use = 0, frames = 0, base = a->s->base, first = page_of(bits) * a->s->tables;
+    uint64_t second_base = a->s->second_base, second = page_of(bits) * a->s->second_tables;
+    for (size_t i = 0; i < entries_of(bits); i++) {
         uint64_t page = base_in(table[i]);
         in_use += table[i] != 0;
-        frames += is_frame(table[i], 1) & (page - base >= first) & (page - second_base >= second);
+        frames += is_frame(bits, table[i], 1) & (page - base >= first) & (page - second_base >= second);
     }
     a->mappings += frames;
     return in_use && frames == in_use;
@@ -398,22 +447,22 @@ static bool come_to(audit *a, size_t table) {
 }
 
 /* Audits a table and all below it. Each table is visited at most once, so this ends on any words. */
-static bool audit_table(audit *a, size_t table, unsigned left) {
-    const uint64_t *t = table_at(a->r, table);
+static bool audit_table(unsigned bits, audit *a, size_t table, unsigned left) {
+    const uint64_t *t = table_at(bits, a->r, table);
     if (!come_to(a, table))
         return false;
     if (left == 1)
-        return audit_pages(a, t);
+        return bits == FOUR ? audit_pages(FOUR, a, t) : audit_pages(SIXTEEN, a, t);
     bool in_use = table == 0;
-    for (size_t i = 0; i < ENTRIES; i++) {
+    for (size_t i = 0; i < entries_of(bits); i++) {
         if (t[i] == 0)
             continue;
         in_use = true;
-        uint64_t child = child_in(a->s, t[i]);
+        uint64_t child = child_in(bits, a->s, t[i]);
         if (child != 0) {
-            if (!audit_table(a, child, left - 1))
+            if (!audit_table(bits, a, child, left - 1))
                 return false;
-        } else if (is_frame(t[i], left) && !in_pool(a->s, base_in(t[i]), UINT64_C(1) << shift_of(left))) {
+        } else if (is_frame(bits, t[i], left) && !in_pool(bits, a->s, base_in(t[i]), region_of(bits, left))) {
             a->mappings++;
         } else {
             return false;
@@ -422,10 +471,10 @@ static bool audit_table(audit *a, size_t table, unsigned left) {
     return in_use;
 }
 
-static bool audit_list(audit *a, const uint32_t *list) {
+static bool audit_list(unsigned bits, audit *a, const uint32_t *list) {
     for (size_t i = 0; i < a->s->free; i++) {
         uint32_t table = list[i];
-        if (!is_child(a->s, table) || a->seen[table] || !are_zero(table_at(a->r, table), ENTRIES))
+        if (!is_child(a->s, table) || a->seen[table] || !are_zero(table_at(bits, a->r, table), entries_of(bits)))
             return false;
         a->seen[table] = true;
     }
@@ -435,40 +484,42 @@ static bool audit_list(audit *a, const uint32_t *list) {
 uint64_t plain_audit(const oak_setup *s, const uint64_t *words, size_t words_len, const uint64_t *second, size_t second_len,
                      const uint32_t *list, size_t list_len, oak_audited *answer) {
     *answer = (oak_audited){0};
-    if (!good(s, words_len, second_len, list_len))
+    if (!OF_GRANULE(s->granule, good, s, words_len, second_len, list_len))
         return OAK_REFUSED_SETUP;
+    unsigned bits = s->granule == OAK_16_KIB ? SIXTEEN : FOUR;
     audit a = {.s = s, .r = runs_of(words, words_len, second)};
-    if (!audit_table(&a, 0, (unsigned)s->levels) || !audit_list(&a, list))
+    if (!audit_table(bits, &a, 0, (unsigned)s->levels) || !audit_list(bits, &a, list))
         return OAK_REFUSED_DAMAGED;
     *answer = (oak_audited){a.tables, a.mappings};
     return 0;
 }
 
 /* Whether a table and all below it have no damaged word and no table that was come to; counts the frames in a region as mappings. */
-static bool look(audit *a, size_t table, unsigned left, uint64_t base, uint64_t tables) {
-    const uint64_t *t = table_at(a->r, table);
+static bool look(unsigned bits, audit *a, size_t table, unsigned left, uint64_t base, uint64_t tables) {
+    const uint64_t *t = table_at(bits, a->r, table);
     if (!come_to(a, table))
         return false;
-    for (size_t i = 0; i < ENTRIES; i++) {
+    for (size_t i = 0; i < entries_of(bits); i++) {
         if (t[i] == 0)
             continue;
-        uint64_t child = left == 1 ? 0 : child_in(a->s, t[i]);
-        if (child != 0 ? !look(a, child, left - 1, base, tables) : !is_frame(t[i], left))
+        uint64_t child = left == 1 ? 0 : child_in(bits, a->s, t[i]);
+        if (child != 0 ? !look(bits, a, child, left - 1, base, tables) : !is_frame(bits, t[i], left))
             return false;
-        a->mappings += child == 0 && in_region(base_in(t[i]), UINT64_C(1) << shift_of(left), base, tables);
+        a->mappings += child == 0 && in_region(bits, base_in(t[i]), region_of(bits, left), base, tables);
     }
     return true;
 }
 
 uint64_t plain_add(const oak_setup *s, const uint64_t *words, size_t words_len, uint64_t *second, size_t second_len, uint32_t *list,
                    size_t list_len, uint64_t second_base, uint64_t second_tables, oak_setup *answer) {
-    oak_setup grown = {s->levels, s->base, s->tables, s->free, second_base, second_tables};
+    oak_setup grown = {s->levels, s->base, s->tables, s->free, second_base, second_tables, s->granule};
     *answer = *s;
     if ((s->second_base | s->second_tables) != 0 || second_tables == 0 || s->free >= s->tables ||
-        !good(&grown, words_len, second_len, list_len))
+        !OF_GRANULE(s->granule, good, &grown, words_len, second_len, list_len))
         return OAK_REFUSED_SETUP;
+    unsigned bits = s->granule == OAK_16_KIB ? SIXTEEN : FOUR;
     audit a = {.s = s, .r = runs_of(words, words_len, second)};
-    if (!look(&a, 0, (unsigned)s->levels, second_base, second_tables))
+    if (!look(bits, &a, 0, (unsigned)s->levels, second_base, second_tables))
         return OAK_REFUSED_DAMAGED;
     if (a.mappings != 0)
         return OAK_REFUSED_POOL;

@@ -11,8 +11,9 @@ uint64_t plain_frame_word(uint64_t base, uint64_t size, uint64_t attributes);
 
 uint64_t plain_word_meaning(uint64_t word, uint64_t size);
 
-uint64_t plain_format(uint64_t levels, uint64_t base, uint64_t tables, uint64_t second_base, uint64_t second_tables, uint64_t *words,
-                      size_t words_len, uint64_t *second, size_t second_len, uint32_t *list, size_t list_len, oak_setup *answer);
+uint64_t plain_format(uint64_t levels, uint64_t base, uint64_t tables, uint64_t second_base, uint64_t second_tables, uint64_t granule,
+                      uint64_t *words, size_t words_len, uint64_t *second, size_t second_len, uint32_t *list, size_t list_len,
+                      oak_setup *answer);
 
 uint64_t plain_map(const oak_setup *s, uint64_t *words, size_t words_len, uint64_t *second, size_t second_len, const uint32_t *list,
                    size_t list_len, uint64_t address, uint64_t frame, uint64_t size, uint64_t attributes, oak_mapped *answer);

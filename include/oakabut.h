@@ -1,23 +1,26 @@
-/* Oakabut for C: Arm stage 2 page tables (VMSAv8-64, 4 KiB granule) in memory that the caller lends, and their entry words.
+/* Oakabut for C: Arm stage 2 page tables (VMSAv8-64, granules of 4 KiB and 16 KiB) in memory that the caller lends, and their entry
+ * words.
  *
  * The functions are in liboakabut.a (`rt staticlib oakabut` makes it), for 64-bit hosts. They answer for every number, keep nothing
  * between calls, and read and write what their pointers name and no other memory. The archive needs one thing from its host: memset,
  * as the C library has it. C, C++ and freestanding code may include this.
  *
- * A pool is tables of 512 words, in one region of memory or in two. With n tables in the first region, table t below n starts at word
- * 512 * t of the run `words` and stands at the address base + 4096 * t; table t from n on starts at word 512 * (t - n) of the run
- * `second` and stands at second_base + 4096 * (t - n). Table 0 is the root. The free list has a place for each table of both regions,
- * and its first `free` places are the numbers of free tables. The host gives both runs of words and the list with every call, and the
- * setup that the last oak_format, oak_map, oak_unmap or oak_add handed back. Without a second region the second run is OAK_NO_WORDS, 0.
+ * A pool is tables of one granule's size, 4096 bytes or 16384, in one region of memory or in two. So a table has e = granule / 8 words:
+ * 512 or 2048. With n tables in the first region, table t below n starts at word e * t of the run `words` and stands at the address
+ * base + granule * t; table t from n on starts at word e * (t - n) of the run `second` and stands at second_base + granule * (t - n).
+ * Table 0 is the root. The free list has a place for each table of both regions, and its first `free` places are the numbers of free
+ * tables. The host gives both runs of words and the list with every call, and the setup that the last oak_format, oak_map, oak_unmap or
+ * oak_add handed back. Without a second region the second run is OAK_NO_WORDS, 0.
  *
  * Pointers. Each must be valid and aligned, also where a length is 0; a null pointer never is. The answer, the setup, the two runs of
  * words and the list must not overlap: oak_map(&m.setup, ..., &m) is wrong, a copy of the setup is right. Nobody else may write to
  * them during a call. Lengths count elements, not bytes.
  *
- * The machine. Tables are little-endian (SCTLR_EL2.EE 0). Stage 2 is set up with HCR_EL2.FWB 0, VTCR_EL2.HA and HD 0, TG0 4 KiB, and T0SZ 25 with
- * SL0 1 for three levels or T0SZ 16 with SL0 2 for four; without stage 2 permission indirection. A walker may read the pool while oak_map or
- * oak_unmap runs, and sees the mappings from before the call or from after it; of what oak_add writes it sees nothing. It may not read the pool
- * while oak_format runs, which fills it by memset. */
+ * The machine. Tables are little-endian (SCTLR_EL2.EE 0). Stage 2 is set up with HCR_EL2.FWB 0, VTCR_EL2.HA and HD 0, without stage 2
+ * permission indirection; and with a granule of 4096 with TG0 4 KiB, and T0SZ 25 with SL0 1 for three levels or T0SZ 16 with SL0 2 for
+ * four; with one of 16384 with TG0 16 KiB, T0SZ 17 and SL0 2. A walker may read the pool while oak_map or oak_unmap runs, and sees the
+ * mappings from before the call or from after it; of what oak_add writes it sees nothing. It may not read the pool while oak_format
+ * runs, which fills it by memset. */
 #ifndef OAKABUT_H
 #define OAKABUT_H
 
@@ -28,10 +31,12 @@
 extern "C" {
 #endif
 
-/* The sizes of frames. */
+/* The sizes of frames with a granule of 4 KiB, and with one of 16 KiB. The first of each is also the granule's number. */
 #define OAK_4_KIB UINT64_C(0x1000)
 #define OAK_2_MIB UINT64_C(0x200000)
 #define OAK_1_GIB UINT64_C(0x40000000)
+#define OAK_16_KIB UINT64_C(0x4000)
+#define OAK_32_MIB UINT64_C(0x2000000)
 
 /* The attributes of a frame are a sum of these, 0 to 15. */
 #define OAK_READ UINT64_C(1)
@@ -42,7 +47,7 @@ extern "C" {
 /* The refusals. */
 #define OAK_REFUSALS UINT64_C(16)
 #define OAK_REFUSED_SETUP UINT64_C(1)      /* a setup number or a length breaks the rules */
-#define OAK_REFUSED_SIZE UINT64_C(2)       /* the size is none of the three */
+#define OAK_REFUSED_SIZE UINT64_C(2)       /* no frame has the size, or none of the pool's granule */
 #define OAK_REFUSED_ATTRIBUTES UINT64_C(3) /* the attributes are above 15 */
 #define OAK_REFUSED_END UINT64_C(4)        /* an address is past the space, or a frame past 2^48 */
 #define OAK_REFUSED_BASE UINT64_C(5)       /* an address or a frame's base is not aligned */
@@ -55,12 +60,12 @@ extern "C" {
 
 /* ---- the entry words, in plain numbers: no memory is read or written
  *
- * An answer below OAK_REFUSALS is a refusal, and no other answer is below it. */
+ * They take the sizes of both granules. An answer below OAK_REFUSALS is a refusal, and no other answer is below it. */
 
 /* The entry word of the frame that starts at base.
  *
  * Answers the word, which is at least 1024, or the first of these that applies:
- *   OAK_REFUSED_SIZE        size is none of OAK_4_KIB, OAK_2_MIB and OAK_1_GIB
+ *   OAK_REFUSED_SIZE        size is none of the five above
  *   OAK_REFUSED_ATTRIBUTES  attributes is above 15
  *   OAK_REFUSED_END         base + size is above 2^48; the sum does not wrap
  *   OAK_REFUSED_BASE        base is not a multiple of size */
@@ -69,7 +74,7 @@ uint64_t oak_frame_word(uint64_t base, uint64_t size, uint64_t attributes);
 /* The meaning of a word as the entry of a frame of that size.
  *
  * Answers base + 16 + attributes of the one frame for which oak_frame_word(base, size, attributes) is the word, or:
- *   OAK_REFUSED_SIZE     size is none of OAK_4_KIB, OAK_2_MIB and OAK_1_GIB
+ *   OAK_REFUSED_SIZE     size is none of the five above
  *   OAK_REFUSED_DAMAGED  no frame of that size has the word: it is 0, a table's word, or damaged */
 uint64_t oak_word_meaning(uint64_t word, uint64_t size);
 
@@ -83,22 +88,24 @@ uint64_t oak_word_meaning(uint64_t word, uint64_t size);
  * setup that oak_map, oak_unmap and oak_add hand back as it was, and for the hole that goes with OAK_REFUSED_EMPTY; and the words and
  * the list stay as they were.
  *
- * OAK_REFUSED_SETUP is given where a setup number breaks its rule, words_len is not 512 * tables, second_len is not
- * 512 * second_tables, or list_len is not tables + second_tables.
+ * OAK_REFUSED_SETUP is given where a setup number breaks its rule, words_len is not granule / 8 * tables, second_len is not
+ * granule / 8 * second_tables, or list_len is not tables + second_tables.
  *
  * The hole is the largest aligned region around the address that is empty: that of the empty entry where the walk ended. Its size is
- * 4 KiB, 2 MiB or 1 GiB, and with four levels also 512 GiB; its base is a multiple of its size. No mapping touches it. In a pool that
- * oak_audit accepts, the next larger region around the address holds a mapping, unless that region is the whole space.
+ * 4 KiB, 2 MiB or 1 GiB, and with four levels also 512 GiB; with a granule of 16384 it is 16 KiB, 32 MiB or 64 GiB. Its base is a
+ * multiple of its size. No mapping touches it. In a pool that oak_audit accepts, the next larger region around the address holds a
+ * mapping, unless that region is the whole space.
  *
- * The space is 2^39 for three levels and 2^48 for four. Sums do not wrap. */
+ * The space is 2^39 for three levels and 2^48 for four; with a granule of 16384 it is 2^47. Sums do not wrap. */
 
 typedef struct {
-    uint64_t levels;        /* 3 or 4 */
-    uint64_t base;          /* the address of table 0: a multiple of 4096, base + 4096 * tables at most 2^48 */
+    uint64_t levels;        /* 3 or 4; with a granule of 16384 it is 3 */
+    uint64_t base;          /* the address of table 0: a multiple of granule, base + granule * tables at most 2^48 */
     uint64_t tables;        /* at least 1, and with second_tables at most 512 */
     uint64_t free;          /* how many tables are free: at most tables + second_tables - 1 */
     uint64_t second_base;   /* where the second region starts, by the rules of base; the regions do not overlap, and may touch */
     uint64_t second_tables; /* how many tables it has; where there is none both numbers are 0 */
+    uint64_t granule;       /* 4096 or 16384: the bytes of a page, and of a table */
 } oak_setup;
 
 /* What a caller without a second region hands in for its words, with length 0: a pointer that is aligned and not null. */
@@ -138,11 +145,13 @@ typedef struct {
  *
  * Answers the setup, or zeros and:
  *   OAK_REFUSED_SETUP  a number or a length breaks its rule */
-uint64_t oak_format(uint64_t levels, uint64_t base, uint64_t tables, uint64_t second_base, uint64_t second_tables, uint64_t *words,
-                    size_t words_len, uint64_t *second, size_t second_len, uint32_t *list, size_t list_len, oak_setup *answer);
+uint64_t oak_format(uint64_t levels, uint64_t base, uint64_t tables, uint64_t second_base, uint64_t second_tables, uint64_t granule,
+                    uint64_t *words, size_t words_len, uint64_t *second, size_t second_len, uint32_t *list, size_t list_len,
+                    oak_setup *answer);
 
-/* Gives a pool of one region a second one. list is the longer one, of tables + second_tables places, of which the first `free` count.
- * The new tables go on it after those, highest number first; later places stay. The second run becomes zeros. No mapping changes.
+/* Gives a pool of one region a second one, with tables of the same granule. list is the longer one, of tables + second_tables places,
+ * of which the first `free` count. The new tables go on it after those, highest number first; later places stay. The second run becomes
+ * zeros. No mapping changes.
  *
  * Answers the new setup, or the setup as it was handed in and the first of these that applies:
  *   OAK_REFUSED_SETUP    the setup has a second region already, second_tables is 0, the setup's free is above its tables - 1, or a
@@ -158,13 +167,14 @@ uint64_t oak_add(const oak_setup *s, const uint64_t *words, size_t words_len, ui
  *
  * Answers the new setup and the tables taken, or the first of these that applies:
  *   OAK_REFUSED_SETUP       a setup number or a length breaks its rule
- *   OAK_REFUSED_SIZE        size is none of OAK_4_KIB, OAK_2_MIB and OAK_1_GIB
+ *   OAK_REFUSED_SIZE        size is none of OAK_4_KIB, OAK_2_MIB and OAK_1_GIB; with a granule of 16384, neither of OAK_16_KIB and
+ *                           OAK_32_MIB
  *   OAK_REFUSED_ATTRIBUTES  attributes is above 15
  *   OAK_REFUSED_END         address + size is above the space, or frame + size above 2^48
  *   OAK_REFUSED_BASE        address or frame is not a multiple of size
- *   OAK_REFUSED_POOL        the frame shares a byte with the tables of either region, base to base + 4096 * tables or second_base to
- *                           second_base + 4096 * second_tables; a frame that ends where a region starts, or starts where it ends, is
- *                           fine
+ *   OAK_REFUSED_POOL        the frame shares a byte with the tables of either region, base to base + granule * tables or second_base
+ *                           to second_base + granule * second_tables; a frame that ends where a region starts, or starts where it
+ *                           ends, is fine
  *   OAK_REFUSED_MAPPED or OAK_REFUSED_DAMAGED, whichever the walk from the root finds first: it meets a frame, or the entry it comes
  *                           to is a table or a frame; it meets a damaged word, or comes to the same table twice
  *   OAK_REFUSED_TABLES      the mapping needs more tables than are free
@@ -178,7 +188,7 @@ uint64_t oak_map(const oak_setup *s, uint64_t *words, size_t words_len, uint64_t
  * Answers the new setup, the frame removed and the tables given back, or the first of these that applies:
  *   OAK_REFUSED_SETUP    a setup number or a length breaks its rule
  *   OAK_REFUSED_END      address is not below the space
- *   OAK_REFUSED_BASE     address is not a multiple of 4096
+ *   OAK_REFUSED_BASE     address is not a multiple of granule
  *   OAK_REFUSED_DAMAGED  the walk from the root meets a damaged word, or comes to the same table twice
  *   OAK_REFUSED_EMPTY    the walk ends at an empty entry; the answer has the hole
  *   OAK_REFUSED_INSIDE   the walk ends at a frame whose mapping does not start at address
@@ -214,24 +224,25 @@ uint64_t oak_audit(const oak_setup *s, const uint64_t *words, size_t words_len, 
 #endif
 OAK_HOLDS(sizeof(size_t) == 8);
 OAK_HOLDS(sizeof(void *) == 8);
-OAK_HOLDS(sizeof(oak_setup) == 48);
+OAK_HOLDS(sizeof(oak_setup) == 56);
 OAK_HOLDS(offsetof(oak_setup, levels) == 0);
 OAK_HOLDS(offsetof(oak_setup, base) == 8);
 OAK_HOLDS(offsetof(oak_setup, tables) == 16);
 OAK_HOLDS(offsetof(oak_setup, free) == 24);
 OAK_HOLDS(offsetof(oak_setup, second_base) == 32);
 OAK_HOLDS(offsetof(oak_setup, second_tables) == 40);
-OAK_HOLDS(sizeof(oak_mapped) == 56);
+OAK_HOLDS(offsetof(oak_setup, granule) == 48);
+OAK_HOLDS(sizeof(oak_mapped) == 64);
 OAK_HOLDS(offsetof(oak_mapped, setup) == 0);
-OAK_HOLDS(offsetof(oak_mapped, taken) == 48);
-OAK_HOLDS(sizeof(oak_unmapped) == 96);
+OAK_HOLDS(offsetof(oak_mapped, taken) == 56);
+OAK_HOLDS(sizeof(oak_unmapped) == 104);
 OAK_HOLDS(offsetof(oak_unmapped, setup) == 0);
-OAK_HOLDS(offsetof(oak_unmapped, frame) == 48);
-OAK_HOLDS(offsetof(oak_unmapped, size) == 56);
-OAK_HOLDS(offsetof(oak_unmapped, attributes) == 64);
-OAK_HOLDS(offsetof(oak_unmapped, given) == 72);
-OAK_HOLDS(offsetof(oak_unmapped, hole_base) == 80);
-OAK_HOLDS(offsetof(oak_unmapped, hole_size) == 88);
+OAK_HOLDS(offsetof(oak_unmapped, frame) == 56);
+OAK_HOLDS(offsetof(oak_unmapped, size) == 64);
+OAK_HOLDS(offsetof(oak_unmapped, attributes) == 72);
+OAK_HOLDS(offsetof(oak_unmapped, given) == 80);
+OAK_HOLDS(offsetof(oak_unmapped, hole_base) == 88);
+OAK_HOLDS(offsetof(oak_unmapped, hole_size) == 96);
 OAK_HOLDS(sizeof(oak_found) == 48);
 OAK_HOLDS(offsetof(oak_found, base) == 0);
 OAK_HOLDS(offsetof(oak_found, frame) == 8);

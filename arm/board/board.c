@@ -45,16 +45,27 @@ _Noreturn void unexpected(void) {
 
 /* ---- stage 2 */
 
-void stage2_on(uint64_t levels, uint64_t root) {
+/* VTCR_EL2's TG0, SL0 and T0SZ: the granule, the level where a walk starts, and the space. SL0 counts the levels by the granule. */
+static uint64_t shape(uint64_t levels, uint64_t granule) {
+    if (granule == 16384) return UINT64_C(2) << 14 | 2 << 6 | (64 - 47); /* 16 KiB, start at level 1, a space of 2^47 bytes */
+    return levels == 3 ? 1 << 6 | (64 - 39)                              /* 4 KiB, start at level 1, a space of 2^39 bytes */
+                       : 2 << 6 | (64 - 48);                             /* 4 KiB, start at level 0, a space of 2^48 bytes */
+}
+
+/* ID_AA64MMFR0_EL1: TGran16_2 says it of stage 2, or with 0 that it is as TGran16 says of stage 1, which has 0 for no */
+int has_16_kib(void) {
+    uint64_t features = READ_REGISTER(id_aa64mmfr0_el1), at_stage_2 = features >> 32 & 15, at_stage_1 = features >> 20 & 15;
+    return at_stage_2 == 0 ? at_stage_1 != 0 : at_stage_2 >= 2;
+}
+
+void stage2_on(uint64_t levels, uint64_t granule, uint64_t root) {
     /* The chip's physical addresses: 5 stands for 48 bits. A frame past them faults, and with fewer than 48 there are no four levels. */
     uint64_t range = READ_REGISTER(id_aa64mmfr0_el1) & 15;
-    uint64_t vtcr = UINT64_C(1) << 31                   /* always 1 */
-                    | (range < 5 ? range : 5) << 16     /* PS: frames lie below 2^48 */
-                    | UINT64_C(0) << 14                 /* TG0: the granule is 4 KiB */
-                    | UINT64_C(3) << 12                 /* SH0: inner shareable */
-                    | UINT64_C(0) << 8                  /* ORGN0, IRGN0: the walker reads past the caches, as we write with the MMU off */
-                    | (levels == 3 ? 1 << 6 | (64 - 39) /* SL0, T0SZ: start at level 1, a space of 2^39 bytes */
-                                   : 2 << 6 | (64 - 48) /* start at level 0, a space of 2^48 bytes */);
+    uint64_t vtcr = UINT64_C(1) << 31               /* always 1 */
+                    | (range < 5 ? range : 5) << 16 /* PS: frames lie below 2^48 */
+                    | UINT64_C(3) << 12             /* SH0: inner shareable */
+                    | UINT64_C(0) << 8              /* ORGN0, IRGN0: the walker reads past the caches, as we write with the MMU off */
+                    | shape(levels, granule);
     WRITE_REGISTER(vtcr_el2, vtcr);
     WRITE_REGISTER(vttbr_el2, UINT64_C(1) << 48 | root); /* VMID 1 */
     WRITE_REGISTER(sctlr_el1, 0x30D00800);               /* stage 1 is off */

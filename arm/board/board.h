@@ -17,8 +17,11 @@ _Noreturn void power_off(void);
 
 /* ---- stage 2 */
 
-/* Turns stage 2 on for EL1: three or four levels, with the root table at the address. */
-void stage2_on(uint64_t levels, uint64_t root);
+/* Turns stage 2 on for EL1: three or four levels of tables of 4096 bytes, or three of 16384, with the root table at the address. */
+void stage2_on(uint64_t levels, uint64_t granule, uint64_t root);
+
+/* Whether the processor's stage 2 has tables of 16384 bytes. */
+int has_16_kib(void);
 
 /* To be called between a change of the tables and the next step of a guest, and before a table that was given back is taken again:
  * the library changes words in memory, and to have the machine see that is the host's part. */

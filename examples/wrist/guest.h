@@ -4,6 +4,17 @@
 
 #include <stdint.h>
 
+/* What the granule decides of the space: a page, a block, and what an entry of the root stands for. */
+#ifdef SIXTEEN_KIB
+#define PAGE UINT64_C(0x4000)
+#define BLOCK UINT64_C(0x2000000)
+#define REGION UINT64_C(0x1000000000)
+#else
+#define PAGE UINT64_C(0x1000)
+#define BLOCK UINT64_C(0x200000)
+#define REGION UINT64_C(0x40000000)
+#endif
+
 enum { TELL, GIVE, WAIT, END };
 
 /* the guest's first instruction: guests.ld puts it at the start of the guest's page */

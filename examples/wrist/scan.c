@@ -1,10 +1,10 @@
 /* The scan guest: it reads labels and stores them. */
 #include "guest.h"
 
-#define LABEL ((volatile uint64_t *)0x2000)     /* its own page, which the sync guest may read too */
-#define STORE ((volatile uint64_t *)0x200000)   /* its own as well, mapped when it is first used */
-#define PICTURE ((volatile uint64_t *)0x400000)  /* 2 MiB, mapped all at once when a word of it is first used */
-#define ARCHIVE ((volatile uint64_t *)0x600000) /* mapped when it is first used */
+#define LABEL ((volatile uint64_t *)(2 * PAGE))    /* its own page, which the sync guest may read too */
+#define STORE ((volatile uint64_t *)BLOCK)         /* its own as well, mapped when it is first used */
+#define PICTURE ((volatile uint64_t *)(2 * BLOCK)) /* a block, mapped all at once when a word of it is first used */
+#define ARCHIVE ((volatile uint64_t *)(3 * BLOCK)) /* mapped when it is first used */
 #define NOT_OURS ((volatile uint64_t *)0x10000000)
 
 ENTRY void scan_guest(void) {
@@ -12,10 +12,10 @@ ENTRY void scan_guest(void) {
     tell("the label is", *LABEL);
     *STORE = *LABEL; /* traps, and is done again when the page is there */
     tell("the store has", *STORE);
-    PICTURE[0x3FFFF] = *LABEL; /* its last word traps, and then none of them does */
+    PICTURE[BLOCK / 8 - 1] = *LABEL; /* its last word traps, and then none of them does */
     PICTURE[0] = 1;
-    PICTURE[0x20000] = 2;
-    tell("the picture has", PICTURE[0x3FFFF] + PICTURE[0] + PICTURE[0x20000]);
+    PICTURE[BLOCK / 16] = 2;
+    tell("the picture has", PICTURE[BLOCK / 8 - 1] + PICTURE[0] + PICTURE[BLOCK / 16]);
     *ARCHIVE = *STORE; /* traps, and waits until a table is free */
     tell("the archive has", *ARCHIVE);
     ((void (*)(void))LABEL)(); /* what was scanned is never executed: the jump traps, and comes back */

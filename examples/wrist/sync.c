@@ -1,8 +1,8 @@
 /* The sync guest: it sends the labels to the depot. */
 #include "guest.h"
 
-#define LABEL ((volatile const uint64_t *)0x40003000) /* the scan guest's page, for reading */
-#define BUFFER ((volatile uint64_t *)0x40200000)      /* mapped when it is first used */
+#define LABEL ((volatile const uint64_t *)(REGION + 3 * PAGE)) /* the scan guest's page, for reading */
+#define BUFFER ((volatile uint64_t *)(REGION + BLOCK))         /* mapped when it is first used */
 
 ENTRY void sync_guest(void) {
     *BUFFER = 40; /* traps, and is done again when the page is there */

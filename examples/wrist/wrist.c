@@ -15,14 +15,17 @@
  * pool while the guests run, and the same map is made again. Whoever comes last has to wait until the other gives its page up.
  *
  * The picture has 2 MiB. What is mapped on demand is the largest frame that fits both the hole that oak_query tells and what the guest
- * may have, so the picture comes by one fault and one map, and that needs no table. */
+ * may have, so the picture comes by one fault and one map, and that needs no table.
+ *
+ * With SIXTEEN_KIB the granule is 16 KiB: pages, blocks of 32 MiB and regions of 64 GiB stand in the place of those above, and the story is
+ * the same (guest.h). */
 #include "board.h"
 #include "guest.h"
 #include "oakabut.h"
 
 /* ---- the pool: lent memory, and the setup that every call takes and hands back */
 
-enum { LEVELS = 3, TABLES = 6, MORE = 1 };
+enum { LEVELS = 3, TABLES = 6, MORE = 1, ENTRIES = PAGE / 8 };
 #define POOL UINT64_C(0x44000000)
 #define SPARE UINT64_C(0x44800000)
 
@@ -30,7 +33,7 @@ static uint64_t *const words = (uint64_t *)POOL; /* our MMU is off, so this is a
 static uint64_t *const spare = (uint64_t *)SPARE;
 static uint32_t list[TABLES + MORE];
 static oak_setup setup;
-#define LENT words, 512 * TABLES, spare, 512 * setup.second_tables, list, TABLES + setup.second_tables
+#define LENT words, ENTRIES * TABLES, spare, ENTRIES * setup.second_tables, list, TABLES + setup.second_tables
 
 static const char *letters(uint64_t attributes) {
     static const char *const all[] = {"---", "r--", "-w-", "rw-", "--x", "r-x", "-wx", "rwx"};
@@ -48,7 +51,7 @@ static void after_call(void) {
 
 /* Maps a frame, and answers the refusal. */
 static uint64_t map(uint64_t address, uint64_t frame, uint64_t size, uint64_t attributes) {
-    static uint64_t words_before[512 * TABLES], spare_before[512 * MORE];
+    static uint64_t words_before[ENTRIES * TABLES], spare_before[ENTRIES * MORE];
     static uint32_t list_before[TABLES + MORE];
     oak_mapped answer;
     memcpy(words_before, words, sizeof words_before);
@@ -83,7 +86,7 @@ static uint64_t unmap(uint64_t address) {
 static int add(void) {
     oak_setup answer;
     if (setup.second_tables != 0) return 0;
-    uint64_t refusal = oak_add(&setup, words, 512 * TABLES, spare, 512 * MORE, list, TABLES + MORE, SPARE, MORE, &answer);
+    uint64_t refusal = oak_add(&setup, words, ENTRIES * TABLES, spare, ENTRIES * MORE, list, TABLES + MORE, SPARE, MORE, &answer);
     if (refusal == 0) say("   add %u table at %x: free %u\n", answer.second_tables, answer.second_base, answer.free);
     else say("   add: refused with %u\n", refusal);
     setup = answer;
@@ -103,10 +106,14 @@ struct guest {
     struct area on_demand[3]; /* what it gets when it first uses it, and from where */
     struct registers registers;
 };
-static struct guest scan = {"scan", READY, 0, 0x3FFFFFFF,
-    {{0x00200000, OAK_4_KIB, 0x45002000}, {0x00400000, OAK_2_MIB, 0x45200000}, {0x00600000, OAK_4_KIB, 0x45003000}}, {.pc = 0x1000, .sp = 0x3000, .pstate = AT_EL1}};
-static struct guest sync = {"sync", READY, 0x40000000, 0x7FFFFFFF,
-    {{0x40200000, OAK_4_KIB, 0x46002000}}, {.pc = 0x40001000, .sp = 0x40003000, .pstate = AT_EL1}};
+#define SCAN UINT64_C(0x45000000) /* the frames of each; guests.ld has the programs loaded into the first */
+#define SYNC UINT64_C(0x46000000)
+#define PICTURE ((SCAN + 2 * BLOCK - 1) / BLOCK * BLOCK) /* at the next multiple of a block's size past the first block */
+static struct guest scan = {"scan", READY, 0, REGION - 1,
+    {{BLOCK, PAGE, SCAN + 2 * PAGE}, {2 * BLOCK, BLOCK, PICTURE}, {3 * BLOCK, PAGE, SCAN + 3 * PAGE}},
+    {.pc = PAGE, .sp = 3 * PAGE, .pstate = AT_EL1}};
+static struct guest sync = {"sync", READY, REGION, 2 * REGION - 1,
+    {{REGION + BLOCK, PAGE, SYNC + 2 * PAGE}}, {.pc = REGION + PAGE, .sp = REGION + 3 * PAGE, .pstate = AT_EL1}};
 
 /* Copies a guest's text. The guest names it by an address in its own space: query says where that is, and whether it may be read. */
 static void copy_text(uint64_t address, char *text, uint64_t room) {
@@ -153,8 +160,12 @@ static const struct area *area_of(const struct guest *guest, uint64_t address) {
 /* Maps the largest frame around an address that lies in the hole and in the area, and answers the refusal. A hole is aligned to its
  * size, so a frame around the address lies in it when it is no larger. */
 static uint64_t fill(const struct area *area, uint64_t address, uint64_t hole_size) {
+#ifdef SIXTEEN_KIB
+    static const uint64_t sizes[] = {OAK_32_MIB, OAK_16_KIB};
+#else
     static const uint64_t sizes[] = {OAK_1_GIB, OAK_2_MIB, OAK_4_KIB};
-    for (int i = 0; i < 3; i++) {
+#endif
+    for (size_t i = 0; i < sizeof sizes / sizeof *sizes; i++) {
         uint64_t size = sizes[i], base = address - address % size, frame = area->frame + (base - area->first);
         if (size <= hole_size && base >= area->first && base + size <= area->first + area->size && frame % size == 0)
             return map(base, frame, size, OAK_READ | OAK_WRITE);
@@ -197,16 +208,16 @@ static int goes_on(struct guest *guest) {
 }
 
 int main(void) {
-    memset(spare, 0xFF, 512 * MORE * sizeof *spare); /* what is found after boot may hold anything */
-    uint64_t refusal = oak_format(LEVELS, POOL, TABLES, 0, 0, LENT, &setup);
-    say("format: answers %u, %u levels, %u tables at %x\n", refusal, setup.levels, setup.tables, setup.base);
+    memset(spare, 0xFF, ENTRIES * MORE * sizeof *spare); /* what is found after boot may hold anything */
+    uint64_t refusal = oak_format(LEVELS, POOL, TABLES, 0, 0, PAGE, LENT, &setup);
+    say("format: answers %u, %u levels, %u tables of %x bytes at %x\n", refusal, setup.levels, setup.tables, setup.granule, setup.base);
     after_call();
-    map(0x00001000, 0x45000000, OAK_4_KIB, OAK_READ | OAK_EXECUTE); /* guests.ld has the two programs loaded into these frames */
-    map(0x00002000, 0x45001000, OAK_4_KIB, OAK_READ | OAK_WRITE);
-    map(0x40001000, 0x46000000, OAK_4_KIB, OAK_READ | OAK_EXECUTE);
-    map(0x40002000, 0x46001000, OAK_4_KIB, OAK_READ | OAK_WRITE);
-    map(0x40003000, 0x45001000, OAK_4_KIB, OAK_READ);
-    stage2_on(LEVELS, POOL);
+    map(PAGE, SCAN, PAGE, OAK_READ | OAK_EXECUTE);
+    map(2 * PAGE, SCAN + PAGE, PAGE, OAK_READ | OAK_WRITE);
+    map(REGION + PAGE, SYNC, PAGE, OAK_READ | OAK_EXECUTE);
+    map(REGION + 2 * PAGE, SYNC + PAGE, PAGE, OAK_READ | OAK_WRITE);
+    map(REGION + 3 * PAGE, SCAN + PAGE, PAGE, OAK_READ);
+    stage2_on(LEVELS, setup.granule, POOL);
 
     struct guest *guest = &sync;
     while (scan.state == READY || sync.state == READY) {

@@ -14,9 +14,11 @@
 
 #define COUNT(a) (sizeof(a) / sizeof((a)[0]))
 #define GUARD 8
-#define MOST_TABLES 513 /* one more than a pool may have */
+#define MOST_TABLES 513 /* one more than a pool may have, of the smaller granule */
 #define LIMIT (UINT64_C(1) << 48)
 #define SPACE_3 (UINT64_C(1) << 39)
+#define SPACE_16 (UINT64_C(1) << 47) /* with the larger granule */
+#define OAK_64_GIB (UINT64_C(1) << 36)
 #define MOST UINT64_MAX
 #define POOL UINT64_C(0x40000000)
 #define MORE UINT64_C(0x50000000) /* where a second region stands */
@@ -25,14 +27,15 @@
 typedef struct {
     uint64_t words[GUARD + 512 * MOST_TABLES + GUARD];
     uint64_t second[GUARD + 512 * MOST_TABLES + GUARD];
-    uint64_t setup[GUARD + 6 + GUARD];
-    uint64_t answer[GUARD + 12 + GUARD];
+    uint64_t setup[GUARD + 7 + GUARD];
+    uint64_t answer[GUARD + 13 + GUARD];
     uint32_t list[GUARD + MOST_TABLES + GUARD];
 } block;
 
 static block is, want;                         /* what there is, and what has to be */
 static oak_setup setup;                        /* the setup of the next call */
 static size_t words_len, second_len, list_len; /* and the lengths */
+static uint64_t granule = OAK_4_KIB;           /* the granule of the pools to come */
 static unsigned long passed, failed;
 
 /* ---- what has to be */
@@ -56,9 +59,11 @@ static void damage(size_t i, uint64_t value) { is.words[GUARD + i] = want.words[
 static void damage_second(size_t i, uint64_t value) { is.second[GUARD + i] = want.second[GUARD + i] = value; }
 static void damage_place(size_t i, uint32_t value) { is.list[GUARD + i] = want.list[GUARD + i] = value; }
 
+static size_t entries(void) { return granule / 8; }
+
 static void lengths_of_two(uint64_t tables, uint64_t second_tables) {
-    words_len = 512 * tables;
-    second_len = 512 * second_tables;
+    words_len = entries() * tables;
+    second_len = entries() * second_tables;
     list_len = tables + second_tables;
 }
 
@@ -95,19 +100,20 @@ static void *answer(void) { return is.answer + GUARD; }
 
 static void format_two(uint64_t levels, uint64_t base, uint64_t tables, uint64_t second_base, uint64_t second_tables, uint64_t number) {
     char what[160];
-    oak_setup a = {0, 0, 0, 0, 0, 0};
+    oak_setup a = {0, 0, 0, 0, 0, 0, 0};
     if (number == 0) {
         uint64_t all = tables + second_tables;
-        a = (oak_setup){levels, base, tables, all - 1, second_base, second_tables};
-        for (size_t i = 0; i < 512 * tables; i++) writes(i, 0);
-        for (size_t i = 0; i < 512 * second_tables; i++) writes_second(i, 0);
+        a = (oak_setup){levels, base, tables, all - 1, second_base, second_tables, granule};
+        for (size_t i = 0; i < entries() * tables; i++) writes(i, 0);
+        for (size_t i = 0; i < entries() * second_tables; i++) writes_second(i, 0);
         for (size_t i = 0; i < all; i++) writes_place(i, (uint32_t)(all - 1 - i));
     }
     before(&a, sizeof a);
-    snprintf(what, sizeof what, "format %" PRIu64 " %#" PRIx64 " %" PRIu64 " %#" PRIx64 " %" PRIu64, levels, base, tables, second_base,
-             second_tables);
+    snprintf(what, sizeof what, "format %" PRIu64 " %#" PRIx64 " %" PRIu64 " %#" PRIx64 " %" PRIu64 " %" PRIu64, levels, base, tables,
+             second_base, second_tables, granule);
     after(what,
-          oak_format(levels, base, tables, second_base, second_tables, words(), words_len, second(), second_len, list(), list_len, answer()),
+          oak_format(levels, base, tables, second_base, second_tables, granule, words(), words_len, second(), second_len, list(), list_len,
+                     answer()),
           number);
     if (number == 0) setup = a;
 }
@@ -122,7 +128,7 @@ static void add_is(uint64_t base, uint64_t tables, uint64_t number) {
         a.second_base = base;
         a.second_tables = tables;
         a.free += tables;
-        for (size_t i = 0; i < 512 * tables; i++) writes_second(i, 0);
+        for (size_t i = 0; i < entries() * tables; i++) writes_second(i, 0);
         for (size_t i = 0; i < tables; i++) writes_place(setup.free + i, (uint32_t)(setup.tables + tables - 1 - i));
     }
     before(&a, sizeof a);
@@ -325,11 +331,12 @@ static void layout(void) {
     oak_unmapped u;
     oak_found f;
     oak_audited a;
-    test("format", "the number is", oak_format(3, POOL, 7, 0, 0, w, 512 * 7, OAK_NO_WORDS, 0, l, 7, &s) == 0);
-    test("format", "the answer is", s.levels == 3 && s.base == POOL && s.tables == 7 && s.free == 6 && s.second_base + s.second_tables == 0);
+    test("format", "the number is", oak_format(3, POOL, 7, 0, 0, OAK_4_KIB, w, 512 * 7, OAK_NO_WORDS, 0, l, 7, &s) == 0);
+    test("format", "the answer is",
+         s.levels == 3 && s.base == POOL && s.tables == 7 && s.free == 6 && s.second_base + s.second_tables == 0 && s.granule == 4096);
     test("map", "the number is", oak_map(&s, w, 512 * 7, OAK_NO_WORDS, 0, l, 7, 0x400000, 0x80200000, OAK_2_MIB, 5, &m) == 0);
     test("map", "the answer is",
-         m.setup.levels == 3 && m.setup.base == POOL && m.setup.tables == 7 && m.setup.free == 5 && m.taken == 1);
+         m.setup.levels == 3 && m.setup.base == POOL && m.setup.tables == 7 && m.setup.free == 5 && m.setup.granule == 4096 && m.taken == 1);
     test("query", "the number is", oak_query(&m.setup, w, 512 * 7, OAK_NO_WORDS, 0, l, 7, 0x412345, &f) == 0);
     test("query", "the answer is", f.base == 0x400000 && f.frame == 0x80200000 && f.size == OAK_2_MIB && f.attributes == 5);
     test("query", "no hole is", f.hole_base + f.hole_size == 0);
@@ -340,20 +347,21 @@ static void layout(void) {
     test("audit", "the number is", oak_audit(&m.setup, w, 512 * 7, OAK_NO_WORDS, 0, l, 7, &a) == 0);
     test("audit", "the answer is", a.tables == 2 && a.mappings == 1);
     test("unmap", "the number is", oak_unmap(&m.setup, w, 512 * 7, OAK_NO_WORDS, 0, l, 7, 0x400000, &u) == 0);
-    test("unmap", "the setup is", u.setup.levels == 3 && u.setup.base == POOL && u.setup.tables == 7 && u.setup.free == 6);
+    test("unmap", "the setup is",
+         u.setup.levels == 3 && u.setup.base == POOL && u.setup.tables == 7 && u.setup.free == 6 && u.setup.granule == 4096);
     test("unmap", "the answer is", u.frame == 0x80200000 && u.size == OAK_2_MIB && u.attributes == 5 && u.given == 1 && u.hole_base + u.hole_size == 0);
     static uint64_t v[512 * 2];
     static uint32_t longer[9];
     memcpy(longer, l, sizeof l);
     test("add", "the number is", oak_add(&u.setup, w, 512 * 7, v, 512 * 2, longer, 9, MORE, 2, &s) == 0);
     test("add", "the answer is",
-         s.levels == 3 && s.base == POOL && s.tables == 7 && s.free == 8 && s.second_base == MORE && s.second_tables == 2);
+         s.levels == 3 && s.base == POOL && s.tables == 7 && s.free == 8 && s.second_base == MORE && s.second_tables == 2 && s.granule == 4096);
     test("map", "the number is", oak_map(&s, w, 512 * 7, v, 512 * 2, longer, 9, 0x400000, 0x80200000, OAK_2_MIB, 5, &m) == 0);
     test("map", "the setup is", m.setup.second_base == MORE && m.setup.second_tables == 2 && m.setup.free == 7 && m.taken == 1);
     test("unmap", "the number is", oak_unmap(&m.setup, w, 512 * 7, v, 512 * 2, longer, 9, 0x400000, &u) == 0);
     test("unmap", "the setup is", u.setup.second_base == MORE && u.setup.second_tables == 2 && u.setup.free == 8 && u.given == 1);
-    s = (oak_setup){101, 102, 103, 104, 105, 106};
-    oak_setup back = {0, 0, 0, 0, 0, 0};
+    s = (oak_setup){101, 102, 103, 104, 105, 106, 107};
+    oak_setup back = {0, 0, 0, 0, 0, 0, 0};
     test("add", "the refusal is", oak_add(&s, w, 512 * 7, v, 512 * 2, longer, 9, MORE, 2, &back) == 1);
     test("add", "the setup handed back is", memcmp(&back, &s, sizeof s) == 0);
     test("map", "the refusal is", oak_map(&s, w, 512 * 7, OAK_NO_WORDS, 0, l, 7, 1, 2, 3, 4, &m) == 1);
@@ -376,15 +384,16 @@ static void all_refuse_1(void) {
 
 static void bad_setups(void) {
     static const oak_setup bad[] = {
-        {0, POOL, 4, 1, 0, 0}, {2, POOL, 4, 1, 0, 0}, {5, POOL, 4, 1, 0, 0}, {MOST, POOL, 4, 1, 0, 0}, {3 + (UINT64_C(1) << 32), POOL, 4, 1, 0, 0},
-        {3, POOL + 1, 4, 1, 0, 0}, {3, POOL + 2048, 4, 1, 0, 0}, {3, LIMIT - 4 * 4096 + 4096, 4, 1, 0, 0}, {3, LIMIT, 4, 1, 0, 0},
-        {3, 0 - UINT64_C(4096), 4, 1, 0, 0}, {3, MOST, 4, 1, 0, 0}, {3, POOL, 0, 1, 0, 0}, {3, POOL, 0, 0, 0, 0}, {3, POOL, 3, 1, 0, 0},
-        {3, POOL, 5, 1, 0, 0}, {3, POOL, 513, 1, 0, 0}, {3, POOL, 1 + (UINT64_C(1) << 32), 1, 0, 0}, {3, POOL, MOST, 1, 0, 0},
-        {3, POOL, 4, 4, 0, 0}, {3, POOL, 4, 5, 0, 0}, {3, POOL, 4, MOST, 0, 0}, {3, POOL, 4, 1 + (UINT64_C(1) << 32), 0, 0}, {0, 0, 0, 0, 0, 0},
-        {4, POOL, 4, 4, 0, 0},
+        {0, POOL, 4, 1, 0, 0, 4096}, {2, POOL, 4, 1, 0, 0, 4096}, {5, POOL, 4, 1, 0, 0, 4096}, {MOST, POOL, 4, 1, 0, 0, 4096},
+        {3 + (UINT64_C(1) << 32), POOL, 4, 1, 0, 0, 4096}, {3, POOL + 1, 4, 1, 0, 0, 4096}, {3, POOL + 2048, 4, 1, 0, 0, 4096},
+        {3, LIMIT - 4 * 4096 + 4096, 4, 1, 0, 0, 4096}, {3, LIMIT, 4, 1, 0, 0, 4096}, {3, 0 - UINT64_C(4096), 4, 1, 0, 0, 4096},
+        {3, MOST, 4, 1, 0, 0, 4096}, {3, POOL, 0, 1, 0, 0, 4096}, {3, POOL, 0, 0, 0, 0, 4096}, {3, POOL, 3, 1, 0, 0, 4096},
+        {3, POOL, 5, 1, 0, 0, 4096}, {3, POOL, 513, 1, 0, 0, 4096}, {3, POOL, 1 + (UINT64_C(1) << 32), 1, 0, 0, 4096},
+        {3, POOL, MOST, 1, 0, 0, 4096}, {3, POOL, 4, 4, 0, 0, 4096}, {3, POOL, 4, 5, 0, 0, 4096}, {3, POOL, 4, MOST, 0, 0, 4096},
+        {3, POOL, 4, 1 + (UINT64_C(1) << 32), 0, 0, 4096}, {0, 0, 0, 0, 0, 0, 0}, {4, POOL, 4, 4, 0, 0, 4096},
         /* a second base without tables, tables without memory */
-        {3, POOL, 4, 1, MORE, 0}, {3, POOL, 4, 1, 1, 0}, {3, POOL, 4, 1, MORE, 1}, {3, POOL, 4, 1, 0, 1}, {3, POOL, 3, 1, MORE, 1},
-        {3, POOL, 4, 1, MORE, MOST}, {3, POOL, 4, 1, MORE, MOST - 3},
+        {3, POOL, 4, 1, MORE, 0, 4096}, {3, POOL, 4, 1, 1, 0, 4096}, {3, POOL, 4, 1, MORE, 1, 4096}, {3, POOL, 4, 1, 0, 1, 4096},
+        {3, POOL, 3, 1, MORE, 1, 4096}, {3, POOL, 4, 1, MORE, MOST, 4096}, {3, POOL, 4, 1, MORE, MOST - 3, 4096},
     };
     three_mappings();
     for (size_t i = 0; i < COUNT(bad); i++) {
@@ -392,7 +401,7 @@ static void bad_setups(void) {
         all_refuse_1();
         if (bad[i].free < 4) format_two(bad[i].levels, bad[i].base, bad[i].tables, bad[i].second_base, bad[i].second_tables, 1);
     }
-    setup = (oak_setup){3, POOL, 513, 1, 0, 0};
+    setup = (oak_setup){3, POOL, 513, 1, 0, 0, 4096};
     lengths_of(513);
     all_refuse_1();
     format_is(3, POOL, 513, 1);
@@ -417,7 +426,7 @@ static void bad_lengths(void) {
     format_is(3, POOL, 4, 1);
     lengths_of(0);
     format_is(3, POOL, 0, 1);
-    setup = (oak_setup){3, POOL, 0, 0, 0, 0};
+    setup = (oak_setup){3, POOL, 0, 0, 0, 0, 4096};
     all_refuse_1();
 }
 
@@ -504,10 +513,10 @@ static void places_of_regions(void) {
     one_of_each();
     for (size_t i = 0; i < COUNT(wrong); i++) {
         format_two(3, POOL, 2, wrong[i], 3, 1);
-        setup = (oak_setup){3, POOL, 2, 2, wrong[i], 3};
+        setup = (oak_setup){3, POOL, 2, 2, wrong[i], 3, 4096};
         all_refuse_1();
     }
-    setup = (oak_setup){3, POOL, 2, 2, MORE, 3};
+    setup = (oak_setup){3, POOL, 2, 2, MORE, 3, 4096};
     for (second_len = 1535; second_len <= 1537; second_len += 2) {
         all_refuse_1();
         format_two(3, POOL, 2, MORE, 3, 1);
@@ -590,9 +599,9 @@ static void add_refuses_1(void) {
         {0, 0, 0}, {1024, 2048, 6},
     };
     static const oak_setup bad[] = {
-        {2, POOL, 4, 1, 0, 0}, {3, POOL + 1, 4, 1, 0, 0}, {3, MORE, 4, 1, 0, 0}, {3, MORE + 0x1000, 4, 1, 0, 0}, {3, POOL, 3, 1, 0, 0},
-        {3, POOL, 4, 4, 0, 0}, {3, POOL, 4, 5, 0, 0}, {3, POOL, 4, MOST, 0, 0}, {3, POOL, 4, 1, MORE, 0}, {3, POOL, 4, 1, MORE, 2},
-        {3, POOL, 4, 1, MORE + OAK_1_GIB, 2}, {0, 0, 0, 0, 0, 0},
+        {2, POOL, 4, 1, 0, 0, 4096}, {3, POOL + 1, 4, 1, 0, 0, 4096}, {3, MORE, 4, 1, 0, 0, 4096}, {3, MORE + 0x1000, 4, 1, 0, 0, 4096},
+        {3, POOL, 3, 1, 0, 0, 4096}, {3, POOL, 4, 4, 0, 0, 4096}, {3, POOL, 4, 5, 0, 0, 4096}, {3, POOL, 4, MOST, 0, 0, 4096},
+        {3, POOL, 4, 1, MORE, 0, 4096}, {3, POOL, 4, 1, MORE, 2, 4096}, {3, POOL, 4, 1, MORE + OAK_1_GIB, 2, 4096}, {0, 0, 0, 0, 0, 0, 0},
     };
     one_short();
     for (size_t i = 0; i < COUNT(numbers); i++) add_is(numbers[i][0], numbers[i][1], 1);
@@ -875,6 +884,339 @@ static void audit_refusals(void) {
     audit_is(1, 0, 0);
 }
 
+/* ---- the granule of 16 KiB: tables of 2048 entries, three levels, frames of 16 KiB and 32 MiB */
+
+/* two pages and 32 MiB: tables 1 and 2, three mappings, table 3 free */
+static void sixteen_mappings(void) {
+    fresh(3, POOL, 4);
+    writes(0, 0x40004003);
+    writes(2048, 0x40008003);
+    writes(4096, UINT64_C(0x00400000800007FF));
+    map_is(0, FRAME, OAK_16_KIB, 3, 0, 2);
+    writes(4097, 0x8000477F);
+    map_is(0x4000, 0x80004000, OAK_16_KIB, 5, 0, 0);
+    writes(2049, UINT64_C(0x00400000820007FD));
+    map_is(0x2000000, 0x82000000, OAK_32_MIB, 3, 0, 0);
+}
+
+static void sixteen_cases(void) {
+    sixteen_mappings();
+    audit_is(3, 3, 0);
+    map_refused(0x2004000, FRAME, OAK_16_KIB, 3, 6);
+    map_refused(0, FRAME, OAK_32_MIB, 3, 6);
+    map_refused(OAK_64_GIB, FRAME, OAK_16_KIB, 3, 7);
+    query_is(0x2012345, 0x2000000, 0x82000000, OAK_32_MIB, 3);
+    query_is(0x7FFF, 0x4000, 0x80004000, OAK_16_KIB, 5);
+    unmap_refused(0x2004000, 10);
+    unmap_hole(0xC000, 0xC000, OAK_16_KIB);
+    query_hole(0xBFFF, 0x8000, OAK_16_KIB);
+    query_hole(0x5FFFFFF, 0x4000000, OAK_32_MIB);
+    query_hole(OAK_64_GIB + 5, OAK_64_GIB, OAK_64_GIB);
+    writes(4096, 0);
+    unmap_is(0, FRAME, OAK_16_KIB, 3, 0);
+    writes(4097, 0);
+    writes(2048, 0);
+    writes_place(1, 2);
+    unmap_is(0x4000, 0x80004000, OAK_16_KIB, 5, 1);
+    audit_is(2, 1, 0);
+    query_hole(0x4000, 0, OAK_32_MIB);
+    writes(2049, 0);
+    writes(0, 0);
+    writes_place(2, 1);
+    unmap_is(0x2000000, 0x82000000, OAK_32_MIB, 3, 1);
+    audit_is(1, 0, 0);
+    unmap_hole(0x2004000, 0, OAK_64_GIB);
+    writes(2047, 0x40004003);
+    writes(2048 + 2047, 0x40008003);
+    writes(4096 + 2047, UINT64_C(0x0000FFFFFFFFC7FF));
+    map_is(SPACE_16 - OAK_16_KIB, LIMIT - OAK_16_KIB, OAK_16_KIB, 7, 0, 2);
+    query_is(SPACE_16 - 1, SPACE_16 - OAK_16_KIB, LIMIT - OAK_16_KIB, OAK_16_KIB, 7);
+    query_hole(SPACE_16 - OAK_16_KIB - 1, SPACE_16 - 2 * OAK_16_KIB, OAK_16_KIB);
+    query_hole(SPACE_16 - OAK_64_GIB - 1, SPACE_16 - 2 * OAK_64_GIB, OAK_64_GIB);
+    query_refused(SPACE_16, 4);
+    unmap_refused(SPACE_16, 4);
+    map_refused(SPACE_16, FRAME, OAK_16_KIB, 3, 4);
+    audit_is(3, 1, 0);
+    /* bits 46:36, 35:25 and 24:14 */
+    fresh(3, POOL, 4);
+    writes(5, 0x40004003);
+    writes(2048 + 7, 0x40008003);
+    writes(4096 + 9, UINT64_C(0x00400000800004C3));
+    map_is((UINT64_C(5) << 36) + (7 << 25) + (9 << 14), FRAME, OAK_16_KIB, 11, 0, 2);
+    writes(6, 0x4000C003);
+    writes(6144 + 2046, FRAME + 1 + 0x7FC);
+    map_is((UINT64_C(6) << 36) + (UINT64_C(2046) << 25), FRAME, OAK_32_MIB, 7, 0, 1);
+    audit_is(4, 2, 0);
+    fresh(3, POOL, 2);
+    map_refused(0, FRAME, OAK_16_KIB, 3, 7);
+    fresh(3, 0, 1);
+    map_refused(0, FRAME, OAK_32_MIB, 3, 7);
+}
+
+/* refusals 2 to 5 and 11 read the granule's own sizes */
+static void sixteen_refusals(void) {
+    static const uint64_t odd[] = {OAK_4_KIB, OAK_2_MIB, OAK_1_GIB, OAK_64_GIB, 0, 1, 8192, 16383, 16385, 0x10000, 0x1000000, SPACE_16, MOST};
+    sixteen_mappings();
+    for (size_t i = 0; i < COUNT(odd); i++) {
+        map_refused(0x8000, FRAME, odd[i], 3, 2);
+        map_refused(MOST, MOST, odd[i], MOST, 2);
+    }
+    map_refused(MOST, MOST, OAK_16_KIB, 16, 3);
+    map_refused(SPACE_16 - OAK_16_KIB, FRAME, OAK_32_MIB, 3, 4);
+    map_refused(SPACE_16 - OAK_16_KIB + 1, FRAME, OAK_16_KIB, 3, 4);
+    map_refused(0 - OAK_16_KIB, FRAME, OAK_16_KIB, 3, 4);
+    map_refused(0x8000, LIMIT - OAK_4_KIB, OAK_16_KIB, 3, 4);
+    map_refused(0x4000000, LIMIT - OAK_16_KIB, OAK_32_MIB, 3, 4);
+    map_refused(0x9000, FRAME, OAK_16_KIB, 3, 5);
+    map_refused(0x8000, FRAME + 0x1000, OAK_16_KIB, 3, 5);
+    map_refused(0x8000, FRAME + 0x2000, OAK_16_KIB, 3, 5);
+    map_refused(0x4000000 + OAK_2_MIB, FRAME, OAK_32_MIB, 3, 5);
+    map_refused(0x4000000, FRAME + 0x1000000, OAK_32_MIB, 3, 5);
+    unmap_refused(0x1000, 5);
+    unmap_refused(0x2000, 5);
+    unmap_refused(0x2001000, 5);
+    unmap_refused(SPACE_16 - OAK_4_KIB, 5);
+    map_refused(0x8000, POOL, OAK_16_KIB, 3, 11);
+    map_refused(0x8000, POOL + 0xC000, OAK_16_KIB, 3, 11);
+    map_refused(0x4000000, POOL, OAK_32_MIB, 3, 11);
+    map_refused(0, POOL, OAK_32_MIB, 3, 11);
+    writes(4098, POOL + 0x10000 + 3 + 0x7FC);
+    map_is(0x8000, POOL + 0x10000, OAK_16_KIB, 7, 0, 0);
+    writes(4099, POOL - 0x4000 + 3 + 0x7FC);
+    map_is(0xC000, POOL - 0x4000, OAK_16_KIB, 7, 0, 0);
+    writes(2050, POOL - OAK_32_MIB + 1 + 0x7FC);
+    map_is(0x4000000, POOL - OAK_32_MIB, OAK_32_MIB, 7, 0, 0);
+    audit_is(3, 6, 0);
+    damage(4100, POOL + 0xC000 + 3 + 0x7FC); /* a frame in the pool */
+    audit_refused(8);
+    query_is(0x10000, 0x10000, POOL + 0xC000, OAK_16_KIB, 7);
+    writes(4100, 0);
+    unmap_is(0x10000, POOL + 0xC000, OAK_16_KIB, 7, 0);
+    damage(2051, POOL + 1 + 0x7FC);
+    audit_refused(8);
+    writes(2051, 0);
+    unmap_is(0x6000000, POOL, OAK_32_MIB, 7, 0);
+    audit_is(3, 6, 0);
+    setup.free = 0;
+    map_refused(0x8000000, FRAME, OAK_16_KIB, 3, 7);
+}
+
+/* words that say nothing: a frame in the root, words with bit 12 or 13, a word of the wrong level, a table that names itself */
+static void sixteen_damaged(void) {
+    static const struct {
+        size_t at;
+        uint64_t word;
+    } damages[] = {
+        {0, 1 + 0x7FC}, {0, FRAME + 1 + 0x7FC}, {0, OAK_64_GIB + 1 + 0x7FC}, {0, 3 + 0x7FC}, {0, 0x40004003 + 0x1000}, {0, 0x40004003 + 0x2000},
+        {0, 0x40001003}, {0, 0x40000003}, {0, 0x40010003}, {0, 0x3FFFC003}, {2048, 0x40005003}, {2048, 0x40010003}, {2048, 0x40004003},
+        {2048, FRAME + 3 + 0x7FC}, {2048, FRAME + OAK_2_MIB + 1 + 0x7FC}, {2048, FRAME + OAK_16_KIB + 1 + 0x7FC}, {4096, 0x4000C003},
+        {4096, FRAME + 1 + 0x7FC}, {4096, FRAME + 0x1000 + 3 + 0x7FC}, {4096, FRAME + 0x2000 + 3 + 0x7FC}, {4096, LIMIT + 3 + 0x7FC}, {4096, MOST},
+    };
+    for (size_t i = 0; i < COUNT(damages); i++) {
+        sixteen_mappings();
+        damage(damages[i].at, damages[i].word);
+        map_refused(0, FRAME, OAK_16_KIB, 3, 8);
+        unmap_refused(0, 8);
+        query_refused(0x3FFF, 8);
+        audit_refused(8);
+        lengths_of_two(4, 2);
+        add_is(MORE, 2, 8);
+    }
+    /* the last word of a table keeps it */
+    sixteen_mappings();
+    damage(4096 + 2047, FRAME + 3 + 0x7FC);
+    writes(4097, 0);
+    unmap_is(0x4000, 0x80004000, OAK_16_KIB, 5, 0);
+    writes(4096, 0);
+    unmap_is(0, FRAME, OAK_16_KIB, 3, 0);
+    audit_is(3, 2, 0);
+    sixteen_mappings();
+    damage(6144 + 2047, 1); /* the free table is not zero */
+    audit_refused(8);
+    writes(6144 + 2047, 0); /* map fills it */
+    writes(2050, 0x4000C003);
+    writes(6144, FRAME + 3 + 0x7FC);
+    map_is(0x4000000, FRAME, OAK_16_KIB, 7, 0, 1);
+    audit_is(4, 4, 0);
+}
+
+/* refusal 1: the granule's number, four levels, a base that is aligned to 4096 alone, and the lengths of the other granule */
+static void sixteen_setups(void) {
+    static const uint64_t numbers[] = {0, 1, 12, 14, 512, 4095, 4097, 8192, 16383, 16385, 32768, 65536, 16384 + (UINT64_C(1) << 32), MOST};
+    static const oak_setup bad[] = {
+        {4, POOL, 4, 1, 0, 0, 16384}, {2, POOL, 4, 1, 0, 0, 16384}, {5, POOL, 4, 1, 0, 0, 16384}, {3, POOL + 0x1000, 4, 1, 0, 0, 16384},
+        {3, POOL + 0x2000, 4, 1, 0, 0, 16384}, {3, LIMIT - 0xC000, 4, 1, 0, 0, 16384}, {3, LIMIT - 0x10000 + 0x1000, 4, 1, 0, 0, 16384},
+        {3, 0 - UINT64_C(16384), 4, 1, 0, 0, 16384}, {3, POOL, 4, 4, 0, 0, 16384}, {3, POOL, 3, 1, 0, 0, 16384},
+        {3, POOL, 16, 1, 0, 0, 16384}, {3, POOL, 4, 1, 0, 0, 4096}, {3, POOL, 16, 1, 0, 0, 4096}, {4, POOL, 16, 1, 0, 0, 4096},
+        {3, POOL, 4, 1, MORE, 0, 16384},
+    };
+    sixteen_mappings();
+    for (size_t i = 0; i < COUNT(bad); i++) {
+        setup = bad[i];
+        granule = setup.granule;
+        all_refuse_1();
+        if (setup.free < 4) format_two(setup.levels, setup.base, setup.tables, setup.second_base, setup.second_tables, 1);
+        granule = OAK_16_KIB;
+    }
+    setup = (oak_setup){3, POOL, 4, 1, 0, 0, 16384};
+    for (size_t i = 0; i < COUNT(numbers); i++) {
+        setup.granule = granule = numbers[i];
+        all_refuse_1();
+        format_is(3, POOL, 4, 1);
+        words_len = 512 * 4;
+        all_refuse_1();
+        format_is(3, POOL, 4, 1);
+        words_len = 8192;
+        add_is(MORE, 2, 1);
+    }
+    setup.granule = granule = OAK_16_KIB;
+    for (words_len = 8191; words_len <= 8193; words_len += 2) {
+        all_refuse_1();
+        format_is(3, POOL, 4, 1);
+    }
+    words_len = 2048;
+    all_refuse_1();
+    format_is(3, POOL, 4, 1);
+    lengths_of(4);
+    audit_is(3, 3, 0);
+}
+
+/* a pool of one granule, read with the number of the other where all lengths fit: what its words say then */
+static void sixteen_mixed_up(void) {
+    granule = OAK_4_KIB;
+    three_mappings();
+    setup.granule = granule = OAK_16_KIB;
+    all_refuse_1();
+    format_is(3, POOL, 4, 1);
+    setup = (oak_setup){3, POOL, 1, 0, 0, 0, OAK_16_KIB}; /* four tables are one of the larger kind, whose number is 0 */
+    lengths_of(1);
+    query_refused(0, 8);
+    query_refused(UINT64_C(512) << 36, 8);
+    query_hole(UINT64_C(2047) << 36, UINT64_C(2047) << 36, OAK_64_GIB);
+    audit_refused(8);
+    fresh(3, POOL, 2);
+    writes(0, 0x40004003);
+    writes(2048, UINT64_C(0x00400000800007FD));
+    map_is(0, FRAME, OAK_32_MIB, 3, 0, 1);
+    setup = (oak_setup){3, POOL, 8, 0, 0, 0, OAK_4_KIB}; /* table 1 is the fourth of the smaller kind, and 32 MiB read as 2 MiB */
+    list_len = 8;
+    query_is(0x1FFFFF, 0, FRAME, OAK_2_MIB, 3);
+    query_hole(0x200000, 0x200000, OAK_2_MIB);
+    audit_refused(8);
+    writes(0, 0);
+    writes(2048, 0);
+    writes_place(0, 4);
+    unmap_is(0, FRAME, OAK_2_MIB, 3, 1);
+    granule = OAK_16_KIB;
+}
+
+static void sixteen_regions(void) {
+    static const uint64_t fine[] = {POOL + 0x8000, POOL - 0xC000, 0, LIMIT - 0xC000};
+    static const uint64_t wrong[] = {POOL + 0x4000, POOL - 0x8000, POOL, POOL + 0x6000, MORE + 0x1000, MORE + 0x2000, LIMIT - 0x8000, LIMIT - 0xB000};
+    for (size_t i = 0; i < COUNT(fine); i++) fresh_two(3, POOL, 2, fine[i], 3);
+    fresh_two(3, POOL, 2, MORE, 3);
+    for (size_t i = 0; i < COUNT(wrong); i++) {
+        format_two(3, POOL, 2, wrong[i], 3, 1);
+        setup = (oak_setup){3, POOL, 2, 2, wrong[i], 3, 16384};
+        all_refuse_1();
+    }
+    fresh_two(3, POOL, 2, MORE, 3);
+    writes(0, 0x40004003);
+    writes(2048, 0x50000003);
+    writes_second(0, UINT64_C(0x00400000800007FF));
+    map_is(0, FRAME, OAK_16_KIB, 3, 0, 2);
+    writes(1, 0x50004003);
+    writes_second(2048, 0x50008003);
+    writes_second(4096, UINT64_C(0x00400000800007FF));
+    map_is(OAK_64_GIB, FRAME, OAK_16_KIB, 3, 0, 2);
+    audit_is(5, 2, 0);
+    map_refused(0x4000, MORE + 0x8000, OAK_16_KIB, 3, 11);
+    map_refused(0x2000000, MORE, OAK_32_MIB, 3, 11);
+    writes_second(1, MORE + 0xC000 + 3 + 0x7FC);
+    map_is(0x4000, MORE + 0xC000, OAK_16_KIB, 7, 0, 0);
+    writes_second(1, 0);
+    unmap_is(0x4000, MORE + 0xC000, OAK_16_KIB, 7, 0);
+    writes(0, 0);
+    writes(2048, 0);
+    writes_second(0, 0);
+    writes_place(0, 2);
+    writes_place(1, 1);
+    unmap_is(0, FRAME, OAK_16_KIB, 3, 2);
+    query_is(OAK_64_GIB, OAK_64_GIB, FRAME, OAK_16_KIB, 3);
+    damage(1, 0x5000C003); /* past the second region */
+    query_refused(OAK_64_GIB, 8);
+    /* a region that is added: its tables are as large as the first ones */
+    sixteen_mappings();
+    lengths_of_two(4, 2);
+    add_is(MORE + 0x1000, 2, 1);
+    add_is(MORE + 0x2000, 2, 1);
+    add_is(POOL + 0xC000, 2, 1);
+    add_is(POOL - 0x4000, 2, 1);
+    add_is(LIMIT - 0x4000, 2, 1);
+    second_len = 512 * 2;
+    add_is(MORE, 2, 1);
+    lengths_of_two(4, 2);
+    add_is(FRAME + 0x4000, 2, 11);
+    add_is(FRAME - 0x4000, 2, 11);
+    add_is(0x83FFC000, 2, 11);
+    add_is(MORE, 2, 0);
+    writes(1, 0x50000003);
+    writes_second(0, 0x50004003);
+    writes_second(2048, UINT64_C(0x00400000800007FF));
+    map_is(OAK_64_GIB, FRAME, OAK_16_KIB, 3, 0, 2);
+    audit_is(5, 4, 0);
+    sixteen_mappings();
+    lengths_of_two(4, 2);
+    add_is(POOL + 0x10000, 2, 0);
+    sixteen_mappings();
+    lengths_of_two(4, 2);
+    add_is(POOL - 0x8000, 2, 0);
+    audit_is(3, 3, 0);
+    fresh(3, POOL, 64);
+    lengths_of_two(64, 64);
+    add_is(MORE, 64, 0);
+    audit_is(1, 0, 0);
+}
+
+/* 512 tables, each of 16 KiB; 513 are too many */
+static void sixteen_many(void) {
+    static uint64_t w[2048 * 513];
+    static uint32_t l[513];
+    oak_setup s;
+    oak_mapped m;
+    oak_audited a;
+    uint64_t refusal = 0;
+    test("format", "513 tables are", oak_format(3, POOL, 513, 0, 0, OAK_16_KIB, w, 2048 * 513, OAK_NO_WORDS, 0, l, 513, &s) == 1);
+    test("format", "512 tables are", oak_format(3, LIMIT - 512 * 16384, 512, 0, 0, OAK_16_KIB, w, 2048 * 512, OAK_NO_WORDS, 0, l, 512, &s) == 0);
+    for (uint64_t i = 0; i < 510 && refusal == 0; i++) {
+        refusal = oak_map(&s, w, 2048 * 512, OAK_NO_WORDS, 0, l, 512, i << 25, i << 14, OAK_16_KIB, 3, &m);
+        s = m.setup;
+    }
+    test("map", "the refusal is", refusal == 0 && s.free == 0);
+    test("map", "no table is", oak_map(&s, w, 2048 * 512, OAK_NO_WORDS, 0, l, 512, UINT64_C(510) << 25, 0, OAK_16_KIB, 3, &m) == 7);
+    test("audit", "the answer is", oak_audit(&s, w, 2048 * 512, OAK_NO_WORDS, 0, l, 512, &a) == 0 && a.tables == 512 && a.mappings == 510);
+}
+
+/* with 4 KiB there are no frames of the other granule's sizes */
+static void no_frames_of_sixteen(void) {
+    three_mappings();
+    map_refused(0x8000, FRAME, OAK_16_KIB, 3, 2);
+    map_refused(0x4000000, FRAME, OAK_32_MIB, 3, 2);
+}
+
+static void sixteen(void) {
+    granule = OAK_16_KIB;
+    sixteen_cases();
+    sixteen_refusals();
+    sixteen_damaged();
+    sixteen_setups();
+    sixteen_mixed_up();
+    sixteen_regions();
+    sixteen_many();
+    granule = OAK_4_KIB;
+    no_frames_of_sixteen();
+}
+
 int main(void) {
     the_cases();
     more_cases();
@@ -895,6 +1237,7 @@ int main(void) {
     query_refusals();
     holes();
     audit_refusals();
+    sixteen();
     printf("%lu passed, %lu failed\n", passed, failed);
     return failed != 0;
 }

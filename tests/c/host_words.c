@@ -14,7 +14,9 @@
 #define LIMIT (UINT64_C(1) << 48)
 #define MOST UINT64_MAX
 
-static const uint64_t sizes[3] = {UINT64_C(4096), UINT64_C(2097152), UINT64_C(1073741824)};
+/* the sizes of both granules: pages of 4 KiB and 16 KiB, and blocks of 2 MiB, 1 GiB and 32 MiB */
+enum { SIZES = 5 };
+static const uint64_t sizes[SIZES] = {UINT64_C(4096), UINT64_C(2097152), UINT64_C(1073741824), UINT64_C(16384), UINT64_C(33554432)};
 static unsigned long passed, failed;
 
 /* ---- the model */
@@ -22,7 +24,7 @@ static unsigned long passed, failed;
 static uint64_t bit(unsigned k) { return UINT64_C(1) << k; }
 
 static bool is_size(uint64_t size) {
-    return size == bit(12) || size == bit(21) || size == bit(30);
+    return size == bit(12) || size == bit(21) || size == bit(30) || size == bit(14) || size == bit(25);
 }
 
 static uint64_t model_attributes(uint64_t attributes) {
@@ -34,7 +36,9 @@ static uint64_t model_attributes(uint64_t attributes) {
     return word;
 }
 
-static uint64_t model_type(uint64_t size) { return size == bit(12) ? 3 : 1; }
+static bool is_page(uint64_t size) { return size == bit(12) || size == bit(14); }
+
+static uint64_t model_type(uint64_t size) { return is_page(size) ? 3 : 1; }
 
 /* base + size is above 2^48, without a sum that could wrap */
 static bool past_end(uint64_t base, uint64_t size) { return base > LIMIT || size > LIMIT - base; }
@@ -97,6 +101,22 @@ static void fixed_words(void) {
     meaning(UINT64_C(0x00400000802007FD), OAK_1_GIB, 8);
     meaning(UINT64_C(0x00400000802007FD), 4096, 8);
     meaning(UINT64_C(0x00400000800007FF), OAK_2_MIB, 8);
+    /* 16 KiB and 32 MiB: the words of 4 KiB and of 2 MiB, where the base is a multiple of the larger size too */
+    frame(0x80000000, OAK_16_KIB, 3, UINT64_C(0x00400000800007FF));
+    frame(0x80004000, OAK_16_KIB, 5, 0x8000477F);
+    frame(0x82000000, OAK_32_MIB, 3, UINT64_C(0x00400000820007FD));
+    frame(LIMIT - OAK_16_KIB, OAK_16_KIB, 7, UINT64_C(0x0000FFFFFFFFC7FF));
+    frame(LIMIT - OAK_32_MIB, OAK_32_MIB, 15, UINT64_C(0x0000FFFFFE0004C1));
+    meaning(0x8000477F, OAK_16_KIB, 0x80004015);
+    meaning(0x8000477F, OAK_4_KIB, 0x80004015);
+    meaning(0x8000177F, OAK_16_KIB, 8);
+    meaning(0x8000277F, OAK_16_KIB, 8);
+    meaning(UINT64_C(0x00400000820007FD), OAK_32_MIB, 0x82000013);
+    meaning(UINT64_C(0x00400000820007FD), OAK_2_MIB, 0x82000013);
+    meaning(UINT64_C(0x00400000820007FD), OAK_1_GIB, 8);
+    meaning(UINT64_C(0x00400000802007FD), OAK_32_MIB, 8);
+    meaning(UINT64_C(0x00400000820007FD), OAK_16_KIB, 8);
+    meaning(UINT64_C(0x00400000800007FF), OAK_32_MIB, 8);
     equal("base of a meaning", OAK_MEANING_BASE(oak_word_meaning(0x8000177F, 4096)), 0x80001000);
     equal("attributes of a meaning", OAK_MEANING_ATTRIBUTES(oak_word_meaning(0x8000177F, 4096)), OAK_READ | OAK_EXECUTE);
 }
@@ -104,8 +124,8 @@ static void fixed_words(void) {
 /* each refusal, and that the earlier one is given where two apply */
 static void refusals(void) {
     static const uint64_t odd[] = {
-        0, 1, 15, 16, 4095, 4097, 8192, 0x10000, 0x1FFFFF, 0x200001, 0x400000, 0x3FFFFFFF, 0x40000001, 0x80000000,
-        UINT64_C(0x8000000000), LIMIT, UINT64_C(1) << 63, MOST,
+        0, 1, 15, 16, 4095, 4097, 8192, 16383, 16385, 0x8000, 0x10000, 0x1FFFFF, 0x200001, 0x400000, 0x1FFFFFF, 0x2000001, 0x4000000,
+        0x3FFFFFFF, 0x40000001, 0x80000000, UINT64_C(0x1000000000), UINT64_C(0x8000000000), LIMIT, UINT64_C(1) << 63, MOST,
     };
     for (size_t i = 0; i < COUNT(odd); i++) {
         frame(0x80000000, odd[i], 3, OAK_REFUSED_SIZE);
@@ -113,7 +133,7 @@ static void refusals(void) {
         meaning(0x8000177F, odd[i], OAK_REFUSED_SIZE);
         meaning(0, odd[i], OAK_REFUSED_SIZE);
     }
-    for (size_t i = 0; i < 3; i++) {
+    for (size_t i = 0; i < SIZES; i++) {
         uint64_t s = sizes[i];
         frame(0, s, 16, OAK_REFUSED_ATTRIBUTES);
         frame(0, s, UINT64_C(1) << 32, OAK_REFUSED_ATTRIBUTES);
@@ -139,11 +159,15 @@ static void refusals(void) {
     }
     frame(4096, OAK_2_MIB, 3, OAK_REFUSED_BASE);
     frame(OAK_2_MIB, OAK_1_GIB, 3, OAK_REFUSED_BASE);
+    frame(4096, OAK_16_KIB, 3, OAK_REFUSED_BASE);
+    frame(8192, OAK_16_KIB, 3, OAK_REFUSED_BASE);
+    frame(OAK_2_MIB, OAK_32_MIB, 3, OAK_REFUSED_BASE);
+    frame(OAK_16_KIB, OAK_32_MIB, 3, OAK_REFUSED_BASE);
 }
 
 /* the device words from before request 4, Device-nGnRE: bits 5:2 = 0001 */
 static void old_device_words(void) {
-    for (size_t i = 0; i < 3; i++)
+    for (size_t i = 0; i < SIZES; i++)
         for (uint64_t a = 8; a < 16; a++) {
             uint64_t word = oak_frame_word(3 * sizes[2], sizes[i], a);
             meaning(word, sizes[i], 3 * sizes[2] + 16 + a);
@@ -151,9 +175,10 @@ static void old_device_words(void) {
         }
 }
 
-/* all sixteen attributes at the three sizes: word, meaning, each bit changed alone, and no word of one size at another */
+/* all sixteen attributes at the five sizes: word, meaning, each bit changed alone, and no word of a page at the size of a block, nor the
+ * other way round */
 static void round_trips(void) {
-    for (size_t i = 0; i < 3; i++) {
+    for (size_t i = 0; i < SIZES; i++) {
         uint64_t bases[] = {0, sizes[i], 7 * sizes[i], LIMIT / 2, LIMIT - sizes[i]};
         for (uint64_t a = 0; a < 16; a++) {
             for (size_t j = 0; j < COUNT(bases); j++) {
@@ -161,7 +186,8 @@ static void round_trips(void) {
                 frame(bases[j], sizes[i], a, model_word(bases[j], sizes[i], a));
                 meaning(word, sizes[i], bases[j] + 16 + a);
             }
-            for (size_t j = 0; j < 3; j++) meaning(oak_frame_word(0, sizes[i], a), sizes[j], (i == 0) == (j == 0) ? 16 + a : 8);
+            for (size_t j = 0; j < SIZES; j++)
+                meaning(oak_frame_word(0, sizes[i], a), sizes[j], is_page(sizes[i]) == is_page(sizes[j]) ? 16 + a : 8);
             for (unsigned k = 0; k < 64; k++) {
                 uint64_t word = oak_frame_word(sizes[i], sizes[i], a) ^ bit(k);
                 meaning(word, sizes[i], model_meaning(word, sizes[i]));
@@ -181,7 +207,7 @@ static uint64_t random64(void) {
 
 static uint64_t random_size(void) {
     uint64_t r = random64() % 16;
-    return r == 0 ? random64() : r == 1 ? bit((unsigned)(random64() % 64)) : sizes[r % 3];
+    return r == 0 ? random64() : r == 1 ? bit((unsigned)(random64() % 64)) : sizes[r % SIZES];
 }
 
 static uint64_t random_base(uint64_t size) {
@@ -204,7 +230,7 @@ static uint64_t random_word(uint64_t size) {
     uint64_t r = random64() % 8;
     if (r == 0) return random64();
     if (r == 1) return random64() % (LIMIT / 4096) * 4096 + 3;
-    uint64_t of = is_size(size) && r < 6 ? size : sizes[r % 3];
+    uint64_t of = is_size(size) && r < 6 ? size : sizes[random64() % SIZES];
     uint64_t word = model_word(random64() % (LIMIT / of) * of, of, random64() % 16);
     for (uint64_t changes = random64() % 3; changes > 0; changes--) word ^= bit((unsigned)(random64() % 64));
     return word;

@@ -12,8 +12,8 @@ int main(void) {
     oak_found found;
     int passed = 0;
 
-    /* three levels: a space of 2^39 bytes; one region of tables, so there is no second run of words */
-    passed += oak_format(3, 0x40000000, 4, 0, 0, words, 4 * 512, OAK_NO_WORDS, 0, list, 4, &setup) == 0;
+    /* three levels of 4 KiB tables: a space of 2^39 bytes; one region of tables, so there is no second run of words */
+    passed += oak_format(3, 0x40000000, 4, 0, 0, OAK_4_KIB, words, 4 * 512, OAK_NO_WORDS, 0, list, 4, &setup) == 0;
 
     /* a page at address 0, which takes two tables; the setup that comes back is for the next call */
     passed += oak_map(&setup, words, 4 * 512, OAK_NO_WORDS, 0, list, 4, 0, 0x80000000, OAK_4_KIB, OAK_READ, &mapped) == 0;

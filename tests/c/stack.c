@@ -1,5 +1,6 @@
 /* No call uses more than 8 KiB of stack. Each call is made on a stack of its own that was painted before, and the paint that is gone is counted:
- * on full pools of 512 tables in two regions, cyclic ones and nonsense, three and four levels. The last line is `N passed, M failed`. */
+ * on full pools of 512 tables in two regions, cyclic ones and nonsense, three and four levels, and with the larger granule. The last line is
+ * `N passed, M failed`. */
 #define _XOPEN_SOURCE 700
 #include <stdint.h>
 #include <stdio.h>
@@ -8,16 +9,16 @@
 
 #include "oakabut.h"
 
-enum { FIRST = 300, SECOND = 212, TABLES = FIRST + SECOND, ENTRIES = 512, STACK = 65536, MOST = 8192, PAINT = 0xA5, KNOWN = 4000 };
+enum { FIRST = 300, SECOND = 212, TABLES = FIRST + SECOND, MOST_ENTRIES = 2048, STACK = 65536, MOST = 8192, PAINT = 0xA5, KNOWN = 4000 };
 
 #define BASE UINT64_C(0x40000000)
 #define SECOND_BASE UINT64_C(0x50000000)
 
-static uint64_t words[FIRST * ENTRIES], second[SECOND * ENTRIES];
+static uint64_t words[FIRST * MOST_ENTRIES], second[SECOND * MOST_ENTRIES];
 static uint32_t list[TABLES];
-#define LENT words, FIRST * ENTRIES, second, SECOND * ENTRIES, list, TABLES
+#define LENT words, FIRST * entries, second, SECOND * entries, list, TABLES
 static oak_setup setup;
-static uint64_t result, address, frame, size, attributes, levels;
+static uint64_t result, address, frame, size, attributes, levels, granule, entries;
 static unsigned char stack[STACK] __attribute__((aligned(64)));
 static ucontext_t here, there;
 
@@ -27,9 +28,9 @@ static void known(void) { /* uses KNOWN bytes and little more */
     for (int i = 0; i < KNOWN; i++) bytes[i] = 1;
     result = bytes[KNOWN - 1];
 }
-static void do_format(void) { result = oak_format(levels, BASE, FIRST, SECOND_BASE, SECOND, LENT, &setup); }
+static void do_format(void) { result = oak_format(levels, BASE, FIRST, SECOND_BASE, SECOND, granule, LENT, &setup); }
 static void do_add(void) { /* to the setup without its second region */
-    oak_setup one = {setup.levels, setup.base, setup.tables, setup.free % FIRST, 0, 0}, grown;
+    oak_setup one = {setup.levels, setup.base, setup.tables, setup.free % FIRST, 0, 0, setup.granule}, grown;
     result = oak_add(&one, LENT, SECOND_BASE, SECOND, &grown);
 }
 static void do_map(void) {
@@ -83,42 +84,49 @@ static uint64_t next(void) {
     return seed;
 }
 
+/* All calls on pools of so many levels and of a granule, whose tables of pages stand for 2^block bytes; how many answers were wrong. */
+static int pools(uint64_t of_levels, uint64_t of_granule, unsigned block) {
+    int wrong = 0;
+    levels = of_levels, granule = of_granule, entries = granule / 8, size = granule;
+    make(FORMAT);
+    for (int i = 0; i < TABLES + 50; i++) { /* far apart, so that tables run out; then back again */
+        address = ((uint64_t)i << block) + granule * (uint64_t)i;
+        frame = UINT64_C(0x80000000) + granule * (uint64_t)i;
+        attributes = (uint64_t)i % 16;
+        make(MAP), make(QUERY);
+        if (i % 50 == 0) make(AUDIT);
+    }
+    make(AUDIT), make(ADD); /* some words name tables of the second region, so this one gets 8 */
+    if (result != OAK_REFUSED_DAMAGED) wrong++, printf("add: %u\n", (unsigned)result);
+    for (int i = 0; i < TABLES + 50; i++) {
+        address = ((uint64_t)i << block) + granule * (uint64_t)i;
+        make(UNMAP), make(QUERY);
+        if (i % 50 == 0) make(AUDIT);
+    }
+    make(AUDIT), make(FORMAT);
+    for (int i = 0; i < FIRST - 10; i++) { /* the tables of the first region are taken first; then an add that is accepted */
+        address = (uint64_t)i << block;
+        make(MAP);
+    }
+    make(ADD);
+    if (result != 0) wrong++, printf("add: %u\n", (unsigned)result);
+    for (int i = 0; i < 40; i++) { /* nonsense, and tables that name each other */
+        for (uint64_t j = 0; j < FIRST * entries; j++) words[j] = i % 2 ? next() : BASE + 3 + granule * (next() % FIRST);
+        for (uint64_t j = 0; j < SECOND * entries; j++) second[j] = i % 2 ? next() : SECOND_BASE + 3 + granule * (next() % SECOND);
+        for (int j = 0; j < TABLES; j++) list[j] = (uint32_t)next();
+        setup.free = (uint64_t)i;
+        address = next() % (granule == OAK_16_KIB ? UINT64_C(1) << 47 : levels == 3 ? UINT64_C(1) << 39 : UINT64_C(1) << 48) / granule * granule;
+        make(MAP), make(UNMAP), make(QUERY), make(AUDIT), make(ADD);
+    }
+    return wrong;
+}
+
 int main(void) {
     int failed = 0, passed = 0;
     make(SWITCH), make(MEASURE);
-    for (levels = 3; levels <= 4; levels++) {
-        make(FORMAT);
-        for (int i = 0; i < TABLES + 50; i++) { /* far apart, so that tables run out; then back again */
-            address = ((uint64_t)i << 21) + ((uint64_t)i << 12);
-            frame = UINT64_C(0x80000000) + ((uint64_t)i << 12);
-            size = 4096;
-            attributes = (uint64_t)i % 16;
-            make(MAP), make(QUERY);
-            if (i % 50 == 0) make(AUDIT);
-        }
-        make(AUDIT), make(ADD); /* some words name tables of the second region, so this one gets 8 */
-        if (result != OAK_REFUSED_DAMAGED) failed++, printf("add: %u\n", (unsigned)result);
-        for (int i = 0; i < TABLES + 50; i++) {
-            address = ((uint64_t)i << 21) + ((uint64_t)i << 12);
-            make(UNMAP), make(QUERY);
-            if (i % 50 == 0) make(AUDIT);
-        }
-        make(AUDIT), make(FORMAT);
-        for (int i = 0; i < FIRST - 10; i++) { /* the tables of the first region are taken first; then an add that is accepted */
-            address = (uint64_t)i << 21;
-            make(MAP);
-        }
-        make(ADD);
-        if (result != 0) failed++, printf("add: %u\n", (unsigned)result);
-        for (int i = 0; i < 40; i++) { /* nonsense, and tables that name each other */
-            for (int j = 0; j < FIRST * ENTRIES; j++) words[j] = i % 2 ? next() : BASE + 3 + 4096 * (next() % FIRST);
-            for (int j = 0; j < SECOND * ENTRIES; j++) second[j] = i % 2 ? next() : SECOND_BASE + 3 + 4096 * (next() % SECOND);
-            for (int j = 0; j < TABLES; j++) list[j] = (uint32_t)next();
-            setup.free = (uint64_t)i;
-            address = next() % (levels == 3 ? UINT64_C(1) << 39 : UINT64_C(1) << 48) / 4096 * 4096;
-            make(MAP), make(UNMAP), make(QUERY), make(AUDIT), make(ADD);
-        }
-    }
+    failed += pools(3, OAK_4_KIB, 21);
+    failed += pools(4, OAK_4_KIB, 21);
+    failed += pools(3, OAK_16_KIB, 25);
     for (int call = 0; call < SWITCH; call++) {
         int fine = worst[SWITCH] < worst[call] && worst[call] - worst[SWITCH] <= MOST;
         printf("%s: %zu bytes of stack\n", names[call], worst[call] - worst[SWITCH]);

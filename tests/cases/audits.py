@@ -16,11 +16,11 @@ FOUR = {ROOT: link(1), FIRST + 511: link(3), THIRD: link(2), SECOND + 511: frame
 FREE = [3, 2, 1, 0]
 
 
-def says(name, levels, free, entries, places=FREE):
+def says(name, levels, free, entries, places=FREE, granule=PAGE):
     """A line: what the audit answers of a pool of four tables with these words, and this free list."""
     words = [0] * 2048
     for i, w in entries.items(): words[i] = w
-    a = audit_(Setup(levels, BASE, 4, free), Lent(words, [], places))
+    a = audit_(Setup(levels, BASE, 4, free, 0, 0, granule), Lent(words, [], places))
     print(f'{name}: ' + (f'refused {a[1]}' if a[0] == 'refused' else f'sound, tables {a[1]}, mappings {a[2]}'))
 
 
@@ -49,3 +49,5 @@ says('free number out of range', 3, 1, THREE, [4, 2, 1, 0])
 says('free number twice', 3, 2, TWO, [3, 3, 1, 0])
 says('free number reached', 3, 3, ONE, [3, 2, 0, 0])
 says('free table not zero', 3, 1, {**THREE, THIRD + 511: 1})
+says('the other granule', 3, 1, THREE, granule=16384)
+says('no such granule', 3, 1, THREE, granule=8192)

@@ -20,7 +20,7 @@ def audit(s):
 def refused(k, same):
     say(f'  Refused with {k}{WHY[k]}.')
     assert same
-    say('  All 2048 words, 4 places of the free list and 6 setup numbers are as before.')
+    say('  All 2048 words, 4 places of the free list and 7 setup numbers are as before.')
 
 
 def mp(s, at, f, z, a):
@@ -55,7 +55,7 @@ def qu(s, at):
 
 
 say('Format a pool of 4 tables at 0x40000000, for addresses below 0x8000000000.')
-a, s = format_(3, 0x40000000, 4, 0, 0, M)
+a, s = format_(3, 0x40000000, 4, 0, 0, 4096, M)
 assert a == ('done',)
 audit(s)
 say('\nThe scan guest gets its program and a buffer for pictures.')

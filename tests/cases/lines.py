@@ -2,9 +2,10 @@
 import sys
 from paper import *
 BASE, FRAME, PAGE, MIB2, GIB = 0x40000000, 0x80000000, 4096, 2 ** 21, 2 ** 30
+KIB16, MIB32, GIB64, SPACE16 = 2 ** 14, 2 ** 25, 2 ** 36, 2 ** 47
 TOP = 2 ** 64 - 4096
 given, wanted = [], []
-M, cur = Lent([], [], []), Setup(0, 0, 0, 0)
+M, cur = Lent([], [], []), Setup(0, 0, 0, 0, 0, 0, 0)
 
 
 def line(head, answer=''):
@@ -12,8 +13,23 @@ def line(head, answer=''):
     wanted.append(head + answer)
 
 
-def second(s): return f', second base {s.base2:#x}, second tables {s.tables2}' if (s.base2, s.tables2) != (0, 0) else ''
-def nums(s): return f'levels {s.levels}, base {s.base:#x}, tables {s.tables}, free {s.free}' + second(s)
+def second(s): return f', second base {s.base2:#x}, second tables {s.tables2}'
+def granule(s): return f', granule {s.granule}'
+
+
+def last(s):
+    """The last numbers of a line that is read. They are read by their places: a number that is not written is 0, the granule 4096, and before a granule
+    that is written the second region's numbers stand too."""
+    return (second(s) if s.granule != 4096 or (s.base2, s.tables2) != (0, 0) else '') + (granule(s) if s.granule != 4096 else '')
+
+
+def told(s):
+    """A setup that is handed back. The second region's numbers stand where one is not 0, and the granule where it is not 4096, or 0 where no level is."""
+    more = second(s) if (s.base2, s.tables2) != (0, 0) else ''
+    return nums(s) + more + (granule(s) if s.granule != (4096 if s.levels else 0) else '')
+
+
+def nums(s): return f'levels {s.levels}, base {s.base:#x}, tables {s.tables}, free {s.free}'
 def fr(f, z, a): return f'frame {f:#x}, size {z:#x}, attributes {a}'
 
 
@@ -25,7 +41,7 @@ def said(head, a, done, old):
     words = [f'; word {i}={w:#x}' for i, (w, o) in enumerate(zip(M.first + M.second, old.first + old.second)) if w != o]
     places = [f'; place {i}={t}' for i, (t, o) in enumerate(zip(M.list, old.list)) if t != o]
     answer = refused(*a[1:]) if a[0] == 'refused' else done(*a[1:])
-    line(head, f' -> {answer}; {nums(cur)}' + (''.join(words + places) or '; kept'))
+    line(head, f' -> {answer}; {told(cur)}' + (''.join(words + places) or '; kept'))
 
 
 def heading(t):
@@ -61,16 +77,16 @@ def place(name, i, t):
 def setup(name, *numbers):
     global cur
     cur = Setup(*numbers)
-    line(f'{name}: setup {nums(cur)}')
+    line(f'{name}: setup {nums(cur)}{last(cur)}')
 
 
-def fmt(name, levels, base, n, base2=0, n2=0):
+def fmt(name, levels, base, n, base2=0, n2=0, size=4096):
     global cur
     old = M.copy()
-    a, cur = format_(levels, base, n, base2, n2, M)
+    a, cur = format_(levels, base, n, base2, n2, size, M)
     if a[0] == 'refused': assert old.key() == M.key()
     else: old.first, old.second = [0] * len(M.first), [0] * len(M.second)
-    head = f'{name}: format levels {levels}, base {base:#x}, tables {n}' + second(Setup(levels, base, n, 0, base2, n2))
+    head = f'{name}: format levels {levels}, base {base:#x}, tables {n}' + last(Setup(levels, base, n, 0, base2, n2, size))
     said(head, a, lambda: 'done, all words 0', old)
 
 
@@ -936,6 +952,350 @@ ad('8 before 11', MORE, 2)
 word('8 before 11', 1027, 0)
 ad('between the page and 2 MiB', MORE + PAGE, 2)
 au('between the page and 2 MiB')
+
+# ---- the granule of 16 KiB
+LINK16 = lambda c: BASE + KIB16 * c + 3
+LINK16_2 = lambda t: MORE + KIB16 * t + 3
+
+
+def fmt16(name, n=4, base=BASE, base2=0, n2=0): fmt(name, 3, base, n, base2, n2, 16384)
+def setup16(name, n, free, base2=0, n2=0): setup(name, 3, BASE, n, free, base2, n2, 16384)
+
+
+def pool_of_16(fresh=True):
+    """Two pages and 32 MiB: tables 1 and 2, three mappings, table 3 free."""
+    if fresh: fmt16('pool')
+    mp('pool', 0, FRAME, KIB16, 3)
+    mp('pool', KIB16, FRAME + KIB16, KIB16, 5)
+    mp('pool', MIB32, FRAME + MIB32, MIB32, 3)
+
+
+heading('The cases again, with pages of 16 KiB and a frame of 32 MiB.')
+lend('memory that holds anything', 8192, 7, 4, 9)
+fmt16('16 KiB')
+mp('16 KiB', 0, FRAME, KIB16, 3)
+mp('16 KiB', KIB16, FRAME + KIB16, KIB16, 5)
+mp('16 KiB', MIB32, FRAME + MIB32, MIB32, 3)
+au('three mappings')
+mp('inside 32 MiB', MIB32 + KIB16, FRAME, KIB16, 3)
+mp('32 MiB over a table', 0, FRAME, MIB32, 3)
+mp('needs 2, has 1', GIB64, FRAME, KIB16, 3)
+qu('inside 32 MiB', MIB32 + 0x12345)
+qu('a page', 2 * KIB16 - 1)
+un('inside 32 MiB', MIB32 + KIB16)
+un('a hole', 3 * KIB16)
+un('a page', 0)
+au('a page')
+un('the other', KIB16)
+au('the other')
+un('32 MiB', MIB32)
+au('32 MiB')
+mp('the last page of the space', SPACE16 - KIB16, 2 ** 48 - KIB16, KIB16, 7)
+mp('past the space', SPACE16, FRAME, KIB16, 3)
+au('the last page of the space')
+qu('last byte', SPACE16 - 1)
+qu('past the space', SPACE16)
+qu('past 2^39, which is no limit here', 2 ** 39)
+un('the last page of the space', SPACE16 - KIB16)
+mp('bits 46 to 36, 35 to 25, 24 to 14', (5 << 36) + (7 << 25) + (9 << 14), FRAME, KIB16, 11)
+qu('bits 46 to 36, 35 to 25, 24 to 14', (5 << 36) + (7 << 25) + (9 << 14) + 0x3FFF)
+mp('the last entry of each table', (2047 << 36) + (2047 << 25), FRAME, MIB32, 7)
+au('the last entry of each table')
+lend('one table', 2048, 7, 1, 9)
+fmt16('one table', 1)
+mp('one table', 0, FRAME, MIB32, 3)
+au('one table')
+lend('two tables', 4096, 7, 2, 9)
+fmt16('two tables', 2)
+mp('two tables', 0, FRAME, KIB16, 3)
+mp('two tables', 0, FRAME, MIB32, 3)
+au('two tables')
+lend('16 tables', 32768, 7, 16, 9)
+fmt16('16 tables', 16, 2 ** 48 - 16 * KIB16)
+for k in range(5): mp('16 tables', k * (GIB64 + MIB32), FRAME, KIB16, k)
+au('16 tables')
+un('16 tables', 2 * (GIB64 + MIB32))
+au('16 tables')
+
+heading('Holes of 64 GiB, of 32 MiB and of 16 KiB.')
+lend('four tables', 8192, 7, 4, 9)
+fmt16('an empty pool')
+qu('an empty pool', 0)
+un('an empty pool', 0)
+qu('inside the region', 5 * GIB64 + 0x12345)
+un('the last page', SPACE16 - KIB16)
+pool_of_16(False)
+qu('beside the pages', 2 * KIB16)
+qu('beside the pages, its last byte', MIB32 - 1)
+qu('beside 32 MiB', 2 * MIB32 + 1)
+un('beside 32 MiB', 2 * MIB32 + KIB16)
+qu('beside 64 GiB', GIB64)
+un('one of two pages', 0)
+qu('one of two pages', 0)
+un('the other', KIB16)
+qu('its table is pruned', KIB16)
+un('32 MiB', MIB32)
+qu('all are', MIB32 + KIB16)
+
+heading('The attributes of pages of 16 KiB and of frames of 32 MiB.')
+for k in range(16):
+    mp('attributes', k * KIB16, FRAME + k * KIB16, KIB16, k)
+    mp('attributes', (k + 1) * MIB32, FRAME + k * MIB32, MIB32, k)
+qu('attributes', 11 * KIB16)
+qu('attributes', 12 * MIB32)
+au('attributes')
+
+heading('Format refuses, by 1, numbers that are no granule, four levels of 16 KiB, and a base that is a multiple of 4096 alone.')
+GRANULE_NUMBERS = [0, 1, 4095, 4097, 8192, 16383, 16385, 65536, 2 ** 32 + 16384, 2 ** 64 - 1]
+for words in (2048, 8192):
+    lend(f'{words} words', words, 7, 4, 9)
+    for size in GRANULE_NUMBERS: fmt(f'granule {size}', 3, BASE, 4, size=size)
+    fmt('four levels, 4096', 4, BASE, 4)
+    fmt('four levels, 16384', 4, BASE, 4, size=16384)
+    fmt('three levels, 4096', 3, BASE, 4)
+    fmt('three levels, 16384', 3, BASE, 4, size=16384)
+for levels in (2, 5): fmt(f'levels {levels}', levels, BASE, 4, size=16384)
+fmt('base a multiple of 4096', 3, BASE + PAGE, 4, size=16384)
+fmt('base a multiple of 8192', 3, BASE + 2 * PAGE, 4, size=16384)
+fmt('base too high', 3, 2 ** 48 - 3 * KIB16, 4, size=16384)
+fmt('base too high, by 4096', 3, 2 ** 48 - 4 * KIB16 + PAGE, 4, size=16384)
+fmt('the highest base', 3, 2 ** 48 - 4 * KIB16, 4, size=16384)
+fmt('three tables', 3, BASE, 3, size=16384)
+fmt('16 tables', 3, BASE, 16, size=16384)
+fmt('513 tables', 3, BASE, 513, size=16384)
+fmt('no table', 3, BASE, 0, size=16384)
+for words, places in [(8191, 4), (8193, 4), (8192, 3), (8192, 5), (8192, 16), (2048, 4)]:
+    lend(f'{words} words and {places} places', words, 7, places, 9)
+    fmt(f'{words} words and {places} places', 3, BASE, 4, size=16384)
+
+
+def all_refuse_16(name, *numbers):
+    setup(name, *numbers)
+    mp(name, 3 * KIB16, FRAME, KIB16, 3)
+    un(name, KIB16)
+    qu(name, KIB16)
+    au(name)
+    ad(name, MORE, 1)
+
+
+heading('Every other call refuses them too, by 1.')
+lend('four tables', 8192, 7, 4, 9)
+pool_of_16()
+for size in GRANULE_NUMBERS: all_refuse_16(f'granule {size}', 3, BASE, 4, 1, 0, 0, size)
+all_refuse_16('the other granule', 3, BASE, 4, 1)
+all_refuse_16('the other granule, 16 tables', 3, BASE, 16, 1)
+all_refuse_16('four levels', 4, BASE, 4, 1, 0, 0, 16384)
+all_refuse_16('base a multiple of 4096', 3, BASE + PAGE, 4, 1, 0, 0, 16384)
+all_refuse_16('base too high', 3, 2 ** 48 - 3 * KIB16, 4, 1, 0, 0, 16384)
+all_refuse_16('three tables', 3, BASE, 3, 1, 0, 0, 16384)
+all_refuse_16('all tables free', 3, BASE, 4, 4, 0, 0, 16384)
+setup16('the pool', 4, 1)
+au('the pool is as before')
+lend('four small tables', 2048, 7, 4, 9)
+pool_of_case_4()
+for size in [0, 4095, 8192, 16383, 16384, 65536]: all_refuse(f'granule {size}', 3, BASE, 4, 1, 0, 0, size)
+setup('the pool', 3, BASE, 4, 1)
+au('the pool is as before')
+
+heading('A pool of one granule under the number of the other, where all lengths fit. It is what its words say then.')
+have('places for one', 0, 0, 1, 0)
+setup16('four small tables are one of 16 KiB', 1, 0)
+qu('its first word names no table', 0)
+qu('nor does word 512', 512 * GIB64)
+qu('word 2047 is empty', 2047 * GIB64)
+un('word 2047 is empty', 2047 * GIB64)
+mp('word 2047 is empty', 2047 * GIB64, FRAME, MIB32, 3)
+au('a damaged root')
+lend('two tables of 16 KiB', 4096, 7, 2, 9)
+fmt16('two tables of 16 KiB', 2)
+mp('32 MiB', 0, FRAME, MIB32, 3)
+have('places for eight', 0, 0, 8, 0)
+setup('two tables of 16 KiB are eight small ones', 3, BASE, 8, 0)
+qu('table 4 has the word, for 2 MiB', MIB2 - 1)
+qu('beside it', MIB2)
+mp('beside it', MIB2, FRAME, MIB2, 3)
+au('tables that are neither free nor reached')
+un('beside it', MIB2)
+un('2 MiB', 0)
+
+heading('Refusals 2 to 5 read the granule\'s own sizes.')
+lend('four tables', 8192, 7, 4, 9)
+pool_of_16()
+for size in [PAGE, MIB2, GIB, GIB64, 0, 8192, 2 ** 24, SPACE16]: mp('no such size', 0, FRAME, size, 3)
+mp('attributes 16', 2 * KIB16, FRAME, KIB16, 16)
+mp('ends past the space', SPACE16 - KIB16, FRAME, MIB32, 3)
+mp('ends past the space, by 4096', SPACE16 - KIB16 + PAGE, FRAME, KIB16, 3)
+mp('address at the top of 64 bits', 2 ** 64 - KIB16, FRAME, KIB16, 3)
+mp('past the space, low bits of a hole', SPACE16 + 2 * KIB16, FRAME, KIB16, 3)
+mp('frame ends past 2^48', 2 * KIB16, 2 ** 48 - PAGE, KIB16, 3)
+mp('32 MiB end past 2^48', 2 * MIB32, 2 ** 48 - KIB16, MIB32, 3)
+mp('address a multiple of 4096', 2 * KIB16 + PAGE, FRAME, KIB16, 3)
+mp('frame a multiple of 4096', 2 * KIB16, FRAME + PAGE, KIB16, 3)
+mp('frame a multiple of 8192', 2 * KIB16, FRAME + 2 * PAGE, KIB16, 3)
+mp('address within 32 MiB', 2 * MIB32 + KIB16, FRAME, MIB32, 3)
+mp('frame within 32 MiB', 2 * MIB32, FRAME + MIB2, MIB32, 3)
+mp('2 before 3', TOP + 1, TOP + 1, PAGE, 16)
+mp('3 before 4', TOP + 1, TOP + 1, KIB16, 16)
+mp('4 before 5', TOP + 1, TOP + 1, KIB16, 3)
+mp('5 before 6', MIB32 + 1, FRAME, KIB16, 3)
+un('a multiple of 4096', PAGE)
+un('a multiple of 8192', 2 * PAGE)
+un('a multiple of 4096 in 32 MiB', MIB32 + PAGE)
+un('past the space', SPACE16)
+un('past the space, low bits of a page in use', SPACE16 + KIB16)
+un('the last page of 32 MiB', 2 * MIB32 - KIB16)
+qu('past the space, low bits of a page in use', SPACE16 + KIB16)
+lend('four small tables', 2048, 7, 4, 9)
+ready()
+mp('16 KiB with the smaller granule', 4 * KIB16, FRAME, KIB16, 3)
+mp('32 MiB with the smaller granule', MIB32, FRAME, MIB32, 3)
+
+
+def four_16(name, va):
+    qu(name, va)
+    mp(name, va, FRAME, KIB16, 3)
+    un(name, va)
+    au(name)
+
+
+heading('Refusal 8 with 16 KiB. No frame stands in the root, and tables and frames stand at multiples of their size.')
+lend('four tables', 8192, 7, 4, 9)
+for name, i, w, va in [
+    ('32 MiB in the root', 1, large(FRAME), GIB64), ('64 GiB in the root', 1, large(GIB64), GIB64), ('a page in the root', 1, page(FRAME), GIB64),
+    ('a table at a multiple of 4096', 1, LINK16(3) + PAGE, GIB64), ('a small table', 1, LINK(3), GIB64), ('the root', 1, LINK16(0), GIB64),
+    ('a table past the pool', 1, LINK16(4), GIB64), ('2 MiB that are no 32 MiB', 2050, large(FRAME + MIB2), 2 * MIB32),
+    ('a page one level up', 2050, page(FRAME), 2 * MIB32), ('a table that names itself', 2050, LINK16(1), 2 * MIB32),
+    ('a page at a multiple of 4096', 4098, page(FRAME + PAGE), 2 * KIB16), ('a page at a multiple of 8192', 4098, page(FRAME + 2 * PAGE), 2 * KIB16),
+    ('a table at the last level', 4098, LINK16(3), 2 * KIB16), ('32 MiB at the last level', 4098, large(FRAME), 2 * KIB16),
+    ('no such word', 4098, 5, 2 * KIB16)]:
+    pool_of_16()
+    word(name, i, w)
+    four_16(name, va)
+mp('32 MiB over a damaged word', 0, FRAME, MIB32, 3)
+pool_of_16()
+word('a table for two regions', 2050, LINK16(2))
+qu('a table for two regions', 2 * MIB32)
+au('a table for two regions')
+pool_of_16()
+place('out of range', 0, 4)
+mp('out of range', GIB64, FRAME, MIB32, 3)
+au('out of range')
+place('on the path', 0, 1)
+mp('on the path', 2 * MIB32, FRAME, KIB16, 3)
+lend('all ones', 8192, 2 ** 64 - 1, 4, 2 ** 32 - 1)
+setup16('all ones', 4, 3)
+four_16('all ones', KIB16)
+
+heading('A table of 16 KiB is empty when all of its 2048 words are 0.')
+lend('four tables', 8192, 7, 4, 9)
+for i in (511, 512, 1024, 2047):
+    pool_of_16()
+    word(f'word {i}', 4096 + i, page(FRAME))
+    un(f'word {i}', 0)
+    un(f'word {i} keeps the table', KIB16)
+    au(f'word {i}')
+pool_of_16()
+word('a free table that is not zero', 8191, 7)
+au('a free table that is not zero')
+mp('map fills it with zeros', 2 * MIB32, FRAME, KIB16, 3)
+au('map fills it with zeros')
+setup16('no room for a table', 4, 3)
+un('no room for a table', 2 * MIB32)
+
+heading('Refusal 11 with 16 KiB, in map and in the audit.')
+fmt16('pool')
+mp('the page of the root', 0, BASE, KIB16, 3)
+mp('the page of the last table', 0, BASE + 3 * KIB16, KIB16, 3)
+mp('32 MiB around the pool', 0, BASE, MIB32, 3)
+mp('5 before 11', 0, BASE + PAGE, KIB16, 3)
+mp('the page past the pool', 0, BASE + 4 * KIB16, KIB16, 3)
+mp('the page before the pool', KIB16, BASE - KIB16, KIB16, 3)
+mp('32 MiB that end where the pool starts', MIB32, BASE - MIB32, MIB32, 3)
+mp('32 MiB that start past the pool', 2 * MIB32, BASE + MIB32, MIB32, 3)
+au('beside the pool')
+mp('11 before 6', 0, BASE, KIB16, 3)
+word('a page of the pool', 4098, page(BASE + 3 * KIB16))
+au('a page of the pool')
+qu('a page of the pool', 2 * KIB16)
+un('a page of the pool', 2 * KIB16)
+au('without it')
+word('32 MiB around the pool', 2055, large(BASE))
+au('32 MiB around the pool')
+un('32 MiB around the pool', 7 * MIB32)
+au('without it')
+
+heading('Tables of 16 KiB in two regions.')
+lend('two and three tables', 4096, 7, 5, 9, 6144, 7)
+fmt16('two and three tables', 2, BASE, MORE, 3)
+mp('one of each region', 0, FRAME, KIB16, 3)
+mp('both of the second', GIB64, FRAME, KIB16, 5)
+mp('7', 2 * GIB64, FRAME, KIB16, 3)
+au('all tables in use')
+mp('the page of table 4', KIB16, MORE + 2 * KIB16, KIB16, 3)
+mp('32 MiB around the second', MIB32, MORE, MIB32, 3)
+mp('the page past the second', KIB16, MORE + 3 * KIB16, KIB16, 3)
+un('the page past the second', KIB16)
+un('one of each region', 0)
+qu('both of the second', GIB64 + 0xABC)
+mp('taken again', SPACE16 - KIB16, FRAME, KIB16, 7)
+au('taken again')
+word('past the second', 1, LINK16_2(3))
+four_16('past the second', GIB64)
+fmt16('the second starts where the first ends', 2, BASE, BASE + 2 * KIB16, 3)
+fmt16('the second ends where the first starts', 2, BASE, BASE - 3 * KIB16, 3)
+fmt16('the second up to 2^48', 2, BASE, 2 ** 48 - 3 * KIB16, 3)
+fmt16('the last table shared', 2, BASE, BASE + KIB16, 3)
+fmt16('the last page of the first region shared', 2, BASE, BASE + 2 * KIB16 - PAGE, 3)
+fmt16('the first table shared', 2, BASE, BASE - 2 * KIB16, 3)
+fmt16('second base a multiple of 4096', 2, BASE, MORE + PAGE, 3)
+fmt16('second base a multiple of 8192', 2, BASE, MORE + 2 * PAGE, 3)
+fmt16('second base too high', 2, BASE, 2 ** 48 - 2 * KIB16, 3)
+fmt16('second base without tables', 2, BASE, MORE, 0)
+fmt16('511 of the second', 2, BASE, MORE, 511)
+fmt('the other granule', 3, BASE, 2, MORE, 3)
+lend('small tables in the second', 4096, 7, 5, 9, 1536, 7)
+fmt16('small tables in the second', 2, BASE, MORE, 3)
+
+heading('A region of 16 KiB tables is added.')
+lend('four tables', 8192, 7, 4, 9)
+pool_of_16()
+mp('the pool is one short', GIB64, FRAME, KIB16, 3)
+have('spare memory', 4096, 7, 6, 9)
+ad('base a multiple of 4096', MORE + PAGE, 2)
+ad('base a multiple of 8192', MORE + 2 * PAGE, 2)
+ad('the last table shared', BASE + 3 * KIB16, 2)
+ad('the first table shared', BASE - KIB16, 2)
+ad('base too high', 2 ** 48 - KIB16, 2)
+ad('no table', MORE, 0)
+ad('one table', MORE, 1)
+ad('509 tables', MORE, 509)
+setup16('all tables free', 4, 4)
+ad('the old limit of the free count', MORE, 2)
+setup('the other granule', 3, BASE, 4, 1)
+ad('the other granule', MORE, 2)
+setup16('the pool', 4, 1)
+ad('a page of a mapping', FRAME + KIB16, 2)
+ad('a page of a mapping, by the last table', FRAME - KIB16, 2)
+ad('the end of 32 MiB', FRAME + 2 * MIB32 - KIB16, 2)
+word('8 before 11', 4099, 5)
+ad('8 before 11', FRAME, 2)
+word('8 before 11', 4099, 0)
+have('words of small tables', 1024, 7, 6, 9)
+ad('words of small tables', MORE, 2)
+have('spare memory', 4096, 7, 6, 9)
+ad('two tables more', MORE, 2)
+au('the mappings are as before')
+mp('the same map', GIB64, FRAME, KIB16, 3)
+qu('the same map', GIB64 + 5)
+au('the same map')
+un('the same map', GIB64)
+ad('a third region', MORE + GIB, 2)
+for base in (BASE + 4 * KIB16, BASE - 2 * KIB16, FRAME + 2 * KIB16, 0):
+    have('four tables', 0, 0, 4, 0)
+    pool_of_16()
+    have('two more', 4096, 7, 6, 9)
+    ad('two more, beside', base, 2)
+    au('two more, beside')
 
 for l in given: assert l.count(':') <= 1, l
 d = sys.argv[1]

@@ -1,9 +1,21 @@
 """Document 01 with the requests that have landed, written out as a model over plain lists. Independent of the Rattle code: only the papers'
 text was used."""
 LIMIT = 2 ** 48
-SIZES = {4096: 0, 2 ** 21: 1, 2 ** 30: 2}          # size -> height of the entry (0: last level)
-SIZE = {h: s for s, h in SIZES.items()}
-SPACE = {3: 2 ** 39, 4: 2 ** 48}
+
+
+class Granule:
+    """What the papers say of a granule. Lists are by the height of an entry, 0 at the last level: the lowest address bit of its index, and the size
+    of frames as far as there are any. The space is by the levels, and there are no others."""
+    def __init__(g, entries, lowest, sizes, space): g.entries, g.lowest, g.sizes, g.space = entries, lowest, sizes, space
+    def index(g, address, h): return (address >> g.lowest[h]) % g.entries
+    def region(g, h): return 2 ** g.lowest[h]
+
+
+# document 01; and request 11: indices in bits 46:36, 35:25 and 24:14
+GRANULES = {
+    4096: Granule(512, [12, 21, 30, 39], [4096, 2 ** 21, 2 ** 30], {3: 2 ** 39, 4: 2 ** 48}),
+    16384: Granule(2048, [14, 25, 36], [2 ** 14, 2 ** 25], {3: 2 ** 47}),
+}
 
 
 def attribute_word(a):
@@ -28,11 +40,12 @@ class Lent:
 
     def part(m, s, t):
         """The run that holds table t, and where the table starts in it."""
-        return (m.first, 512 * t) if t < s.tables else (m.second, 512 * (t - s.tables))
+        e = s.g().entries
+        return (m.first, e * t) if t < s.tables else (m.second, e * (t - s.tables))
 
     def table(m, s, t):
         run, at = m.part(s, t)
-        return run[at:at + 512]
+        return run[at:at + s.g().entries]
 
     def word(m, s, t, i): return m.table(s, t)[i]
 
@@ -42,7 +55,7 @@ class Lent:
 
     def clear(m, s, t):
         run, at = m.part(s, t)
-        run[at:at + 512] = [0] * 512
+        run[at:at + s.g().entries] = [0] * s.g().entries
 
 
 def share(a, x, b, y):
@@ -50,31 +63,36 @@ def share(a, x, b, y):
     return len(range(max(a, b), min(a + x, b + y))) > 0
 
 
-def bad_region(P, n): return P % 4096 != 0 or P + 4096 * n > LIMIT
+def bad_region(size, P, n): return P % size != 0 or P + size * n > LIMIT
 
 
-def bad_numbers(levels, P, n, Q, m, lent):
-    return (levels not in (3, 4) or n < 1 or n + m > 512 or bad_region(P, n) or bad_region(Q, m) or (m == 0 and Q != 0)
-            or share(P, 4096 * n, Q, 4096 * m)
-            or len(lent.first) != 512 * n or len(lent.second) != 512 * m or len(lent.list) != n + m)
+def bad_numbers(levels, P, n, Q, m, size, lent):
+    """Refusal 1. The granule's number is also the size of its tables."""
+    if size not in GRANULES: return True
+    g = GRANULES[size]
+    return (levels not in g.space or n < 1 or n + m > 512 or bad_region(size, P, n) or bad_region(size, Q, m) or (m == 0 and Q != 0)
+            or share(P, size * n, Q, size * m)
+            or len(lent.first) != g.entries * n or len(lent.second) != g.entries * m or len(lent.list) != n + m)
 
 
 class Setup:
-    def __init__(s, levels, base, tables, free, base2=0, tables2=0):
-        s.levels, s.base, s.tables, s.free, s.base2, s.tables2 = levels, base, tables, free, base2, tables2
+    def __init__(s, levels, base, tables, free, base2=0, tables2=0, granule=4096):
+        s.levels, s.base, s.tables, s.free, s.base2, s.tables2, s.granule = levels, base, tables, free, base2, tables2, granule
+    def g(s): return GRANULES[s.granule]
+    def space(s): return s.g().space[s.levels]
     def total(s): return s.tables + s.tables2
-    def bad(s, lent): return bad_numbers(s.levels, s.base, s.tables, s.base2, s.tables2, lent) or s.free > s.total() - 1
-    def key(s): return (s.levels, s.base, s.tables, s.free, s.base2, s.tables2)
-    def with_free(s, free): return Setup(s.levels, s.base, s.tables, free, s.base2, s.tables2)
+    def bad(s, lent): return bad_numbers(s.levels, s.base, s.tables, s.base2, s.tables2, s.granule, lent) or s.free > s.total() - 1
+    def key(s): return (s.levels, s.base, s.tables, s.free, s.base2, s.tables2, s.granule)
+    def with_free(s, free): return Setup(s.levels, s.base, s.tables, free, s.base2, s.tables2, s.granule)
 
     def address(s, t):
         """Where table t stands: numbers below n are in the first region, the others in the second."""
-        return s.base + 4096 * t if t < s.tables else s.base2 + 4096 * (t - s.tables)
+        return s.base + s.granule * t if t < s.tables else s.base2 + s.granule * (t - s.tables)
 
 
 def in_pool(s, frame, size):
-    """Refusal 11: the frame shares a byte with P to P + 4096 x n, or with Q to Q + 4096 x m."""
-    return share(frame, size, s.base, 4096 * s.tables) or share(frame, size, s.base2, 4096 * s.tables2)
+    """Refusal 11: the frame shares a byte with the n tables from P on, or with the m tables from Q on."""
+    return share(frame, size, s.base, s.granule * s.tables) or share(frame, size, s.base2, s.granule * s.tables2)
 
 
 def read(s, w, h):
@@ -83,50 +101,47 @@ def read(s, w, h):
     if h > 0:
         for c in range(1, s.total()):
             if w == s.address(c) + 3: return ('table', c)
-    if h <= 2:
-        size, kind = SIZE[h], 3 if h == 0 else 1
+    if h < len(s.g().sizes):
+        size, kind = s.g().sizes[h], 3 if h == 0 else 1
         for a in range(16):
             base = w - kind - ATTRS[a]
             if base >= 0 and base % size == 0 and base + size <= LIMIT: return ('frame', base, a)
     return ('damaged',)
 
 
-def index(address, h): return address >> (12 + 9 * h) & 511
-
-
 def walk(s, lent, address, target):
     """Descend until an entry is no table or the target height is reached. The tables met, the height and the entry; or 'twice'."""
     met, t, h = [0], 0, s.levels - 1
     while True:
-        e = read(s, lent.word(s, t, index(address, h)), h)
+        e = read(s, lent.word(s, t, s.g().index(address, h)), h)
         if e[0] != 'table' or h == target: return met, h, e
         if e[1] in met: return met, h, ('damaged',)
         t, h = e[1], h - 1
         met.append(t)
 
 
-def hole(address, h):
+def hole(s, address, h):
     """Refusal 9, with the base and the size of the region of the entry where the walk ended."""
-    size = 2 ** (12 + 9 * h)
+    size = s.g().region(h)
     return ('refused', 9, address // size * size, size)
 
 
-def format_(levels, P, n, Q, m, lent):
-    if bad_numbers(levels, P, n, Q, m, lent): return ('refused', 1), Setup(0, 0, 0, 0)
-    for t in range(n + m): lent.clear(Setup(levels, P, n, 0, Q, m), t)
+def format_(levels, P, n, Q, m, granule, lent):
+    if bad_numbers(levels, P, n, Q, m, granule, lent): return ('refused', 1), Setup(0, 0, 0, 0, 0, 0, 0)
+    s = Setup(levels, P, n, n + m - 1, Q, m, granule)
+    for t in range(n + m): lent.clear(s, t)
     lent.list[:] = [n + m - 1 - i for i in range(n + m)]
-    return ('done',), Setup(levels, P, n, n + m - 1, Q, m)
+    return ('done',), s
 
 
 def map_(s, lent, address, frame, size, attributes):
     if s.bad(lent): return ('refused', 1), s
-    if size not in SIZES: return ('refused', 2), s
+    if size not in s.g().sizes: return ('refused', 2), s
     if attributes > 15: return ('refused', 3), s
-    space = SPACE[s.levels]
-    if address >= space or address + size > space or frame + size > LIMIT: return ('refused', 4), s
+    if address >= s.space() or address + size > s.space() or frame + size > LIMIT: return ('refused', 4), s
     if address % size or frame % size: return ('refused', 5), s
     if in_pool(s, frame, size): return ('refused', 11), s
-    target = SIZES[size]
+    target = s.g().sizes.index(size)
     met, h, e = walk(s, lent, address, target)
     if e[0] == 'damaged': return ('refused', 8), s
     if e[0] != 'empty': return ('refused', 6), s
@@ -137,42 +152,44 @@ def map_(s, lent, address, frame, size, attributes):
     t = met[-1]
     for c in taken:                                     # top first: filled with zeros, then linked
         lent.clear(s, c)
-        lent.put(s, t, index(address, h), s.address(c) + 3)
+        lent.put(s, t, s.g().index(address, h), s.address(c) + 3)
         t, h = c, h - 1
     assert h == target
-    lent.put(s, t, index(address, h), frame + (3 if h == 0 else 1) + ATTRS[attributes])
+    lent.put(s, t, s.g().index(address, h), frame + (3 if h == 0 else 1) + ATTRS[attributes])
     return ('takes', need), s.with_free(s.free - need)
 
 
 def unmap_(s, lent, address):
     if s.bad(lent): return ('refused', 1), s
-    if address >= SPACE[s.levels]: return ('refused', 4), s
-    if address % 4096: return ('refused', 5), s
+    if address >= s.space(): return ('refused', 4), s
+    if address % s.granule: return ('refused', 5), s
     met, h, e = walk(s, lent, address, 0)
     if e[0] in ('damaged', 'table'): return ('refused', 8), s
-    if e[0] == 'empty': return hole(address, h), s
-    if address % SIZE[h]: return ('refused', 10), s
+    if e[0] == 'empty': return hole(s, address, h), s
+    size = s.g().sizes[h]
+    if address % size: return ('refused', 10), s
     trial, given, hh = lent.copy(), [], h
-    trial.put(s, met[-1], index(address, h), 0)
+    trial.put(s, met[-1], s.g().index(address, h), 0)
     for k in range(len(met) - 1, 0, -1):
         t = met[k]
         if any(trial.table(s, t)): break
         hh += 1
-        trial.put(s, met[k - 1], index(address, hh), 0)
+        trial.put(s, met[k - 1], s.g().index(address, hh), 0)
         given.append(t)
     if s.free + len(given) > s.total() - 1: return ('refused', 8), s
     lent.first[:], lent.second[:] = trial.first, trial.second
     for i, t in enumerate(given): lent.list[s.free + i] = t
-    return ('gives', e[1], SIZE[h], e[2], len(given)), s.with_free(s.free + len(given))
+    return ('gives', e[1], size, e[2], len(given)), s.with_free(s.free + len(given))
 
 
 def query_(s, lent, address):
     if s.bad(lent): return ('refused', 1)
-    if address >= SPACE[s.levels]: return ('refused', 4)
+    if address >= s.space(): return ('refused', 4)
     met, h, e = walk(s, lent, address, 0)
     if e[0] in ('damaged', 'table'): return ('refused', 8)
-    if e[0] == 'empty': return hole(address, h)
-    return ('found', address - address % SIZE[h], e[1], SIZE[h], e[2])
+    if e[0] == 'empty': return hole(s, address, h)
+    size = s.g().sizes[h]
+    return ('found', address - address % size, e[1], size, e[2])
 
 
 class Unsound(Exception): pass
@@ -191,7 +208,7 @@ def reach(s, lent, full):
         for w in part:
             e = read(s, w, h)
             if e[0] == 'damaged': raise Unsound
-            if e[0] == 'frame': frames.append((e[1], SIZE[h]))
+            if e[0] == 'frame': frames.append((e[1], s.g().sizes[h]))
             if e[0] == 'table': table(e[1], h - 1)
     table(0, s.levels - 1)
     return reached, frames
@@ -214,13 +231,13 @@ def audit_(s, lent):
 def add_(s, lent, Q, m):
     """The adding call. The free count is tested against the old limit, and the words are read under the old setup."""
     if (s.base2, s.tables2) != (0, 0) or m == 0 or s.free > s.tables - 1: return ('refused', 1), s
-    if bad_numbers(s.levels, s.base, s.tables, Q, m, lent): return ('refused', 1), s
+    if bad_numbers(s.levels, s.base, s.tables, Q, m, s.granule, lent): return ('refused', 1), s
     try:
         reached, frames = reach(s, lent, False)
     except Unsound:
         return ('refused', 8), s
-    if any(share(b, size, Q, 4096 * m) for b, size in frames): return ('refused', 11), s
+    if any(share(b, size, Q, s.granule * m) for b, size in frames): return ('refused', 11), s
     n = s.tables
     lent.list[s.free:s.free + m] = list(range(n + m - 1, n - 1, -1))
-    lent.second[:] = [0] * (512 * m)
-    return ('done',), Setup(s.levels, s.base, n, s.free + m, Q, m)
+    lent.second[:] = [0] * len(lent.second)
+    return ('done',), Setup(s.levels, s.base, n, s.free + m, Q, m, s.granule)

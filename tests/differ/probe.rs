@@ -8,7 +8,9 @@ use std::panic::{catch_unwind, AssertUnwindSafe};
 thread_local! { static OUT: RefCell<BufWriter<Stdout>> = RefCell::new(BufWriter::new(std::io::stdout())); }
 
 const PAGE: u64 = 4096;
+const KIB16: u64 = 16384;
 const MIB2: u64 = 1 << 21;
+const MIB32: u64 = 1 << 25;
 const GIB: u64 = 1 << 30;
 const TOP: u64 = 1 << 48;
 const BASE: u64 = 0x4000_0000;
@@ -61,91 +63,126 @@ impl Random {
 fn numbers() -> Vec<u64> {
     let mut all = vec![11, 15, 16, 17, 2048, 1 << 40, (1 << 39) + (2 << 30) + (3 << 21) + (4 << 12) + 5, u64::MAX];
     all.extend(0..6);
-    for limit in [64, 512, PAGE, MIB2, GIB, 1 << 39, TOP] {
+    for limit in [64, 512, PAGE, KIB16, MIB2, MIB32, GIB, 1 << 36, 1 << 39, 1 << 47, TOP] {
         all.extend([limit - 1, limit, limit + 1]);
     }
-    for size in [PAGE, MIB2, GIB] {
+    for size in [PAGE, KIB16, MIB2, MIB32, GIB] {
         all.extend([TOP - size, 0u64.wrapping_sub(size), 3 * size, 512 * size - size]);
     }
     all
 }
 
-fn one_region(levels: u64, base: u64, tables: u64, free: u64) -> path::Setup {
-    path::Setup { levels, base, tables, free, base2: 0, tables2: 0 }
+// The entries of a table, where a number names a granule.
+fn entries_with(granule: u64) -> u64 {
+    if granule == KIB16 { 2048 } else { 512 }
+}
+
+fn one_region(granule: u64, levels: u64, base: u64, tables: u64, free: u64) -> path::Setup {
+    path::Setup { levels, base, tables, free, base2: 0, tables2: 0, granule }
 }
 
 // Setups with two regions, good ones and bad ones, and what may be added.
-fn second_regions() {
-    for (base, tables) in [(BASE, 2), (BASE, 1), (BASE, 509), (0, 2), (TOP - 2 * PAGE, 2)] {
-        for more in [0, 1, 3, 510, 511, 512, 1 << 52, u64::MAX] {
-            let (end, bytes) = (base + PAGE * tables, PAGE.wrapping_mul(more));
+fn second_regions(granule: u64) {
+    let (page, entries) = (granule, entries_with(granule) as usize);
+    for (base, tables) in [(BASE, 2), (BASE, 1), (BASE, 509), (0, 2), (TOP - 2 * page, 2)] {
+        for more in [0, 1, 3, 510, 511, 512, 1 << 50, u64::MAX] {
+            let (end, bytes) = (base + page * tables, page.wrapping_mul(more));
             let below = base.wrapping_sub(bytes);
-            for at in [0, 1, MORE, MORE + 8, end, end.wrapping_sub(PAGE), below, below.wrapping_add(PAGE), base, TOP.wrapping_sub(bytes), TOP, u64::MAX - 4095] {
-                let (words, second, places) = (512 * tables as usize, 512usize.wrapping_mul(more as usize), tables.wrapping_add(more) as usize);
-                ask!(path::good_numbers, 3, base, tables, at, more, words, second, places);
+            for at in [0, 1, MORE, MORE + 8, MORE + PAGE, end, end.wrapping_sub(page), below, below.wrapping_add(page), base, TOP.wrapping_sub(bytes), TOP, u64::MAX - page + 1] {
+                let (words, second, places) = (entries * tables as usize, entries.wrapping_mul(more as usize), tables.wrapping_add(more) as usize);
+                ask!(path::good_numbers, granule, 3, base, tables, at, more, words, second, places);
                 for free in [0, tables - 1, tables, (places as u64).wrapping_sub(1), places as u64] {
-                    let two = path::Setup { levels: 3, base, tables, free, base2: at, tables2: more };
+                    let two = path::Setup { levels: 3, base, tables, free, base2: at, tables2: more, granule };
                     ask!(path::good_setup, two, words, second, places);
-                    ask!(path::good_adding, one_region(3, base, tables, free), at, more, words, second, places);
+                    ask!(path::good_adding, one_region(granule, 3, base, tables, free), at, more, words, second, places);
                     ask!(path::good_adding, two, at, more, words, second, places);
                 }
             }
         }
     }
-    for (words, second, places) in [(1024, 1536, 5), (1023, 1536, 5), (1024, 1535, 5), (1024, 1537, 5), (1024, 1536, 2), (1024, 1536, 6), (1536, 1024, 5), (1024, 0, 5)] {
-        ask!(path::good_numbers, 4, BASE, 2, MORE, 3, words, second, places);
-        ask!(path::good_adding, one_region(4, BASE, 2, 1), MORE, 3, words, second, places);
+    let (two, three) = (2 * entries, 3 * entries);
+    for (words, second, places) in [(two, three, 5), (two - 1, three, 5), (two, three - 1, 5), (two, three + 1, 5), (two, three, 2), (two, three, 6), (three, two, 5), (two, 0, 5)] {
+        for levels in [3, 4] {
+            ask!(path::good_numbers, granule, levels, BASE, 2, MORE, 3, words, second, places);
+            ask!(path::good_adding, one_region(granule, levels, BASE, 2, 1), MORE, 3, words, second, places);
+        }
     }
-    ask!(path::good_adding, path::Setup { levels: 3, base: BASE, tables: 2, free: 1, base2: MORE, tables2: 0 }, MORE, 3, 1024, 1536, 5);
+    ask!(path::good_adding, path::Setup { levels: 3, base: BASE, tables: 2, free: 1, base2: MORE, tables2: 0, granule }, MORE, 3, two, three, 5);
 }
 
-fn paths() {
-    ask!(path::no_setup,);
-    for free in [0, 1, 7, u64::MAX] {
-        ask!(path::with_free, path::Setup { levels: 3, base: BASE, tables: 5, free: 2, base2: MORE, tables2: 7 }, free);
-    }
-    second_regions();
+// Setups with one region, good ones and bad ones.
+fn first_regions(granule: u64) {
+    let (page, entries) = (granule, entries_with(granule));
     for levels in 0..7 {
-        for base in [0, 1, 2048, PAGE, BASE, TOP - 64 * PAGE, TOP - PAGE, TOP, TOP + PAGE, 0u64.wrapping_sub(PAGE), 0u64.wrapping_sub(64 * PAGE)] {
-            for tables in [0, 1, 2, 3, 4, 63, 64, 65, 511, 512, 513, 1 << 55, u64::MAX] {
-                for words in [512u64.wrapping_mul(tables), 511u64.wrapping_mul(tables), tables.wrapping_add(1)] {
+        for base in [0, 1, page / 2, PAGE, page, BASE, TOP - 64 * page, TOP - page, TOP, TOP + page, 0u64.wrapping_sub(page), 0u64.wrapping_sub(64 * page)] {
+            for tables in [0, 1, 2, 3, 4, 63, 64, 65, 511, 512, 513, 1 << 53, u64::MAX] {
+                for words in [entries.wrapping_mul(tables), (entries - 1).wrapping_mul(tables), tables.wrapping_add(1)] {
                     for places in [tables, tables.wrapping_sub(1), levels] {
-                        ask!(path::good_numbers, levels, base, tables, 0, 0, words as usize, 0, places as usize);
+                        ask!(path::good_numbers, granule, levels, base, tables, 0, 0, words as usize, 0, places as usize);
                     }
                 }
             }
         }
         for tables in [1, 2, 3, 4, 8, 64] {
             for free in [0, 1, 2, 3, 4, 5, 7, 8, 63, 64, u64::MAX] {
-                ask!(path::good_setup, one_region(levels, BASE, tables, free), 512 * tables as usize, 0, tables as usize);
+                ask!(path::good_setup, one_region(granule, levels, BASE, tables, free), (entries * tables) as usize, 0, tables as usize);
             }
         }
-        ask!(path::good_setup, one_region(levels, BASE, 2, 1), 2, 0, 1024);
+        ask!(path::good_setup, one_region(granule, levels, BASE, 2, 1), 2, 0, 1024);
     }
+}
+
+// Sizes, spaces and paths.
+fn sizes(granule: u64) {
     for n in numbers() {
-        for (levels, size) in [(2, 1), (3, 1), (4, 1), (5, 1), (3, PAGE), (4, GIB), (3, 1 << 39), (4, TOP), (3, TOP), (4, u64::MAX)] {
-            ask!(path::in_space, levels, n, size);
+        for (levels, size) in [(2, 1), (3, 1), (4, 1), (5, 1), (3, PAGE), (4, GIB), (3, 1 << 39), (3, 1 << 47), (4, TOP), (3, TOP), (4, u64::MAX)] {
+            ask!(path::in_space, granule, levels, n, size);
         }
         for (base, tables) in [(BASE, 0), (BASE, 1), (BASE, 64), (0, 2), (TOP - PAGE, 1), (u64::MAX - 4095, 9), (GIB + PAGE, u64::MAX)] {
             for size in [0, PAGE, MIB2, GIB, u64::MAX] {
-                for frame in [n, base.wrapping_sub(size), base.wrapping_sub(1), base, base.wrapping_add(PAGE.wrapping_mul(tables))] {
-                    ask!(path::meets_region, base, tables, frame, size);
-                    ask!(path::meets_area, base, tables, 0, 0, frame, size);
-                    ask!(path::meets_area, 3 * GIB, 2, base, tables, frame, size);
+                for frame in [n, base.wrapping_sub(size), base.wrapping_sub(1), base, base.wrapping_add(granule.wrapping_mul(tables))] {
+                    ask!(path::meets_region, granule, base, tables, frame, size);
+                    ask!(path::meets_area, granule, base, tables, 0, 0, frame, size);
+                    ask!(path::meets_area, granule, 3 * GIB, 2, base, tables, frame, size);
                 }
             }
         }
-        ask!(path::size_at, n as usize);
-        ask!(path::height_of, n);
-        ask!(path::path_of, n);
+        ask!(path::good_levels, granule, n);
+        ask!(path::size_at, granule, n as usize);
+        ask!(path::height_of, granule, n);
+        ask!(path::path_of, granule, n);
+        ask!(path::pages_in, granule, n);
+        ask!(path::table_of, granule, n);
+        ask!(path::index_in, granule, n);
         for height in [0, 1, 2, 3, 4, 5, usize::MAX] {
-            ask!(path::index_at, n, height);
-            ask!(path::base_at, n, height);
-            ask!(path::rest_at, n, height);
+            ask!(path::index_at, granule, n, height);
+            ask!(path::base_at, granule, n, height);
+            ask!(path::rest_at, granule, n, height);
         }
     }
     for p in [[0, 0, 0, 0], [1, 2, 3, 4], [511, 0, 511, 1], [65535, 65535, 65535, 65535], [0, 0, 1, 0], [0, 1, 0, 0]] {
-        ask!(path::address_of, p);
+        ask!(path::address_of, granule, p);
+    }
+}
+
+fn paths() {
+    ask!(path::no_setup,);
+    for free in [0, 1, 7, u64::MAX] {
+        ask!(path::with_free, path::Setup { levels: 3, base: BASE, tables: 5, free: 2, base2: MORE, tables2: 7, granule: KIB16 }, free);
+    }
+    for n in numbers().into_iter().chain([8192, 1 << 16]) {
+        ask!(path::good_granule, n);
+        ask!(path::page_of, n);
+        ask!(path::entries_of, n);
+        ask!(path::large_of, n);
+        ask!(path::good_setup, one_region(n, 3, BASE, 2, 1), 1024, 0, 2);
+        ask!(path::good_setup, one_region(n, 3, BASE, 2, 1), 4096, 0, 2);
+        ask!(path::good_adding, one_region(n, 3, BASE, 2, 1), MORE, 3, 1024, 1536, 5);
+    }
+    for granule in [PAGE, KIB16] {
+        second_regions(granule);
+        first_regions(granule);
+        sizes(granule);
     }
 }
 
@@ -154,14 +191,14 @@ fn words_to_read() -> Vec<u64> {
     let mut all = vec![BASE + 1, BASE + 3, BASE + PAGE * 2 + 3, BASE + 512 + 3, BASE + PAGE + 4, BASE + PAGE - 1 + 3, TOP + 3];
     all.extend(numbers());
     for c in [0, 1, 2, 3, 4, 63, 64, 65] {
-        all.extend([BASE + PAGE * c + 3, PAGE * c + 3, MORE + PAGE * c + 3, MORE - PAGE + 3]);
+        all.extend([BASE + PAGE * c + 3, PAGE * c + 3, MORE + PAGE * c + 3, MORE - PAGE + 3, BASE + KIB16 * c + 3, MORE + KIB16 * c + 3]);
     }
     for attributes in 0..17 {
-        for (base, size) in [(0, PAGE), (PAGE * 5, PAGE), (MIB2, MIB2), (GIB, GIB), (TOP - PAGE, PAGE), (TOP - GIB, GIB)] {
+        for (base, size) in [(0, PAGE), (PAGE * 5, PAGE), (KIB16 * 5, KIB16), (MIB2, MIB2), (MIB32, MIB32), (GIB, GIB), (TOP - PAGE, PAGE), (TOP - GIB, GIB)] {
             all.push(entry::frame_word(base, size, attributes));
         }
     }
-    for (size, attributes) in [(PAGE, 0), (PAGE, 7), (MIB2, 9), (GIB, 14)] {
+    for (size, attributes) in [(PAGE, 0), (PAGE, 7), (KIB16, 5), (MIB2, 9), (MIB32, 3), (GIB, 14)] {
         for bit in 0..64 {
             all.push(entry::frame_word(GIB, size, attributes) ^ (1 << bit));
         }
@@ -174,10 +211,12 @@ fn entries() {
         ask!(entry::attr_word, n);
         for c in [0, 1, 2, 63, 64, u32::MAX] {
             for tables in [1, 2, 64, 512] {
-                ask!(entry::table_word, n, tables, MORE, c);
+                for granule in [PAGE, KIB16] {
+                    ask!(entry::table_word, granule, n, tables, MORE, c);
+                }
             }
         }
-        for size in [0, 1, PAGE, MIB2, GIB, 1 << 39, TOP] {
+        for size in [0, 1, PAGE, KIB16, 1 << 16, MIB2, MIB32, GIB, 1 << 36, 1 << 39, TOP] {
             for attributes in [0, 1, 5, 8, 15, 16, 17, u64::MAX] {
                 ask!(entry::frame_word, n, size, attributes);
                 ask!(oakabut::oak_frame_word, n, size, attributes);
@@ -195,22 +234,26 @@ fn entries() {
         }
     }
     for w in words_to_read() {
-        for (base, tables) in [(BASE, 4), (0, 64), (BASE, 1), (TOP + PAGE, 8)] {
-            ask!(entry::child_in, w, base, tables, 0, 0);
-            ask!(entry::child_in, w, MORE, 3, base, tables);
-            ask!(entry::child_in, w, base, tables, base.wrapping_add(PAGE * tables as u64), 2);
-        }
-        for size in [PAGE, MIB2, GIB, 1 << 39, 0] {
+        for size in [PAGE, KIB16, MIB2, MIB32, GIB, 1 << 36, 1 << 39, 0] {
             ask!(entry::word_meaning, w, size);
             ask!(oakabut::oak_word_meaning, w, size);
         }
         for height in [0, 1, 2, 3, 4] {
             ask!(entry::is_frame, w, height);
             ask!(entry::base_in, w);
-            ask!(entry::frame_at, w, height);
-            for (base, tables) in [(BASE, 1), (BASE, 3), (BASE, 64), (0, 2), (TOP - PAGE, 4), (u64::MAX, u16::MAX)] {
-                ask!(entry::read_word, w, height, base, tables, 0, 0);
-                ask!(entry::read_word, w, height, MORE, 2, base, tables);
+        }
+        for granule in [PAGE, KIB16] {
+            for (base, tables) in [(BASE, 4), (0, 64), (BASE, 1), (TOP + PAGE, 8)] {
+                ask!(entry::child_in, granule, w, base, tables, 0, 0);
+                ask!(entry::child_in, granule, w, MORE, 3, base, tables);
+                ask!(entry::child_in, granule, w, base, tables, base.wrapping_add(granule * tables as u64), 2);
+            }
+            for height in [0, 1, 2, 3, 4] {
+                ask!(entry::frame_at, granule, w, height);
+                for (base, tables) in [(BASE, 1), (BASE, 3), (BASE, 64), (0, 2), (TOP - PAGE, 4), (u64::MAX, u16::MAX)] {
+                    ask!(entry::read_word, granule, w, height, base, tables, 0, 0);
+                    ask!(entry::read_word, granule, w, height, MORE, 2, base, tables);
+                }
             }
         }
     }
@@ -273,47 +316,76 @@ fn pools() {
         let r = tried(|| pool::clear(&mut w));
         told(&format!("pool::clear {n}"), r, &w, &[]);
     }
-    for length in [0, 511, 512, 513, 1023, 1024, 1536] {
-        for t in [0, 1, 2, 3, 4, u32::MAX] {
-            for more in [0, 511, 512, 1024] {
-                let (mut w, mut s) = (vec![5; length], vec![6; more]);
-                let r = tried(|| pool::wipe(&mut w, &mut s, t));
-                told_two(&format!("pool::wipe {length} {more} {t}"), r, &w, &s, &[]);
-                let (w, mut s) = (vec![0; length], vec![0; more]);
-                for at in [0, 511, 512, 1023] {
-                    if at < more {
-                        s[at] = 9;
-                    }
-                    line(&format!("pool::table_part {length} {more} {at} {t} = {}", tried(|| pool::table_part(&w, &s, t).to_vec())));
-                    line(&format!("pool::is_table_empty {length} {more} {at} {t} = {}", tried(|| pool::is_table_empty(&w, &s, t))));
-                    line(&format!("pool::only_entry {length} {more} {at} {t} = {}", tried(|| pool::only_entry(&w, &s, t, at as u16 % 512))));
-                    if at < more {
-                        s[at] = 0;
-                    }
-                }
-            }
-            for at in [0, 1, 200, 255, 256, 300, 510, 511, 512, 513, 767, 1023, 1024, 1535] {
-                for value in [1, 2, u64::MAX] {
-                    let mut w = vec![0; length];
-                    if at < length {
-                        w[at] = value;
-                    }
-                    line(&format!("pool::is_table_empty {length} {at} {value} {t} = {}", tried(|| pool::is_table_empty(&w, &[], t))));
-                    for i in [0, 1, 255, 256, 510, 511, 512, 513, 65535] {
-                        line(&format!("pool::only_entry {length} {at} {value} {t} {i} = {}", tried(|| pool::only_entry(&w, &[], t, i))));
-                    }
-                }
-            }
-        }
+    for (granule, k) in [(PAGE, 512), (KIB16, 2048)] {
+        tables(granule, k);
     }
     for c in [0, 1, 2, 3, 4, 5] {
         for four in [[1, 2, 3, 4], [0, 0, 0, 5], [5, 5, 0, 0]] {
             ask!(pool::among_four, four, c);
         }
     }
-    for t in [0, 1, 2, 63] {
-        for i in [0, 1, 2, 511] {
-            ask!(plans::entry_place, t, i);
+}
+
+// Tables of k entries in two runs of words.
+fn tables(granule: u64, k: usize) {
+    for length in [0, k - 1, k, k + 1, 2 * k - 1, 2 * k, 3 * k] {
+        for t in [0, 1, 2, 3, 4, u32::MAX] {
+            for more in [0, k - 1, k, 2 * k] {
+                let (mut w, mut s) = (vec![5; length], vec![6; more]);
+                let r = tried(|| pool::wipe(granule, &mut w, &mut s, t));
+                told_two(&format!("pool::wipe {granule} {length} {more} {t}"), r, &w, &s, &[]);
+                let (w, mut s) = (vec![0; length], vec![0; more]);
+                for at in [0, k - 1, k, 2 * k - 1] {
+                    if at < more {
+                        s[at] = 9;
+                    }
+                    line(&format!("pool::table_part {granule} {length} {more} {at} {t} = {}", tried(|| pool::table_part(granule, &w, &s, t).to_vec())));
+                    line(&format!("pool::is_table_empty {granule} {length} {more} {at} {t} = {}", tried(|| pool::is_table_empty(granule, &w, &s, t))));
+                    line(&format!("pool::only_entry {granule} {length} {more} {at} {t} = {}", tried(|| pool::only_entry(granule, &w, &s, t, (at % k) as u16))));
+                    if at < more {
+                        s[at] = 0;
+                    }
+                }
+            }
+            for at in [0, 1, 200, 255, 256, 300, 510, 511, 512, k - 2, k - 1, k, k + 1, 3 * k / 2 - 1, 2 * k - 1, 2 * k, 3 * k - 1] {
+                for value in [1, 2, u64::MAX] {
+                    let mut w = vec![0; length];
+                    if at < length {
+                        w[at] = value;
+                    }
+                    line(&format!("pool::is_table_empty {granule} {length} {at} {value} {t} = {}", tried(|| pool::is_table_empty(granule, &w, &[], t))));
+                    for i in [0, 1, 255, 256, 510, 511, 512, 513, k - 2, k - 1, k, k + 1, 65535] {
+                        line(&format!("pool::only_entry {granule} {length} {at} {value} {t} {i} = {}", tried(|| pool::only_entry(granule, &w, &[], t, i as u16))));
+                    }
+                }
+            }
+        }
+    }
+    for t in [0, 1, 2, 63, 511, u32::MAX] {
+        for i in [0, 1, 2, 511, 2047, u16::MAX] {
+            ask!(pool::entry_place, granule, t, i);
+        }
+    }
+}
+
+// The audit, and the tests of an add, of a pool with one page and one block: each stands at a multiple of its size or of 4096 alone, elsewhere or in a region.
+fn audits(granule: u64) {
+    let k = entries_with(granule) as usize;
+    let block = granule * k as u64;
+    let setup = |free, base2, tables2| path::Setup { levels: 3, base: BASE, tables: 3, free, base2, tables2, granule };
+    let (links, second) = ([BASE + granule + 3, BASE + 2 * granule + 3], vec![0; k]);
+    let near = [0, PAGE, 2 * PAGE, granule, 2 * granule, 3 * granule, 0u64.wrapping_sub(PAGE), 0u64.wrapping_sub(granule)];
+    for at in [BASE, MORE, 2 * GIB, TOP].iter().flat_map(|&at| near.map(|more| at.wrapping_add(more) % TOP)) {
+        for (page, base) in [(2 * GIB, 4 * GIB), (at, 4 * GIB), (2 * GIB, at), (2 * GIB, at / block * block)] {
+            let mut words = vec![0; 3 * k];
+            (words[0], words[k]) = (links[0], links[1]);
+            (words[2 * k + 5], words[k + 1]) = (entry::word_of(page, 0, 5), entry::word_of(base, 1, 10));
+            let r = tried(|| audit::audit(setup(1, MORE, 1), &words, &second, &[3, 0, 0, 0]));
+            line(&format!("audit::audit {granule} {page:#x} {base:#x} = {r}"));
+            for region in [MORE, at] {
+                let r = tried(|| audit::add_tests(setup(0, 0, 0), &words, &second, 4, region, 1));
+                line(&format!("audit::add_tests {granule} {page:#x} {base:#x} {region:#x} = {r}"));
+            }
         }
     }
 }
@@ -323,10 +395,17 @@ fn planned() {
     let plan = [Store { place: 513, value: 6 }, Give { place: 1, table: 9 }, Wipe { table: 2 }, Nothing, Store { place: 7, value: 1 << 40 }, Give { place: 5, table: 4 }, Wipe { table: 9 }];
     for (first, more) in [(1536, 0), (1024, 512), (512, 1024)] {
         let (mut w, mut s, mut l) = (vec![3; first], vec![4; more], vec![8; 3]);
-        let r = tried(|| plans::write_words(&mut w, &mut s, plan));
+        let r = tried(|| plans::write_words(PAGE, &mut w, &mut s, plan));
         told_two(&format!("plans::write_words {first} {more}"), r, &w, &s, &l);
-        let r = tried(|| plans::write_all(&mut w, &mut s, &mut l, plan));
+        let r = tried(|| plans::write_all(PAGE, &mut w, &mut s, &mut l, plan));
         told_two(&format!("plans::write_all {first} {more}"), r, &w, &s, &l);
+    }
+    for (first, more) in [(6144, 0), (4096, 2048), (2048, 4096)] {
+        let (mut w, mut s, mut l) = (vec![3; first], vec![4; more], vec![8; 3]);
+        let r = tried(|| plans::write_words(KIB16, &mut w, &mut s, plan));
+        told_two(&format!("plans::write_words of 16 KiB {first} {more}"), r, &w, &s, &l);
+        let r = tried(|| plans::write_all(KIB16, &mut w, &mut s, &mut l, plan));
+        told_two(&format!("plans::write_all of 16 KiB {first} {more}"), r, &w, &s, &l);
     }
 }
 
@@ -334,7 +413,7 @@ fn planned() {
 #[derive(Clone)]
 struct Lent {
     name: String,
-    setup: [u64; 6],
+    setup: [u64; 7],
     words: Vec<u64>,
     second: Vec<u64>,
     list: Vec<u32>,
@@ -344,13 +423,14 @@ struct Lent {
 impl Lent {
     // A pool of one region, with the memory of so many tables lent.
     fn format(name: &str, levels: u64, base: u64, tables: u64, lent: usize) -> Lent {
-        Lent::format_two(name, levels, base, tables, 0, 0, lent, 0)
+        Lent::format_two(name, levels, base, tables, 0, 0, PAGE, lent, 0)
     }
 
-    fn format_two(name: &str, levels: u64, base: u64, tables: u64, base2: u64, tables2: u64, lent: usize, more: usize) -> Lent {
-        let (mut words, mut second, mut list, mut answer) = (vec![77; 512 * lent], vec![88; 512 * more], vec![66; lent + more], [55; 6]);
-        let r = tried(|| oakabut::oak_format(levels, base, tables, base2, tables2, &mut words, &mut second, &mut list, &mut answer));
-        let what = format!("{name} format {levels} {base:#x} {tables} {base2:#x} {tables2} {lent} {more}");
+    fn format_two(name: &str, levels: u64, base: u64, tables: u64, base2: u64, tables2: u64, granule: u64, lent: usize, more: usize) -> Lent {
+        let entries = if granule == KIB16 { 2048 } else { 512 };
+        let (mut words, mut second, mut list, mut answer) = (vec![77; entries * lent], vec![88; entries * more], vec![66; lent + more], [55; 7]);
+        let r = tried(|| oakabut::oak_format(levels, base, tables, base2, tables2, granule, &mut words, &mut second, &mut list, &mut answer));
+        let what = format!("{name} format {levels} {base:#x} {tables} {base2:#x} {tables2} {granule} {lent} {more}");
         told_two(&what, format!("{r} {answer:?}"), &words, &second, &list);
         Lent { name: name.to_string(), setup: answer, words, second, list, used: vec![] }
     }
@@ -360,27 +440,28 @@ impl Lent {
     }
 
     fn map(&mut self, address: u64, frame: u64, size: u64, attributes: u64) {
-        let mut answer = [55; 7];
+        let mut answer = [55; 8];
         let r = tried(|| oakabut::oak_map(&self.setup, &mut self.words, &mut self.second, &self.list, address, frame, size, attributes, &mut answer));
         self.told(&format!("map {address:#x} {frame:#x} {size:#x} {attributes}"), format!("{r} {answer:?}"));
         if r == "0" {
-            self.setup.copy_from_slice(&answer[..6]);
+            self.setup.copy_from_slice(&answer[..7]);
             self.used.push(address);
         }
     }
 
     fn unmap(&mut self, address: u64) {
-        let mut answer = [55; 12];
+        let mut answer = [55; 13];
         let r = tried(|| oakabut::oak_unmap(&self.setup, &mut self.words, &mut self.second, &mut self.list, address, &mut answer));
         self.told(&format!("unmap {address:#x}"), format!("{r} {answer:?}"));
         if r == "0" {
-            self.setup.copy_from_slice(&answer[..6]);
+            self.setup.copy_from_slice(&answer[..7]);
         }
     }
 
     // A second region of so many tables, with memory for so many. Refused, the pool goes on with the memory that it had.
     fn add(&mut self, base: u64, tables: u64, more: usize) {
-        let (mut second, mut list, mut answer) = (vec![88; 512 * more], self.list.clone(), [55; 6]);
+        let entries = if self.setup[6] == KIB16 { 2048 } else { 512 };
+        let (mut second, mut list, mut answer) = (vec![88; entries * more], self.list.clone(), [55; 7]);
         list.resize(self.list.len() + more, 66);
         let r = tried(|| oakabut::oak_add(&self.setup, &self.words, &mut second, &mut list, base, tables, &mut answer));
         let what = format!("{} add {base:#x} {tables} {more}", self.name);
@@ -395,9 +476,9 @@ impl Lent {
         let mut answer = [55; 6];
         let r = tried(|| oakabut::oak_query(&self.setup, &self.words, &self.second, &self.list, address, &mut answer));
         line(&format!("{} query {address:#x} = {r} {answer:?}", self.name));
-        let [levels, base, tables, free, base2, tables2] = self.setup;
-        let setup = || path::Setup { levels, base, tables, free, base2, tables2 };
-        let r = tried(|| armwalk::stage2(&self.words, &self.second, base, base2, levels, address));
+        let [levels, base, tables, free, base2, tables2, granule] = self.setup;
+        let setup = || path::Setup { levels, base, tables, free, base2, tables2, granule };
+        let r = tried(|| armwalk::stage2(granule, &self.words, &self.second, base, base2, levels, address));
         line(&format!("{} stage2 {address:#x} = {r}", self.name));
         for target in [0, 1, 2, 3] {
             let r = tried(|| lookup::walk_to(setup(), &self.words, &self.second, target, address));
@@ -424,7 +505,7 @@ impl Lent {
 
     // The word that names a table.
     fn link(&self, table: u64) -> u64 {
-        let [_, base, tables, _, base2, tables2] = self.setup;
+        let [_, base, tables, _, base2, tables2, _] = self.setup;
         if table < tables || tables2 == 0 { base + PAGE * table + 3 } else { base2 + PAGE * (table - tables) + 3 }
     }
 
@@ -447,7 +528,7 @@ impl Lent {
         let address = (top + index[1] * GIB + index[2] * MIB2 + index[3] * PAGE) / size * size;
         let frame = GIB * (2 + height as u64) + random.below(7) * size;
         let attributes = random.below(16);
-        let [_, base, tables, _, base2, tables2] = self.setup;
+        let [_, base, tables, _, base2, tables2, _] = self.setup;
         let (base, tables) = if tables2 > 0 && random.below(2) == 0 { (base2, tables2) } else { (base, tables) };
         let pool = [base.wrapping_sub(size), base, base.wrapping_add(PAGE), base.wrapping_add(PAGE.wrapping_mul(tables))];
         match random.below(14) {
@@ -462,6 +543,51 @@ impl Lent {
     }
 }
 
+// A pool of 16 KiB tables: frames of both sizes and of none, addresses and bases that are multiples of 4096 alone, the ends of the space, a second region.
+fn of_16_kib(tables: u64, tables2: u64) {
+    let base2 = if tables2 == 0 { 0 } else { MORE };
+    let name = format!("pool of 16 KiB {tables}+{tables2}");
+    let mut lent = Lent::format_two(&name, 3, BASE, tables, base2, tables2, KIB16, tables as usize, tables2 as usize);
+    let (gib64, end) = (1 << 36, 1u64 << 47);
+    for (address, frame, size) in [
+        (0, GIB, KIB16), (KIB16, 2 * GIB, KIB16), (PAGE, GIB, KIB16), (3 * KIB16, GIB + PAGE, KIB16), (MIB32, MIB32, MIB32), (MIB32 + KIB16, GIB, KIB16),
+        (2 * MIB32, GIB, PAGE), (2 * MIB32, GIB, MIB2), (GIB, GIB, GIB), (gib64, gib64, gib64), (gib64, GIB, KIB16), (2 * gib64, GIB, MIB32), (5 * MIB32 + 2047 * KIB16, 3 * GIB, KIB16),
+        (end - KIB16, TOP - KIB16, KIB16), (end, GIB, KIB16), (end - MIB32, GIB, MIB32), (1 << 39, GIB, MIB32), (MIB32 * 9, BASE, KIB16), (MIB32 * 9, BASE + KIB16 * tables - KIB16, KIB16),
+        (MIB32 * 9, BASE + KIB16 * tables, KIB16), (MIB32 * 8, BASE - BASE % MIB32, MIB32), (MIB32 * 8, MORE, KIB16), (0, GIB, KIB16), (0, MIB32, MIB32),
+    ] {
+        lent.map(address, frame, size, 3);
+        lent.asked(address);
+        lent.asked(address.wrapping_add(size / 2));
+        lent.audit();
+    }
+    lent.clone().add(MORE, 1, 1);
+    lent.clone().add(MORE + PAGE, 1, 1);
+    for bit in [1, 2, 1 << 10, 1 << 12, 1 << 13, 1 << 14] {
+        for at in (0..lent.words.len()).filter(|&i| lent.words[i] != 0).collect::<Vec<_>>() {
+            let mut copy = lent.clone();
+            copy.name = format!("{name} damaged {at} {bit}");
+            copy.words[at] ^= bit;
+            copy.audit();
+            copy.clone().add(MORE, 1, 1);
+            copy.asked(0);
+            copy.unmap(0);
+        }
+    }
+    for address in lent.used.clone() {
+        lent.unmap(address + PAGE);
+        lent.unmap(address);
+        lent.asked(address);
+        lent.audit();
+    }
+    for granule in [0, 1, 4095, 8192, KIB16 - 1, KIB16 + 1, 1 << 16, PAGE + (1 << 32)] {
+        Lent::format_two(&format!("granule {granule}"), 3, BASE, 4, 0, 0, granule, 4, 0);
+    }
+    for levels in [2, 4, 5] {
+        Lent::format_two("levels of 16 KiB", levels, BASE, 4, 0, 0, KIB16, 4, 0);
+    }
+    Lent::format_two("half a table of 16 KiB", 3, BASE + PAGE, 4, 0, 0, KIB16, 4, 0);
+}
+
 // A history of calls, with damaged copies on the way.
 fn history(levels: u64, base: u64, tables: u64, seed: u64, steps: u64) {
     let lent = Lent::format(&format!("pool {levels}/{tables}/{seed}"), levels, base, tables, tables as usize);
@@ -471,7 +597,7 @@ fn history(levels: u64, base: u64, tables: u64, seed: u64, steps: u64) {
 // The same of a pool with two regions from the start.
 fn history_of_two(levels: u64, base: u64, tables: u64, base2: u64, tables2: u64, seed: u64, steps: u64) {
     let name = format!("pool {levels}/{tables}+{tables2}/{seed}");
-    let lent = Lent::format_two(&name, levels, base, tables, base2, tables2, tables as usize, tables2 as usize);
+    let lent = Lent::format_two(&name, levels, base, tables, base2, tables2, PAGE, tables as usize, tables2 as usize);
     go_on(lent, Random(seed * 1000 + levels * 100 + tables + tables2), steps);
 }
 
@@ -526,7 +652,7 @@ fn go_on(mut lent: Lent, mut random: Random, steps: u64) {
 
 // Breaks a rule of a sound pool, or several.
 fn damage(lent: &mut Lent, kind: u64, random: &mut Random) {
-    let ([_, base, first, free, base2, tables2], tables) = (lent.setup, lent.list.len() as u64);
+    let ([_, base, first, free, base2, tables2, _], tables) = (lent.setup, lent.list.len() as u64);
     let places = lent.words.len() + lent.second.len();
     let used: Vec<usize> = (0..places).filter(|&i| *lent.word(i) != 0).collect();
     let links: Vec<usize> = used.iter().copied().filter(|&i| *lent.word(i) % PAGE == 3).collect();
@@ -597,7 +723,7 @@ fn histories() {
         Lent::format("refused", levels, base, tables, lent).audit();
     }
     for (base2, tables2) in [(BASE, 2), (BASE + PAGE, 2), (BASE - PAGE, 2), (MORE, 0), (MORE + 1, 2), (TOP - PAGE, 2), (MORE, 511), (MORE, 1)] {
-        Lent::format_two("refused", 3, BASE, 2, base2, tables2, 2, 2).audit();
+        Lent::format_two("refused", 3, BASE, 2, base2, tables2, PAGE, 2, 2).audit();
     }
     for levels in [3, 4] {
         for tables in [1, 2, 3, 4, 5, 6, 8] {
@@ -649,7 +775,11 @@ fn main() {
     paths();
     entries();
     pools();
+    audits(PAGE);
+    audits(KIB16);
     planned();
     histories();
+    of_16_kib(9, 0);
+    of_16_kib(3, 5);
     OUT.with(|o| o.borrow_mut().flush().unwrap());
 }

@@ -6,7 +6,7 @@ ghost use mathlib.Core.Path.{_≡_};
 ghost use mathlib.Core.List.{_++_};
 ghost use Prim.Native.Nat.{_+_, _≤_};
 ghost use lib.ListN.{length};
-ghost use Rattle.path.specs.Geometry.{four};
+ghost use Rattle.path.specs.Geometry.{granuleOf};
 ghost use Rattle.path.specs.Numbers.{mostTables};
 ghost use Rattle.model.specs.Answers.{saysAdd, refused, pool, addDid};
 ghost use Rattle.model.specs.Adds.{appended, addW};
@@ -44,7 +44,7 @@ pub fn add<'a>(
     tables2: u64,
 ) -> Added
     ensures { λ r. ⌜ addDid r (now (words .entry)) (now (second .exit)) (now (list .exit))
-        ≡ addW four (pool s (now (words .entry) ++ now (second .entry)) (length (now (words .entry))) (now (list .entry))) base2 tables2 ⌝ }
+        ≡ addW (granuleOf (s .granule)) (pool s (now (words .entry) ++ now (second .entry)) (length (now (words .entry))) (now (list .entry))) base2 tables2 ⌝ }
 {
     let no = audit::add_tests(s, words, &second[..], list.len(), base2, tables2);
     if no != 0 {
@@ -62,6 +62,7 @@ pub fn add<'a>(
             free,
             base2,
             tables2,
+            granule: s.granule,
         },
     }
 }

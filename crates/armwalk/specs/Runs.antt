@@ -5,7 +5,7 @@ use mathlib.Core.List.{List}
 use mathlib.Core.Option.{Option, some, none}
 use lib.Dec.{ltb, leb, eqb}
 use lib.ListN.{length, getD}
-use Rattle.path.specs.Geometry.{four, physical, goodLevels}
+use Rattle.path.specs.Geometry.{Granule, physical, goodLevels}
 use Rattle.hardware.specs.Machine.{Translation, readBit, writeBit, neverHigh, neverLow, kindOf, memHigh, memLow, sharedOf, shareBits, stage2}
 use Rattle.hardware.specs.Machine as machine
 use Rattle.armwalk.specs.declared.Step.{Step}
@@ -45,7 +45,7 @@ abbrev pub saysSeen : Seen → Option Translation
 saysSeen W.Fault = none
 saysSeen (W.Hit a w) = some (byWord a w)
 
--- the translation, for three or four levels and a root that stands below 2^48
-abbrev pub stage2Of : List ℕ → List ℕ → ℕ → ℕ → ℕ → ℕ → Option Translation
-stage2Of first second base base₂ levels a =
-    cond (goodLevels four levels && leb base physical) (stage2 four levels base (λ _. memoryOf base first base₂ second) a) none
+-- the translation, for levels that a tree may have and a root that stands below 2^48
+abbrev pub stage2Of : Granule → List ℕ → List ℕ → ℕ → ℕ → ℕ → ℕ → Option Translation
+stage2Of G first second base base₂ levels a =
+    cond (goodLevels G levels && leb base physical) (stage2 G levels base (λ _. memoryOf base first base₂ second) a) none

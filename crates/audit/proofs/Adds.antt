@@ -4,31 +4,32 @@ use mathlib.Core.Path.{_≡_, refl, sym, ap, _∙_}
 use mathlib.Core.Logic.{inr, ⊎-elim}
 use mathlib.Core.Bool.{Bool, true, false, not, _&&_}
 use mathlib.Core.List.{List, [], _∷_, _++_}
+use native.Mathlib.Nat.{zero-mod}
 use native.Mathlib.Omega.{arith}
 use borrow.Author.Tests.{not-true, not-false}
-use lib.Dec.{ltb}
+use lib.Dec.{ltb, eqb}
 use lib.ListN.{length, length-append, length-replicate, replicate}
-use Rattle.path.specs.Geometry.{four, entries}
-use Rattle.path.specs.Areas.{areaOf, oneRegion, total, GoodArea, meetsArea}
+use Rattle.path.specs.Geometry.{Granule, granuleOf, pageSize, entries}
+use Rattle.path.specs.Areas.{areaOf, oneRegion, total, GoodArea}
 use Rattle.path.specs.Numbers.{mostTables, goodAdding, GoodAdding}
 use Rattle.path.specs.Laws.{apart-meets}
 use Rattle.path.specs.declared.Setup.{Setup}
-use Rattle.model.specs.Answers.{Mapping, Pool, pool}
-use Rattle.model.specs.Audit.{noneInside, ofPool}
+use Rattle.model.specs.Answers.{Mapping, pool}
+use Rattle.model.specs.Audit.{noneInside}
 use Rattle.model.specs.Adds.{goodAdd, soundTree, addTests}
 use Rattle.model.specs.AddLaws.{may-add}
 use Rattle.audit.specs.Checks.{Rooted, treeOf}
 
 -- no frame shares a byte with no table
-pub none-in-none : (L : List Mapping) → noneInside four (oneRegion 0 0) L ≡ true
+pub none-in-none : (G : Granule) (L : List Mapping) → noneInside G (oneRegion 0 0) L ≡ true
 unfolding noneInside
-none-in-none [] = refl
-none-in-none (x ∷ L) =
-    rw (apart-meets {G = four} {area = oneRegion 0 0} {b = x .frame} {size = x .size} (λ S. ⊎-elim (λ i. omega (arith, i .0, i .1)) (λ i. omega (arith, i .0, i .1)) (S .inside)))
-    (none-in-none L)
+none-in-none G [] = refl
+none-in-none G (x ∷ L) =
+    rw (apart-meets {G = G} {area = oneRegion 0 0} {b = x .frame} {size = x .size} (λ S. ⊎-elim (λ i. omega (arith, i .0, i .1)) (λ i. omega (arith, i .0, i .1)) (S .inside)))
+    (none-in-none G L)
 
-pub none-good : GoodArea four (oneRegion 0 0)
-none-good = record { aligned = refl; fits = omega arith; aligned₂ = refl; fits₂ = omega arith; apart = inr (omega arith); no-second = λ e. refl }
+pub none-good : (G : Granule) → GoodArea G (oneRegion 0 0)
+none-good G = record { aligned = zero-mod (pageSize G); fits = omega arith; aligned₂ = zero-mod (pageSize G); fits₂ = omega arith; apart = inr (omega arith); no-second = λ e. refl }
 
 -- a list of so many places
 abbrev zeros : ℕ → List ℕ
@@ -36,20 +37,21 @@ zeros n = replicate n 0
 
 -- the first test, for a free list of so many places
 module _ (s : Setup) (ws us : List ℕ) (q m places : ℕ) {r : Bool}
-    (e : r ≡ (goodAdding four (s .levels) (areaOf s) q m (length ws) (length ws + length us) places && ltb (s .free) (total (areaOf s)))) where
-  tests : (list : List ℕ) → length list ≡ places → r ≡ goodAdd four (pool s (ws ++ us) (length ws) list) q m
+    (e : r ≡ (eqb (s .granule) (pageSize (granuleOf (s .granule)))
+    && (goodAdding (granuleOf (s .granule)) (s .levels) (areaOf s) q m (length ws) (length ws + length us) places && ltb (s .free) (total (areaOf s))))) where
+  tests : (list : List ℕ) → length list ≡ places → r ≡ goodAdd (granuleOf (s .granule)) (pool s (ws ++ us) (length ws) list) q m
   tests list l = rw (length-append ws us, l) e
 
-  pub add-bad : not r ≡ true → (list : List ℕ) → length list ≡ places → 1 ≡ addTests four (pool s (ws ++ us) (length ws) list) q m
+  pub add-bad : not r ≡ true → (list : List ℕ) → length list ≡ places → 1 ≡ addTests (granuleOf (s .granule)) (pool s (ws ++ us) (length ws) list) q m
   unfolding addTests
   add-bad n list l = rw (sym (tests list l) ∙ not-true _ n)
 
   module _ (n : not r ≡ false) where
-    yes-add : (list : List ℕ) → length list ≡ places → goodAdd four (pool s (ws ++ us) (length ws) list) q m ≡ true
+    yes-add : (list : List ℕ) → length list ≡ places → goodAdd (granuleOf (s .granule)) (pool s (ws ++ us) (length ws) list) q m ≡ true
     yes-add list l = sym (tests list l) ∙ not-false _ n
 
-    may : GoodAdding four (s .levels) (areaOf s) q m (length ws) (length (ws ++ us)) (length (zeros places))
-    may = may-add four (pool s (ws ++ us) (length ws) (zeros places)) q m (yes-add (zeros places) (length-replicate {A = ℕ} places 0)) .0
+    may : GoodAdding (granuleOf (s .granule)) (s .levels) (areaOf s) q m (length ws) (length (ws ++ us)) (length (zeros places))
+    may = may-add (granuleOf (s .granule)) (pool s (ws ++ us) (length ws) (zeros places)) q m (yes-add (zeros places) (length-replicate {A = ℕ} places 0)) .0
 
     pub add-rooted : Rooted s (length ws) (length us)
     add-rooted =
@@ -61,40 +63,40 @@ module _ (s : Setup) (ws us : List ℕ) (q m places : ℕ) {r : Bool}
           some-table = g .some-table;
           few = omega (arith, g .few);
           cut-is = g .cut-is;
-          long = omega (arith, g .cut-is);
+          long = let all : total (areaOf s) ≡ s .tables = omega arith in omega (arith, g .cut-is, ap (λ (x : ℕ). entries (granuleOf (s .granule)) * x) all);
         }
 
-    pub new-good : GoodArea four (oneRegion q m)
+    pub new-good : GoodArea (granuleOf (s .granule)) (oneRegion q m)
     new-good =
         let g = may .numbers .placed in
-        record { aligned = g .aligned₂; fits = g .fits₂; aligned₂ = refl; fits₂ = omega arith; apart = inr (omega arith); no-second = λ e. refl }
+        record { aligned = g .aligned₂; fits = g .fits₂; aligned₂ = zero-mod (pageSize (granuleOf (s .granule))); fits₂ = omega arith; apart = inr (omega arith); no-second = λ e. refl }
 
     pub new-few : m ≤ mostTables
     new-few = omega (arith, may .numbers .few)
 
-    module _ {x : Bool} (d : x ≡ (noneInside four (oneRegion 0 0) (treeOf s (ws ++ us) .mappings) && soundTree (treeOf s (ws ++ us)))) where
+    module _ {x : Bool} (d : x ≡ (noneInside (granuleOf (s .granule)) (oneRegion 0 0) (treeOf s (ws ++ us) .mappings) && soundTree (treeOf s (ws ++ us)))) where
       tree : x ≡ soundTree (treeOf s (ws ++ us))
-      tree = d ∙ rw (none-in-none (treeOf s (ws ++ us) .mappings))
+      tree = d ∙ rw (none-in-none (granuleOf (s .granule)) (treeOf s (ws ++ us) .mappings))
 
-      pub add-unsound : not x ≡ true → (list : List ℕ) → length list ≡ places → 8 ≡ addTests four (pool s (ws ++ us) (length ws) list) q m
+      pub add-unsound : not x ≡ true → (list : List ℕ) → length list ≡ places → 8 ≡ addTests (granuleOf (s .granule)) (pool s (ws ++ us) (length ws) list) q m
       unfolding addTests
       add-unsound k list l = rw (yes-add list l, sym tree ∙ not-true _ k)
 
-      module _ (k : not x ≡ false) {y : Bool} (f : y ≡ (noneInside four (oneRegion q m) (treeOf s (ws ++ us) .mappings) && soundTree (treeOf s (ws ++ us)))) where
+      module _ (k : not x ≡ false) {y : Bool} (f : y ≡ (noneInside (granuleOf (s .granule)) (oneRegion q m) (treeOf s (ws ++ us) .mappings) && soundTree (treeOf s (ws ++ us)))) where
         sound : soundTree (treeOf s (ws ++ us)) ≡ true
         sound = sym tree ∙ not-false _ k
 
-        apart : y ≡ noneInside four (oneRegion q m) (treeOf s (ws ++ us) .mappings)
-        apart = f ∙ ap (λ (b : Bool). noneInside four (oneRegion q m) (treeOf s (ws ++ us) .mappings) && b) sound ∙ and-yes _
+        apart : y ≡ noneInside (granuleOf (s .granule)) (oneRegion q m) (treeOf s (ws ++ us) .mappings)
+        apart = f ∙ ap (λ (b : Bool). noneInside (granuleOf (s .granule)) (oneRegion q m) (treeOf s (ws ++ us) .mappings) && b) sound ∙ and-yes _
           where
             and-yes : (b : Bool) → (b && true) ≡ b
             and-yes true = refl
             and-yes false = refl
 
-        pub add-inside : not y ≡ true → (list : List ℕ) → length list ≡ places → 11 ≡ addTests four (pool s (ws ++ us) (length ws) list) q m
+        pub add-inside : not y ≡ true → (list : List ℕ) → length list ≡ places → 11 ≡ addTests (granuleOf (s .granule)) (pool s (ws ++ us) (length ws) list) q m
         unfolding addTests
         add-inside i list l = rw (yes-add list l, sound, sym apart ∙ not-true _ i)
 
-        pub add-passes : not y ≡ false → (list : List ℕ) → length list ≡ places → 0 ≡ addTests four (pool s (ws ++ us) (length ws) list) q m
+        pub add-passes : not y ≡ false → (list : List ℕ) → length list ≡ places → 0 ≡ addTests (granuleOf (s .granule)) (pool s (ws ++ us) (length ws) list) q m
         unfolding addTests
         add-passes i list l = rw (yes-add list l, sound, sym apart ∙ not-false _ i)

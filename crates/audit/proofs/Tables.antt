@@ -12,17 +12,17 @@ use lib.ListN.{length, getD, set, drop, length-append, length-set, drop-of-lengt
 use lib.Seq.{drop-cons, take-all}
 use Rattle.laws.specs.Lists.{part, allZero}
 use Rattle.laws.specs.ListLaws.{length-part, length-part-le, getD-part}
-use Rattle.path.specs.Geometry.{Granule, four, entries, sizeAt, atLevel}
+use Rattle.path.specs.Geometry.{Granule, granuleOf, entries, sizeAt, atLevel}
 use Rattle.path.specs.Areas.{Area, meetsArea}
 use Rattle.entry.specs.Words.{entryAt}
-use Rattle.path.specs.Laws.{four-sane, level-some, table-ends}
+use Rattle.path.specs.Laws.{granule-sane, granule-either, level-some, table-ends}
 use Rattle.entry.specs.Laws.{entry-zero, table-only}
 use Rattle.entry.specs.declared.Entry.{Entry}
 use Rattle.entry.specs.declared.Entry.the-variants.{Empty, Table, Frame, Damaged}
 use Rattle.model.specs.Walk.{slot}
 use Rattle.model.specs.Audit.{Found, nothing, _⊕_, tableWords, ofEntry, ofEntries, ofVisit, ofTable, noneInside}
 use Rattle.model.specs.Sound.{wordAt}
-use Rattle.audit.specs.Checks.{areaIn, keptIn, Seen, seen, clash, marks, mark, Ends, Answers, belowOf, atTable, atWord, atEntry, isFresh, RunsFit, TableFit, EntryFit}
+use Rattle.audit.specs.Checks.{granuleIn, areaIn, keptIn, Seen, seen, clash, marks, mark, Ends, Answers, belowOf, atTable, atWord, atEntry, isFresh, RunsFit, TableFit, EntryFit}
 use Rattle.audit.specs.declared.Look.{Look}
 use Rattle.audit.specs.declared.Tally.{Tally}
 use Rattle.audit.specs.declared.Tally.the-variants.{Counts, Damaged}
@@ -88,12 +88,12 @@ Skips G ws t left j = (j ≤ left) × ((k : ℕ) → j < k → k ≤ left → wo
 
 -- the same of the words of a table
 abbrev pub Passes : List ℕ → ℕ → ℕ → Type 0
-Passes us left j = (j ≤ left) × ((k : ℕ) → j < k → k ≤ left → getD us (entries four - k) 0 ≡ 0)
+Passes us left j = (j ≤ left) × ((k : ℕ) → j < k → k ≤ left → getD us (length us - k) 0 ≡ 0)
 
-pub passes-more : (us : List ℕ) (left j : ℕ) → Passes us left j → getD us (entries four - j) 0 ≡ 0 → Passes us left (j - 1)
+pub passes-more : (us : List ℕ) (left j : ℕ) → Passes us left j → getD us (length us - j) 0 ≡ 0 → Passes us left (j - 1)
 passes-more us left j s e = (omega (arith, s .0), λ k a b. go k b (decLt j k) (omega arith))
   where
-    go : (k : ℕ) → k ≤ left → Dec (j < k) → j ≤ k → getD us (entries four - k) 0 ≡ 0
+    go : (k : ℕ) → k ≤ left → Dec (j < k) → j ≤ k → getD us (length us - k) 0 ≡ 0
     go k b (yes i) m = s .1 k i b
     go k b (no i) m = let q : k ≡ j = omega arith in rw q e
 
@@ -206,10 +206,18 @@ small-table G ws look (suc h) t v =
     rw (pow-succ' (suc (entries G)) (suc h))
     (small-node G look (suc h) (λ c u. ofTable G ws (areaIn look) h c u) (suc (entries G) ^ suc h) (one-le-pow (suc h) (suc (entries G)) (omega arith)) (small-table G ws look h) ws t v)
 
-pub room-table : (ws : List ℕ) (look : Look) (h t : ℕ) → h < four .most → Room (atTable four ws look h t) 0 0
+-- which is little for both granules
+power-small : (number h : ℕ) → h < granuleOf number .most → suc (entries (granuleOf number)) ^ suc h ≤ 513 ^ 4
+power-small number h =
+    granule-either (λ G. h < G .most → suc (entries G) ^ suc h ≤ 513 ^ 4)
+    (λ l. pow-le-pow-right (lit< tt) l)
+    (λ l. let p : 2049 ^ suc h ≤ 2049 ^ 3 = pow-le-pow-right (lit< tt) l in omega arith)
+    number
+
+pub room-table : (ws : List ℕ) (look : Look) (h t : ℕ) → h < granuleIn look .most → Room (atTable (granuleIn look) ws look h t) 0 0
 room-table ws look h t l =
-    let s = small-table four ws look h t 0 in
-    let p : 513 ^ suc h ≤ 513 ^ 4 = pow-le-pow-right (lit< tt) l in
+    let s = small-table (granuleIn look) ws look h t 0 in
+    let p = power-small (look .granule) h l in
     record { few = omega (arith, s .few); some-more = omega (arith, s .some-more) }
 
 -- ---- a table
@@ -236,37 +244,37 @@ module _ (G : Granule) (ws M : List ℕ) (look : Look) (t : ℕ) where
 
 -- the loop over its entries: what is left of them answers for all
 pub record Loop (ws : List ℕ) (look : Look) (h t : ℕ) (M₀ : List ℕ) (a₀ b₀ : ℕ) (M : List ℕ) (a b left : ℕ) : Type 0 where
-  pub few-left : left ≤ entries four
-  pub carried : Carried (atRest four ws look h t (entries four)) M₀ a₀ b₀ (atRest four ws look h t left) M a b
+  pub few-left : left ≤ entries (granuleIn look)
+  pub carried : Carried (atRest (granuleIn look) ws look h t (entries (granuleIn look))) M₀ a₀ b₀ (atRest (granuleIn look) ws look h t left) M a b
 
 module _ {ws : List ℕ} {look : Look} {h t : ℕ} {M₀ : List ℕ} {a₀ b₀ : ℕ} {M : List ℕ} {a b left : ℕ} (k : Loop ws look h t M₀ a₀ b₀ M a b left) where
-  pub loop-end : left ≤ 0 → Goes (atRest four ws look h t (entries four)) M₀ a₀ b₀ (Counts a b) M
-  loop-end l = let z : left ≡ 0 = omega arith in carried-end (k .carried) (ap (atRest four ws look h t) z ∙ rest-none four ws look h t)
+  pub loop-end : left ≤ 0 → Goes (atRest (granuleIn look) ws look h t (entries (granuleIn look))) M₀ a₀ b₀ (Counts a b) M
+  loop-end l = let z : left ≡ 0 = omega arith in carried-end (k .carried) (ap (atRest (granuleIn look) ws look h t) z ∙ rest-none (granuleIn look) ws look h t)
 
-  pub loop-skip : (j : ℕ) → Skips four ws t left j → Loop ws look h t M₀ a₀ b₀ M a b j
+  pub loop-skip : (j : ℕ) → Skips (granuleIn look) ws t left j → Loop ws look h t M₀ a₀ b₀ M a b j
   loop-skip j s =
       record {
         few-left = omega (arith, k .few-left, s .0);
         carried =
-            subst (λ (r : Seen). Carried (atRest four ws look h t (entries four)) M₀ a₀ b₀ r M a b)
-            (rest-skip four ws look h t left j (k .few-left) s)
+            subst (λ (r : Seen). Carried (atRest (granuleIn look) ws look h t (entries (granuleIn look))) M₀ a₀ b₀ r M a b)
+            (rest-skip (granuleIn look) ws look h t left j (k .few-left) s)
             (k .carried);
       }
 
   module _ (l : 0 < left) where
     abbrev F : Seen
-    F = atEntry four ws look h t (entries four - left)
+    F = atEntry (granuleIn look) ws look h t (entries (granuleIn look) - left)
 
     abbrev G : Seen
-    G = atRest four ws look h t (left - 1)
+    G = atRest (granuleIn look) ws look h t (left - 1)
 
-    next : atRest four ws look h t left ≡ F ⊞ G
-    next = rest-parts four ws look h t left l (k .few-left)
+    next : atRest (granuleIn look) ws look h t left ≡ F ⊞ G
+    next = rest-parts (granuleIn look) ws look h t left l (k .few-left)
 
-    pub loop-bad : (N K : List ℕ) → Answers (atEntry four ws look h t (entries four - left)) M Damaged N → Goes (atRest four ws look h t (entries four)) M₀ a₀ b₀ Damaged K
+    pub loop-bad : (N K : List ℕ) → Answers (atEntry (granuleIn look) ws look h t (entries (granuleIn look) - left)) M Damaged N → Goes (atRest (granuleIn look) ws look h t (entries (granuleIn look))) M₀ a₀ b₀ Damaged K
     loop-bad N K g = carried-bad (k .carried) F G next N K g
 
-    module _ (x y : ℕ) (N : List ℕ) (g : Answers (atEntry four ws look h t (entries four - left)) M (Counts x y) N) where
+    module _ (x y : ℕ) (N : List ℕ) (g : Answers (atEntry (granuleIn look) ws look h t (entries (granuleIn look) - left)) M (Counts x y) N) where
       pub loop-few : (a + x < 2 ^ 64) × (b + y < 2 ^ 64)
       loop-few = carried-few (k .carried) F G next x y N g
 
@@ -275,28 +283,28 @@ module _ {ws : List ℕ} {look : Look} {h t : ℕ} {M₀ : List ℕ} {a₀ b₀ 
 
 module _ (ws : List ℕ) (look : Look) (h t : ℕ) (M : List ℕ) where
   abbrev all : Seen
-  all = atRest four ws look h t (entries four)
+  all = atRest (granuleIn look) ws look h t (entries (granuleIn look))
 
   -- a table that was come to before, or is empty
-  pub table-stale : isFresh four ws M (look .bare) t ≡ false → Answers (atTable four ws look h t) M Damaged M
+  pub table-stale : isFresh (granuleIn look) ws M (look .bare) t ≡ false → Answers (atTable (granuleIn look) ws look h t) M Damaged M
   table-stale e =
-      goes-answers (atTable four ws look h t) M Damaged M
-      (rw (table-parts four ws look h t) (goes-bad (atVisit four ws look t) all M 0 0 M M (visit-stale four ws M look t e M)))
+      goes-answers (atTable (granuleIn look) ws look h t) M Damaged M
+      (rw (table-parts (granuleIn look) ws look h t) (goes-bad (atVisit (granuleIn look) ws look t) all M 0 0 M M (visit-stale (granuleIn look) ws M look t e M)))
 
   -- else its entries decide
-  pub table-fresh : isFresh four ws M (look .bare) t ≡ true → (r : Tally) (N : List ℕ) → Goes all (set M t 1) 1 0 r N → Answers (atTable four ws look h t) M r N
+  pub table-fresh : isFresh (granuleIn look) ws M (look .bare) t ≡ true → (r : Tally) (N : List ℕ) → Goes all (set M t 1) 1 0 r N → Answers (atTable (granuleIn look) ws look h t) M r N
   table-fresh e r N g =
-      goes-answers (atTable four ws look h t) M r N
-      (rw (table-parts four ws look h t) (goes-good (atVisit four ws look t) all M 0 0 1 0 (set M t 1) (visit-fresh four ws M look t e) r N g))
+      goes-answers (atTable (granuleIn look) ws look h t) M r N
+      (rw (table-parts (granuleIn look) ws look h t) (goes-good (atVisit (granuleIn look) ws look t) all M 0 0 1 0 (set M t 1) (visit-fresh (granuleIn look) ws M look t e) r N g))
 
-  pub table-starts : h < four .most → Loop ws look h t M 1 0 M 1 0 (entries four)
+  pub table-starts : h < granuleIn look .most → Loop ws look h t M 1 0 M 1 0 (entries (granuleIn look))
   table-starts l =
       record {
         few-left = omega arith;
-        carried = carried-start all M 1 0 (rest (rw (table-parts four ws look h t) at (room-table ws look h t l)));
+        carried = carried-start all M 1 0 (rest (rw (table-parts (granuleIn look) ws look h t) at (room-table ws look h t l)));
       }
     where
-      rest : Room (atVisit four ws look t ⊞ all) 0 0 → Room all 1 0
+      rest : Room (atVisit (granuleIn look) ws look t ⊞ all) 0 0 → Room all 1 0
       rest m = record { few = omega (arith, m .few); some-more = omega (arith, m .some-more) }
 
 pub table-entry : {ws : List ℕ} {look : Look} {M N : List ℕ} {t h a b left : ℕ} → TableFit M look t h → Loop ws look h t (set M t 1) 1 0 N a b left
@@ -304,63 +312,64 @@ pub table-entry : {ws : List ℕ} {look : Look} {M N : List ℕ} {t h a b left :
 table-entry {M = M} {t = t} f k = record { placed = f .placed; marked = omega (arith, f .marked, k .carried .long, length-set M t 1); low = f .low }
 
 -- a table of the tree is among the words
-pub part-long : (ws us : List ℕ) {M : List ℕ} {look : Look} {t h : ℕ} → TableFit M look t h → RunsFit look (length ws) (length us) → length (tableWords four (ws ++ us) t) ≡ entries four
-part-long ws us {t = t} f r =
-    length-part (ws ++ us) (slot four t 0) (entries four) (simp length-append (omega (arith, r .long, table-ends (entries four) (f .inside))))
+pub part-long : (ws us : List ℕ) {M : List ℕ} {look : Look} {t h : ℕ} → TableFit M look t h → RunsFit look (length ws) (length us) → length (tableWords (granuleIn look) (ws ++ us) t) ≡ entries (granuleIn look)
+part-long ws us {look = look} {t = t} f r =
+    length-part (ws ++ us) (slot (granuleIn look) t 0) (entries (granuleIn look)) (simp length-append (omega (arith, r .long, table-ends (entries (granuleIn look)) (f .inside))))
 
 -- what the words of a table say of its entries
-module _ (ws us : List ℕ) (t : ℕ) (e : us ≡ tableWords four ws t) where
-  pub part-word : (i : ℕ) → i < entries four → getD us i 0 ≡ wordAt four ws t i
-  part-word i l = ap (λ (x : List ℕ). getD x i 0) e ∙ getD-part ws (slot four t 0) (entries four) i l ∙ ap (λ (j : ℕ). getD ws j 0) (omega arith)
+module _ (G : Granule) (ws us : List ℕ) (t : ℕ) (e : us ≡ tableWords G ws t) where
+  pub part-word : (i : ℕ) → i < entries G → getD us i 0 ≡ wordAt G ws t i
+  part-word i l = ap (λ (x : List ℕ). getD x i 0) e ∙ getD-part ws (slot G t 0) (entries G) i l ∙ ap (λ (j : ℕ). getD ws j 0) (omega arith)
 
-  pub part-skips : (left j : ℕ) → left ≤ entries four → Passes us left j → Skips four ws t left j
-  part-skips left j m s = (s .0, λ k a b. sym (part-word (entries four - k) (omega arith)) ∙ s .1 k a b)
+  pub part-skips : length us ≡ entries G → (left j : ℕ) → left ≤ entries G → Passes us left j → Skips G ws t left j
+  part-skips n left j m s =
+      (s .0, λ k a b. sym (part-word (entries G - k) (omega arith)) ∙ ap (λ (x : ℕ). getD us (x - k) 0) (sym n) ∙ s .1 k a b)
 
 -- what the word says, the entry says
-pub at-word : (ws : List ℕ) (look : Look) (h t i : ℕ) {w : ℕ} (M : List ℕ) (r : Tally) (N : List ℕ) → w ≡ wordAt four ws t i → Answers (atWord four ws look h w) M r N
-    → Answers (atEntry four ws look h t i) M r N
-at-word ws look h t i M r N e g = subst (λ (x : ℕ). Answers (atWord four ws look h x) M r N) e g
+pub at-word : (ws : List ℕ) (look : Look) (h t i : ℕ) {w : ℕ} (M : List ℕ) (r : Tally) (N : List ℕ) → w ≡ wordAt (granuleIn look) ws t i → Answers (atWord (granuleIn look) ws look h w) M r N
+    → Answers (atEntry (granuleIn look) ws look h t i) M r N
+at-word ws look h t i M r N e g = subst (λ (x : ℕ). Answers (atWord (granuleIn look) ws look h x) M r N) e g
 
 -- words as many as a table's are the words of table 0
-pub part-own : (us : List ℕ) → length us ≡ entries four → us ≡ tableWords four us 0
+pub part-own : (G : Granule) (us : List ℕ) → length us ≡ entries G → us ≡ tableWords G us 0
 unfolding part
-part-own us e = sym (take-all 512 us (omega arith))
+part-own G us e = let z : slot G 0 0 ≡ 0 = omega arith in sym (rw z (take-all (entries G) us (omega arith)))
 
 -- ---- an entry
 
 module _ (ws M : List ℕ) (look : Look) (h w : ℕ) (r : Tally) (N : List ℕ) where
   -- what the word says decides
-  says : (e : Entry) → entryAt four (areaIn look) h w ≡ e → Answers (seen four look (ofEntry four h 0 (belowOf four ws (areaIn look) h) e)) M r N → Answers (atWord four ws look h w) M r N
-  says e q g = subst (λ (e : Entry). Answers (seen four look (ofEntry four h 0 (belowOf four ws (areaIn look) h) e)) M r N) (sym q) g
+  says : (e : Entry) → entryAt (granuleIn look) (areaIn look) h w ≡ e → Answers (seen (granuleIn look) look (ofEntry (granuleIn look) h 0 (belowOf (granuleIn look) ws (areaIn look) h) e)) M r N → Answers (atWord (granuleIn look) ws look h w) M r N
+  says e q g = subst (λ (e : Entry). Answers (seen (granuleIn look) look (ofEntry (granuleIn look) h 0 (belowOf (granuleIn look) ws (areaIn look) h) e)) M r N) (sym q) g
 
-  pub entry-empty : entryAt four (areaIn look) h w ≡ Empty → r ≡ Counts 0 0 → N ≡ M → Answers (atWord four ws look h w) M r N
+  pub entry-empty : entryAt (granuleIn look) (areaIn look) h w ≡ Empty → r ≡ Counts 0 0 → N ≡ M → Answers (atWord (granuleIn look) ws look h w) M r N
   unfolding Answers mark noneInside
   entry-empty q a b = says Empty q (a, b)
 
-  module _ (b k : ℕ) (q : entryAt four (areaIn look) h w ≡ Frame b k) where
-    pub entry-frame : meetsArea four (keptIn look) b (sizeAt four h) ≡ false → r ≡ Counts 0 1 → N ≡ M → Answers (atWord four ws look h w) M r N
+  module _ (b k : ℕ) (q : entryAt (granuleIn look) (areaIn look) h w ≡ Frame b k) where
+    pub entry-frame : meetsArea (granuleIn look) (keptIn look) b (sizeAt (granuleIn look) h) ≡ false → r ≡ Counts 0 1 → N ≡ M → Answers (atWord (granuleIn look) ws look h w) M r N
     unfolding Answers mark noneInside
     entry-frame e a d = says (Frame b k) q (rw e (a, d))
 
     -- a frame that shares a byte with the tables
-    pub entry-inside : meetsArea four (keptIn look) b (sizeAt four h) ≡ true → r ≡ Damaged → Answers (atWord four ws look h w) M r N
+    pub entry-inside : meetsArea (granuleIn look) (keptIn look) b (sizeAt (granuleIn look) h) ≡ true → r ≡ Damaged → Answers (atWord (granuleIn look) ws look h w) M r N
     unfolding Answers noneInside
     entry-inside e a = says (Frame b k) q (rw e a)
 
-  pub entry-damaged : entryAt four (areaIn look) h w ≡ Damaged → r ≡ Damaged → Answers (atWord four ws look h w) M r N
+  pub entry-damaged : entryAt (granuleIn look) (areaIn look) h w ≡ Damaged → r ≡ Damaged → Answers (atWord (granuleIn look) ws look h w) M r N
   unfolding Answers noneInside
   entry-damaged q a = says Damaged q a
 
-  pub entry-child : (c : ℕ) → entryAt four (areaIn look) h w ≡ Table c → Answers (atTable four ws look (h - 1) c) M r N → Answers (atWord four ws look h w) M r N
-  entry-child c q g = says (Table c) q (subst (λ (s : Seen). Answers s M r N) (sym (below-table four ws look h c (table-only four-sane (areaIn look) h w q .0))) g)
+  pub entry-child : (c : ℕ) → entryAt (granuleIn look) (areaIn look) h w ≡ Table c → Answers (atTable (granuleIn look) ws look (h - 1) c) M r N → Answers (atWord (granuleIn look) ws look h w) M r N
+  entry-child c q g = says (Table c) q (subst (λ (s : Seen). Answers s M r N) (sym (below-table (granuleIn look) ws look h c (table-only (granule-sane (look .granule)) (areaIn look) h w q .0))) g)
 
 -- the size of a frame at a height, as the code has it
-pub met-by-size : (area : Area) (b : ℕ) {s h : ℕ} {m x : Bool} → h < four .most → s ≡ atLevel four h (sizeAt four h) → m ≡ meetsArea four area b s → m ≡ x
-    → meetsArea four area b (sizeAt four h) ≡ x
-met-by-size area b {s} {h} l e q t = ap (meetsArea four area b) (sym (level-some four l (sizeAt four h)) ∙ sym e) ∙ sym q ∙ t
+pub met-by-size : (G : Granule) (area : Area) (b : ℕ) {s h : ℕ} {m x : Bool} → h < G .most → s ≡ atLevel G h (sizeAt G h) → m ≡ meetsArea G area b s → m ≡ x
+    → meetsArea G area b (sizeAt G h) ≡ x
+met-by-size G area b {s} {h} l e q t = ap (meetsArea G area b) (sym (level-some G l (sizeAt G h)) ∙ sym e) ∙ sym q ∙ t
 
-pub entry-fit : {M : List ℕ} {look : Look} {h : ℕ} → EntryFit M look h → (w c : ℕ) → entryAt four (areaIn look) h w ≡ Table c
+pub entry-fit : {M : List ℕ} {look : Look} {h : ℕ} → EntryFit M look h → (w c : ℕ) → entryAt (granuleIn look) (areaIn look) h w ≡ Table c
     → (0 < h) × TableFit M look c (h - 1)
 entry-fit {look = look} f w c q =
-    let (a, b, d, _) = table-only four-sane (areaIn look) _ w q in
+    let (a, b, d, _) = table-only (granule-sane (look .granule)) (areaIn look) _ w q in
     (a, record { placed = f .placed; marked = f .marked; inside = d; low = omega (arith, f .low) })

@@ -11,10 +11,10 @@ use lib.Seq.{getD-set-same, getD-set-other}
 use borrow.Author.Tests.{eq-eqb, ne-eqb}
 use Rattle.laws.specs.Lists.{allZero, among, distinct}
 use Rattle.laws.specs.ListLaws.{allZero-at, allZero-replicate, distinct-left}
-use Rattle.path.specs.Geometry.{Granule, four}
+use Rattle.path.specs.Geometry.{Granule, granuleOf, entries}
 use Rattle.path.specs.Areas.{Area, areaOf, total, GoodArea}
 use Rattle.path.specs.Numbers.{mostTables, GoodSetup}
-use Rattle.path.specs.Laws.{four-sane, good-setup}
+use Rattle.path.specs.Laws.{granule-sane, good-setup}
 use Rattle.path.specs.declared.Setup.{Setup}
 use Rattle.model.specs.Answers.{Pool, audited, refused}
 use Rattle.model.specs.Calls.{goodPool}
@@ -22,7 +22,7 @@ use Rattle.model.specs.Audit.{Found, tableWords, ofTable, ofPool, freeOf, freeS
 use Rattle.model.specs.Adds.{soundTree}
 use Rattle.model.specs.Sound.{Each, reachedOf, mappingsOf}
 use Rattle.model.specs.AuditLaws.{each-append, reached-low, free-back}
-use Rattle.audit.specs.Checks.{areaIn, keptIn, Seen, seen, Marked, clash, marks, mark, walked, Answers, atTable, treeOf, freePass, RunsFit, TableFit, Rooted}
+use Rattle.audit.specs.Checks.{granuleIn, areaIn, keptIn, strictly, Seen, seen, Marked, clash, marks, mark, walked, Answers, atTable, treeOf, freePass, RunsFit, TableFit, Rooted}
 use Rattle.audit.specs.declared.Look.{Look}
 use Rattle.audit.specs.declared.Tally.the-variants.{Counts, Damaged}
 use Rattle.audit.proofs.Parts.{mark-append, ended, clashed}
@@ -116,23 +116,10 @@ free-parts G ws n M (t ∷ ts) = go (ltb t n) (eqb (getD M t 0) 0) (allZero (tab
 
 -- ---- the root
 
--- the audit goes by the pool's own regions, and an empty table is damage
-abbrev pub strictly : Setup → Look
-strictly s = record {
-  base = s .base;
-  tables = s .tables;
-  base2 = s .base2;
-  tables2 = s .tables2;
-  kept = s .base;
-  many = s .tables;
-  kept2 = s .base2;
-  many2 = s .tables2;
-  bare = false;
-}
-
 -- the adding call keeps one region free, and looks at no empty table
 abbrev pub loosely : Setup → ℕ → ℕ → Look
 loosely s kept many = record {
+  granule = s .granule;
   base = s .base;
   tables = s .tables;
   base2 = s .base2;
@@ -144,17 +131,20 @@ loosely s kept many = record {
   bare = true;
 }
 
-pub root-fit : {s : Setup} {look : Look} {first second : ℕ} → Rooted s first second → (look .tables ≡ s .tables) → (look .tables2 ≡ s .tables2) → GoodArea four (keptIn look)
-    → TableFit (blank mostTables) look 0 (s .levels - 1) × RunsFit look first second
-root-fit R e f g = (
-  record {
-    placed = g;
-    marked = rw (length-replicate {A = ℕ} mostTables 0) (omega (arith, R .few));
-    inside = omega (arith, R .some-table);
-    low = omega (arith, R .not-more, R .enough);
-  },
-  record { cut-is = R .cut-is ∙ ap (λ (x : ℕ). 512 * x) (sym e); long = omega (arith, R .long) },
-)
+pub root-fit : {s : Setup} {look : Look} {first second : ℕ} → Rooted s first second → (look .granule ≡ s .granule) → (look .tables ≡ s .tables) → (look .tables2 ≡ s .tables2)
+    → GoodArea (granuleIn look) (keptIn look) → TableFit (blank mostTables) look 0 (s .levels - 1) × RunsFit look first second
+root-fit {s} {look} R o e f g =
+    let most : granuleIn look .most ≡ granuleOf (s .granule) .most = ap (λ (x : ℕ). granuleOf x .most) o in
+    let all : entries (granuleIn look) * total (areaIn look) ≡ entries (granuleOf (s .granule)) * total (areaOf s) =
+    ap₂ (λ (x y : ℕ). entries (granuleOf x) * y) o (ap₂ _+_ e f) in (
+      record {
+        placed = g;
+        marked = rw (length-replicate {A = ℕ} mostTables 0) (omega (arith, R .few));
+        inside = omega (arith, R .some-table);
+        low = omega (arith, R .not-more, R .enough, granule-sane (s .granule) .large-below);
+      },
+      record { cut-is = R .cut-is ∙ sym (ap₂ (λ (x y : ℕ). entries (granuleOf x) * y) o e); long = omega (arith, R .long) },
+    )
 
 module _ (s : Setup) (look : Look) (ws : List ℕ) (some-table : 1 ≤ s .tables) (few : total (areaOf s) ≤ mostTables) (same : areaIn look ≡ areaOf s) where
   -- the tree, and the test that a check makes of it beside distinctness
@@ -162,16 +152,16 @@ module _ (s : Setup) (look : Look) (ws : List ℕ) (some-table : 1 ≤ s .tables
   tree = treeOf s ws
 
   abbrev sound : Bool
-  sound = noneInside four (keptIn look) (tree .mappings) && (tree .ok && (tree .full || look .bare))
+  sound = noneInside (granuleOf (s .granule)) (keptIn look) (tree .mappings) && (tree .ok && (tree .full || look .bare))
 
   abbrev all : Seen
-  all = atTable four ws look (s .levels - 1) 0
+  all = atTable (granuleOf (s .granule)) ws look (s .levels - 1) 0
 
   all-is : all ≡ record { ok = sound; reached = tree .reached; count = length (tree .mappings) }
-  all-is = ap (λ (x : Area). seen four look (ofTable four ws x (s .levels - 1) 0 0)) same
+  all-is = ap (λ (x : Area). seen (granuleOf (s .granule)) look (ofTable (granuleOf (s .granule)) ws x (s .levels - 1) 0 0)) same
 
   pub reached-small : Each (λ t. t < mostTables) (tree .reached)
-  reached-small t m = omega (arith, few, reached-low four-sane ws (areaOf s) (s .levels - 1) 0 0 (omega arith) t m)
+  reached-small t m = omega (arith, few, reached-low (granule-sane (s .granule)) ws (areaOf s) (s .levels - 1) 0 0 (omega arith) t m)
 
   pub root-clash : (K : List ℕ) → Answers all (blank mostTables) Damaged K → (sound && distinct (tree .reached)) ≡ false
   root-clash K h = go sound refl (ap (λ (x : Seen). walked x (blank mostTables)) (sym all-is) ∙ clashed all (blank mostTables) K h)
@@ -192,8 +182,8 @@ module _ (s : Setup) (look : Look) (ws : List ℕ) (some-table : 1 ≤ s .tables
       go false q e = absurd (let z : _≡_ {A = ℕ} 0 1 = cc in omega arith)
 
   -- where empty tables are as good as others
-  pub tree-clash : (K : List ℕ) → look .bare ≡ true → Answers all (blank mostTables) Damaged K → false ≡ (noneInside four (keptIn look) (tree .mappings) && soundTree tree)
-  tree-clash K bare h = go (noneInside four (keptIn look) (tree .mappings)) (tree .ok) (tree .full) (distinct (tree .reached)) (rw bare at (root-clash K h))
+  pub tree-clash : (K : List ℕ) → look .bare ≡ true → Answers all (blank mostTables) Damaged K → false ≡ (noneInside (granuleOf (s .granule)) (keptIn look) (tree .mappings) && soundTree tree)
+  tree-clash K bare h = go (noneInside (granuleOf (s .granule)) (keptIn look) (tree .mappings)) (tree .ok) (tree .full) (distinct (tree .reached)) (rw bare at (root-clash K h))
     where
       go : (n o f d : Bool) → ((n && (o && (f || true))) && d) ≡ false → false ≡ (n && (o && d))
       go true true true d e = sym e
@@ -202,10 +192,10 @@ module _ (s : Setup) (look : Look) (ws : List ℕ) (some-table : 1 ≤ s .tables
       go false o f d e = refl
 
   pub tree-sound : (a b : ℕ) (K : List ℕ) → look .bare ≡ true → Answers all (blank mostTables) (Counts a b) K
-      → true ≡ (noneInside four (keptIn look) (tree .mappings) && soundTree tree)
+      → true ≡ (noneInside (granuleOf (s .granule)) (keptIn look) (tree .mappings) && soundTree tree)
   tree-sound a b K bare h =
       let r = root-sound a b K h in
-      go (noneInside four (keptIn look) (tree .mappings)) (tree .ok) (tree .full) (rw bare at (r .0)) (sym (blank-distinct mostTables (tree .reached) reached-small) ∙ ap passed (r .1 .0))
+      go (noneInside (granuleOf (s .granule)) (keptIn look) (tree .mappings)) (tree .ok) (tree .full) (rw bare at (r .0)) (sym (blank-distinct mostTables (tree .reached) reached-small) ∙ ap passed (r .1 .0))
     where
       go : (n o f : Bool) → (n && (o && (f || true))) ≡ true → distinct (tree .reached) ≡ true → true ≡ (n && (o && distinct (tree .reached)))
       go true true f e d = sym d
@@ -214,9 +204,9 @@ module _ (s : Setup) (look : Look) (ws : List ℕ) (some-table : 1 ≤ s .tables
 
 -- ---- the whole
 
-pub rooted : (p : Pool) → goodPool four p ≡ true → (second : ℕ) → length (p .words) ≡ p .cut + second → Rooted (p .numbers) (p .cut) second
+pub rooted : (p : Pool) → goodPool (granuleOf (p .numbers .granule)) p ≡ true → (second : ℕ) → length (p .words) ≡ p .cut + second → Rooted (p .numbers) (p .cut) second
 rooted p g second e =
-    let N : GoodSetup four (p .numbers) (p .cut) (length (p .words)) (length (p .list)) = good-setup g in
+    let N : GoodSetup (granuleOf (p .numbers .granule)) (p .numbers) (p .cut) (length (p .words)) (length (p .list)) = good-setup g in
     record {
       enough = N .numbers .enough;
       not-more = N .numbers .not-more;
@@ -226,11 +216,11 @@ rooted p g second e =
       long = omega (arith, N .numbers .words-are);
     }
 
-module _ (p : Pool) (g : goodPool four p ≡ true) where
+module _ (p : Pool) (g : goodPool (granuleOf (p .numbers .granule)) p ≡ true) where
   abbrev look : Look
   look = strictly (p .numbers)
 
-  N : GoodSetup four (p .numbers) (p .cut) (length (p .words)) (length (p .list))
+  N : GoodSetup (granuleOf (p .numbers .granule)) (p .numbers) (p .cut) (length (p .words)) (length (p .list))
   N = good-setup g
 
   abbrev n : ℕ
@@ -238,71 +228,71 @@ module _ (p : Pool) (g : goodPool four p ≡ true) where
 
   -- whether no frame shares a byte with the tables, and the tree is sound and has no empty table
   abbrev good : Bool
-  good = noneInside four (areaOf (p .numbers)) (mappingsOf four p) && (ofPool four p .ok && ofPool four p .full)
+  good = noneInside (granuleOf (p .numbers .granule)) (areaOf (p .numbers)) (mappingsOf (granuleOf (p .numbers .granule)) p) && (ofPool (granuleOf (p .numbers .granule)) p .ok && ofPool (granuleOf (p .numbers .granule)) p .full)
 
   abbrev seen-all : Seen
-  seen-all = atTable four (p .words) look (p .numbers .levels - 1) 0
+  seen-all = atTable (granuleOf (p .numbers .granule)) (p .words) look (p .numbers .levels - 1) 0
 
   abbrev tested : Bool
-  tested = noneInside four (keptIn look) (mappingsOf four p) && (ofPool four p .ok && (ofPool four p .full || look .bare))
+  tested = noneInside (granuleOf (p .numbers .granule)) (keptIn look) (mappingsOf (granuleOf (p .numbers .granule)) p) && (ofPool (granuleOf (p .numbers .granule)) p .ok && (ofPool (granuleOf (p .numbers .granule)) p .full || look .bare))
 
   good-is : tested ≡ good
-  good-is = rw (or-false (ofPool four p .full))
+  good-is = rw (or-false (ofPool (granuleOf (p .numbers .granule)) p .full))
 
-  damaged : soundPool four p ≡ false → refused 8 ≡ auditW four p
+  damaged : soundPool (granuleOf (p .numbers .granule)) p ≡ false → refused 8 ≡ auditW (granuleOf (p .numbers .granule)) p
   unfolding auditW
   damaged e = sym (rw (g, e))
 
-  pub whole-clash : (K : List ℕ) → Answers seen-all (blank mostTables) Damaged K → refused 8 ≡ auditW four p
+  pub whole-clash : (K : List ℕ) → Answers seen-all (blank mostTables) Damaged K → refused 8 ≡ auditW (granuleOf (p .numbers .granule)) p
   unfolding soundPool
-  whole-clash K h = damaged (go good (distinct (reachedOf four p)) refl (rw good-is at (root-clash (p .numbers) look (p .words) (N .numbers .some-table) (N .numbers .few) refl K h)))
+  whole-clash K h = damaged (go good (distinct (reachedOf (granuleOf (p .numbers .granule)) p)) refl (rw good-is at (root-clash (p .numbers) look (p .words) (N .numbers .some-table) (N .numbers .few) refl K h)))
     where
-      go : (o d : Bool) → distinct (reachedOf four p) ≡ d → (o && d) ≡ false
-          → (o && (distinct (reachedOf four p ++ freeOf p) && (freeSound four (p .words) n (freeOf p) && eqb (length (reachedOf four p) + p .numbers .free) n))) ≡ false
-      go true d q e = rw (left-not (reachedOf four p) (freeOf p) (q ∙ e))
+      go : (o d : Bool) → distinct (reachedOf (granuleOf (p .numbers .granule)) p) ≡ d → (o && d) ≡ false
+          → (o && (distinct (reachedOf (granuleOf (p .numbers .granule)) p ++ freeOf p) && (freeSound (granuleOf (p .numbers .granule)) (p .words) n (freeOf p) && eqb (length (reachedOf (granuleOf (p .numbers .granule)) p) + p .numbers .free) n))) ≡ false
+      go true d q e = rw (left-not (reachedOf (granuleOf (p .numbers .granule)) p) (freeOf p) (q ∙ e))
       go false d q e = refl
 
   module _ (a b : ℕ) (K : List ℕ) (h : Answers seen-all (blank mostTables) (Counts a b) K) where
-    found : (good ≡ true) × ((mark (blank mostTables) (reachedOf four p) ≡ marks K) × ((a ≡ length (reachedOf four p)) × (b ≡ length (mappingsOf four p))))
+    found : (good ≡ true) × ((mark (blank mostTables) (reachedOf (granuleOf (p .numbers .granule)) p) ≡ marks K) × ((a ≡ length (reachedOf (granuleOf (p .numbers .granule)) p)) × (b ≡ length (mappingsOf (granuleOf (p .numbers .granule)) p))))
     found = rw good-is at (root-sound (p .numbers) look (p .words) (N .numbers .some-table) (N .numbers .few) refl a b K h)
 
     -- the free list's check, after the tree's
-    frees : freePass four (p .words) n K (freeOf p) ≡ (distinct (reachedOf four p ++ freeOf p) && freeSound four (p .words) n (freeOf p))
-    frees = free-parts four (p .words) n K (freeOf p) ∙ go (freeSound four (p .words) n (freeOf p)) refl
+    frees : freePass (granuleOf (p .numbers .granule)) (p .words) n K (freeOf p) ≡ (distinct (reachedOf (granuleOf (p .numbers .granule)) p ++ freeOf p) && freeSound (granuleOf (p .numbers .granule)) (p .words) n (freeOf p))
+    frees = free-parts (granuleOf (p .numbers .granule)) (p .words) n K (freeOf p) ∙ go (freeSound (granuleOf (p .numbers .granule)) (p .words) n (freeOf p)) refl
       where
-        small : freeSound four (p .words) n (freeOf p) ≡ true → Each (λ t. t < mostTables) (reachedOf four p ++ freeOf p)
+        small : freeSound (granuleOf (p .numbers .granule)) (p .words) n (freeOf p) ≡ true → Each (λ t. t < mostTables) (reachedOf (granuleOf (p .numbers .granule)) p ++ freeOf p)
         small e =
-            each-append (λ t. t < mostTables) (reachedOf four p) (freeOf p) (reached-small (p .numbers) look (p .words) (N .numbers .some-table) (N .numbers .few) refl)
-            (λ t m. omega (arith, N .numbers .few, free-back four (p .words) n (freeOf p) e t m .0))
+            each-append (λ t. t < mostTables) (reachedOf (granuleOf (p .numbers .granule)) p) (freeOf p) (reached-small (p .numbers) look (p .words) (N .numbers .some-table) (N .numbers .few) refl)
+            (λ t m. omega (arith, N .numbers .few, free-back (granuleOf (p .numbers .granule)) (p .words) n (freeOf p) e t m .0))
 
-        joined : mark (blank mostTables) (reachedOf four p ++ freeOf p) ≡ mark K (freeOf p)
-        joined = mark-append (blank mostTables) (reachedOf four p) (freeOf p) ∙ rw (found .1 .0)
+        joined : mark (blank mostTables) (reachedOf (granuleOf (p .numbers .granule)) p ++ freeOf p) ≡ mark K (freeOf p)
+        joined = mark-append (blank mostTables) (reachedOf (granuleOf (p .numbers .granule)) p) (freeOf p) ∙ rw (found .1 .0)
 
-        go : (o : Bool) → freeSound four (p .words) n (freeOf p) ≡ o → (o && passed (mark K (freeOf p))) ≡ (distinct (reachedOf four p ++ freeOf p) && o)
+        go : (o : Bool) → freeSound (granuleOf (p .numbers .granule)) (p .words) n (freeOf p) ≡ o → (o && passed (mark K (freeOf p))) ≡ (distinct (reachedOf (granuleOf (p .numbers .granule)) p ++ freeOf p) && o)
         go true e =
             ap passed (sym joined)
-            ∙ blank-distinct mostTables (reachedOf four p ++ freeOf p) (small e)
-            ∙ sym (and-true (distinct (reachedOf four p ++ freeOf p)))
-        go false e = sym (and-false (distinct (reachedOf four p ++ freeOf p)))
+            ∙ blank-distinct mostTables (reachedOf (granuleOf (p .numbers .granule)) p ++ freeOf p) (small e)
+            ∙ sym (and-true (distinct (reachedOf (granuleOf (p .numbers .granule)) p ++ freeOf p)))
+        go false e = sym (and-false (distinct (reachedOf (granuleOf (p .numbers .granule)) p ++ freeOf p)))
 
     -- the whole test
-    test : soundPool four p ≡ (freePass four (p .words) n K (freeOf p) && eqb (length (reachedOf four p) + p .numbers .free) n)
+    test : soundPool (granuleOf (p .numbers .granule)) p ≡ (freePass (granuleOf (p .numbers .granule)) (p .words) n K (freeOf p) && eqb (length (reachedOf (granuleOf (p .numbers .granule)) p) + p .numbers .free) n)
     unfolding soundPool
     test =
         rw (found .0, frees)
-        (sym (and-assoc (distinct (reachedOf four p ++ freeOf p)) (freeSound four (p .words) n (freeOf p)) (eqb (length (reachedOf four p) + p .numbers .free) n)))
+        (sym (and-assoc (distinct (reachedOf (granuleOf (p .numbers .granule)) p ++ freeOf p)) (freeSound (granuleOf (p .numbers .granule)) (p .words) n (freeOf p)) (eqb (length (reachedOf (granuleOf (p .numbers .granule)) p) + p .numbers .free) n)))
 
-    pub whole-miscount : (a ≡ n - p .numbers .free → ⊥) → refused 8 ≡ auditW four p
+    pub whole-miscount : (a ≡ n - p .numbers .free → ⊥) → refused 8 ≡ auditW (granuleOf (p .numbers .granule)) p
     whole-miscount m =
-        damaged (test ∙ rw (ne-eqb (length (reachedOf four p) + p .numbers .free) n (λ e. m (omega (arith, found .1 .1 .0))))
-        (and-false (freePass four (p .words) n K (freeOf p))))
+        damaged (test ∙ rw (ne-eqb (length (reachedOf (granuleOf (p .numbers .granule)) p) + p .numbers .free) n (λ e. m (omega (arith, found .1 .1 .0))))
+        (and-false (freePass (granuleOf (p .numbers .granule)) (p .words) n K (freeOf p))))
 
-    pub whole-unfree : false ≡ freePass four (p .words) n K (freeOf p) → refused 8 ≡ auditW four p
+    pub whole-unfree : false ≡ freePass (granuleOf (p .numbers .granule)) (p .words) n K (freeOf p) → refused 8 ≡ auditW (granuleOf (p .numbers .granule)) p
     whole-unfree e = damaged (test ∙ rw (← e))
 
-    pub whole-sound : a ≡ n - p .numbers .free → true ≡ freePass four (p .words) n K (freeOf p) → audited a b ≡ auditW four p
+    pub whole-sound : a ≡ n - p .numbers .free → true ≡ freePass (granuleOf (p .numbers .granule)) (p .words) n K (freeOf p) → audited a b ≡ auditW (granuleOf (p .numbers .granule)) p
     unfolding auditW
     whole-sound c e =
-        let whole : length (reachedOf four p) + p .numbers .free ≡ n = omega (arith, found .1 .1 .0, N .room) in
-        let s : soundPool four p ≡ true = test ∙ rw (← e, eq-eqb _ _ whole) in
+        let whole : length (reachedOf (granuleOf (p .numbers .granule)) p) + p .numbers .free ≡ n = omega (arith, found .1 .1 .0, N .room) in
+        let s : soundPool (granuleOf (p .numbers .granule)) p ≡ true = test ∙ rw (← e, eq-eqb _ _ whole) in
         ap₂ audited (found .1 .1 .0) (found .1 .1 .1) ∙ sym (rw (g, s))

@@ -6,7 +6,7 @@ use mathlib.Core.List.{List, [], _∷_}
 use lib.Dec.{ltb, eqb}
 use lib.ListN.{length, getD, set}
 use Rattle.laws.specs.Lists.{allZero}
-use Rattle.path.specs.Geometry.{Granule, four, entries}
+use Rattle.path.specs.Geometry.{Granule, granuleOf, pageSize, entries}
 use Rattle.path.specs.Areas.{Area, areaAt, areaOf, total, GoodArea, meetsArea}
 use Rattle.path.specs.Numbers.{mostTables}
 use Rattle.path.specs.declared.Setup.{Setup}
@@ -17,12 +17,31 @@ use Rattle.audit.specs.declared.Look.{Look}
 use Rattle.audit.specs.declared.Tally.{Tally}
 use Rattle.audit.specs.declared.Tally.the-variants.{Counts, Damaged}
 
+-- the granule that a check goes by
+abbrev pub granuleIn : Look → Granule
+granuleIn look = granuleOf (look .granule)
+
 -- the tables that a check is of, and those that no frame may share a byte with
 abbrev pub areaIn : Look → Area
 areaIn look = areaAt (look .base) (look .tables) (look .base2) (look .tables2)
 
 abbrev pub keptIn : Look → Area
 keptIn look = areaAt (look .kept) (look .many) (look .kept2) (look .many2)
+
+-- the audit goes by the pool's own regions, and an empty table is damage
+abbrev pub strictly : Setup → Look
+strictly s = record {
+  granule = s .granule;
+  base = s .base;
+  tables = s .tables;
+  base2 = s .base2;
+  tables2 = s .tables2;
+  kept = s .base;
+  many = s .tables;
+  kept2 = s .base2;
+  many2 = s .tables2;
+  bare = false;
+}
 
 -- of what is found in a part of the tree: whether no frame shares a byte with the kept regions and it is sound and has no empty table, or these are as good
 -- as others; the tables reached; and how many mappings
@@ -78,11 +97,12 @@ atEntry G ws look h t i = atWord G ws look h (wordAt G ws t i)
 
 -- the tree of a pool with these setup numbers and words
 abbrev pub treeOf : Setup → List ℕ → Found
-treeOf s ws = ofTable four ws (areaOf s) (s .levels - 1) 0 0
+treeOf s ws = ofTable (granuleOf (s .granule)) ws (areaOf s) (s .levels - 1) 0 0
 
 -- the word of a page that shares no byte with the tables
-abbrev pub isPage : Area → ℕ → Bool
-isPage area w = eqb w (frameWord (baseIn w) 0 (attrsIn w)) && not (meetsArea four area (baseIn w) 4096)
+abbrev pub isPage : Granule → Area → ℕ → Bool
+isPage G area w =
+    (eqb w (frameWord (baseIn w) 0 (attrsIn w)) && eqb (baseIn w % pageSize G) 0) && not (meetsArea G area (baseIn w) (pageSize G))
 
 -- table t was not marked before, and is the root or not empty, or may be empty
 abbrev pub isFresh : Granule → List ℕ → List ℕ → Bool → ℕ → Bool
@@ -95,40 +115,40 @@ freePass G ws n M (t ∷ ts) =
     ltb t n && (eqb (getD M t 0) 0 && (allZero (tableWords G ws t) && freePass G ws n (set M t 1) ts))
 
 -- a page and a region's tables, as the difference of their addresses tells
-pub record PageFit (page base n : ℕ) : Type 0 where
-  pub paged : page % 4096 ≡ 0
+pub record PageFit (G : Granule) (page base n : ℕ) : Type 0 where
+  pub paged : page % pageSize G ≡ 0
   pub low : page < 2 ^ 48
-  pub aligned : base % 4096 ≡ 0
-  pub fits : base + 4096 * n ≤ 2 ^ 48
+  pub aligned : base % pageSize G ≡ 0
+  pub fits : base + pageSize G * n ≤ 2 ^ 48
 
 -- a run of so many words is of whole tables
-pub record Cut (first : ℕ) : Type 0 where
+pub record Cut (G : Granule) (first : ℕ) : Type 0 where
   pub tables : ℕ
-  pub whole : first ≡ entries four * tables
+  pub whole : first ≡ entries G * tables
 
 -- what a check asks of the runs of words, by their lengths
 pub record RunsFit (look : Look) (first second : ℕ) : Type 0 where
-  pub cut-is : first ≡ entries four * look .tables
-  pub long : entries four * total (areaIn look) ≤ first + second
+  pub cut-is : first ≡ entries (granuleIn look) * look .tables
+  pub long : entries (granuleIn look) * total (areaIn look) ≤ first + second
 
 -- what a check of table t asks: tables in their places, a mark for each table of the pool, one of those, and the height of some level
 pub record TableFit (M : List ℕ) (look : Look) (t h : ℕ) : Type 0 where
-  pub placed : GoodArea four (keptIn look)
+  pub placed : GoodArea (granuleIn look) (keptIn look)
   pub marked : total (areaIn look) ≤ length M
   pub inside : t < total (areaIn look)
-  pub low : h < four .most
+  pub low : h < granuleIn look .most
 
 -- what a check of an entry asks: the same, of no table
 pub record EntryFit (M : List ℕ) (look : Look) (h : ℕ) : Type 0 where
-  pub placed : GoodArea four (keptIn look)
+  pub placed : GoodArea (granuleIn look) (keptIn look)
   pub marked : total (areaIn look) ≤ length M
-  pub low : h < four .most
+  pub low : h < granuleIn look .most
 
 -- what a check of the whole tree asks of the setup numbers and of the runs
 pub record Rooted (s : Setup) (first second : ℕ) : Type 0 where
-  pub enough : four .fewest ≤ s .levels
-  pub not-more : s .levels ≤ four .most
+  pub enough : granuleOf (s .granule) .fewest ≤ s .levels
+  pub not-more : s .levels ≤ granuleOf (s .granule) .most
   pub some-table : 1 ≤ s .tables
   pub few : total (areaOf s) ≤ mostTables
-  pub cut-is : first ≡ entries four * s .tables
-  pub long : entries four * total (areaOf s) ≤ first + second
+  pub cut-is : first ≡ entries (granuleOf (s .granule)) * s .tables
+  pub long : entries (granuleOf (s .granule)) * total (areaOf s) ≤ first + second

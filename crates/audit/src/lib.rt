@@ -7,16 +7,14 @@ ghost use mathlib.Core.Bool.{true, _&&_};
 ghost use mathlib.Core.List.{List, _++_};
 ghost use Prim.Native.Nat.{ℕ, _≤_, _<_, _+_, _-_, _*_};
 ghost use lib.ListN.{length, take, set, getD};
-ghost use Rattle.path.specs.Geometry.{four, entries};
-ghost use Rattle.path.specs.Areas.{oneRegion, GoodArea, meetsRegion};
+ghost use Rattle.path.specs.Geometry.{granuleOf, pageSize, entries};
+ghost use Rattle.path.specs.Areas.{areaOf, total, oneRegion, GoodArea, meetsRegion};
 ghost use Rattle.path.specs.Numbers.{mostTables};
 ghost use Rattle.model.specs.Answers.{saysAudit, pool};
 ghost use Rattle.model.specs.Audit.{tableWords, noneInside, auditW};
 ghost use Rattle.model.specs.Adds.{soundTree, addTests};
-ghost use Rattle.audit.specs.Checks.{Answers, Cut, Rooted, RunsFit, PageFit, TableFit, EntryFit, keptIn, isPage, isFresh, atTable, atWord, treeOf, freePass};
+ghost use Rattle.audit.specs.Checks.{Answers, granuleIn, strictly, Cut, Rooted, RunsFit, PageFit, TableFit, EntryFit, keptIn, isPage, isFresh, atTable, atWord, treeOf, freePass};
 
-// The entries of a table.
-const ENTRIES: usize = path::ENTRIES as usize;
 // A mark for each table that a pool may have.
 const MARKS: usize = path::MOST_TABLES as usize;
 
@@ -26,8 +24,9 @@ enum Tally {
     Damaged,
 }
 
-// What a check goes by: the regions of the tree's tables; regions that no frame may share a byte with; and whether an empty table is as good as another.
+// What a check goes by: the granule; the regions of the tree's tables; regions that no frame may share a byte with; and whether an empty table is as good as another.
 struct Look {
+    granule: u64,
     base: u64,
     tables: u16,
     base2: u64,
@@ -40,10 +39,17 @@ struct Look {
 }
 
 // Whether table t was not come to before, and may be empty or is not.
-fn is_fresh<'a>(words: &'a [u64], second: &'a [u64], marks: &[u8], bare: bool, t: u32) -> bool
+fn is_fresh<'a>(
+    granule: u64,
+    words: &'a [u64],
+    second: &'a [u64],
+    marks: &[u8],
+    bare: bool,
+    t: u32,
+) -> bool
     requires { ⌜ t < length (now marks) ⌝ }
-    ensures { λ r. ⌜ ((k : ℕ) → length (now (words .entry)) ≡ entries four * k
-        → r ≡ isFresh four (now (words .entry) ++ now (second .entry)) (now (marks .entry)) bare t) ⌝ }
+    ensures { λ r. ⌜ ((k : ℕ) → length (now (words .entry)) ≡ entries (granuleOf granule) * k
+        → r ≡ isFresh (granuleOf granule) (now (words .entry) ++ now (second .entry)) (now (marks .entry)) bare t) ⌝ }
 {
     if marks[t as usize] != 0 {
         return false;
@@ -54,30 +60,34 @@ fn is_fresh<'a>(words: &'a [u64], second: &'a [u64], marks: &[u8], bare: bool, t
     if t == 0 {
         return true;
     }
-    !pool::is_table_empty(words, second, t)
+    !pool::is_table_empty(granule, words, second, t)
 }
 
 // Whether a page shares a byte with the tables of a region. Pages and tables stand at multiples of one size, so that one difference tells, which wraps for a
 // page below them.
-fn is_within(page: u64, base: u64, tables: u16) -> bool
-    requires { ⌜ PageFit page base tables ⌝ }
-    ensures { λ r. ⌜ r ≡ meetsRegion four base tables page 4096 ⌝ }
+fn is_within(granule: u64, page: u64, base: u64, tables: u16) -> bool
+    requires { ⌜ PageFit (granuleOf granule) page base tables ⌝ }
+    ensures { λ r. ⌜ r ≡ meetsRegion (granuleOf granule) base tables page (pageSize (granuleOf granule)) ⌝ }
 {
     let off = std::num::wrapping_sub_u64(page, base);
-    off < path::PAGE * (tables as u64)
+    off < path::page_of(granule) * (tables as u64)
 }
 
 // Whether a word is that of a page which shares no byte with the tables of these regions.
 fn is_page(w: u64, look: Look) -> bool
-    requires { ⌜ GoodArea four (keptIn look) ⌝ }
-    ensures { λ r. ⌜ r ≡ isPage (keptIn look) w ⌝ }
+    requires { ⌜ GoodArea (granuleIn look) (keptIn look) ⌝ }
+    ensures { λ r. ⌜ r ≡ isPage (granuleIn look) (keptIn look) w ⌝ }
 {
     let page = entry::is_frame(w, 0);
     let base = entry::base_in(w);
-    if is_within(base, look.kept, look.many) {
+    let rest = path::rest_at(look.granule, base, 0);
+    if rest != 0 {
         return false;
     }
-    if is_within(base, look.kept2, look.many2) {
+    if is_within(look.granule, base, look.kept, look.many) {
+        return false;
+    }
+    if is_within(look.granule, base, look.kept2, look.many2) {
         return false;
     }
     page
@@ -86,21 +96,22 @@ fn is_page(w: u64, look: Look) -> bool
 // Checks the words of a table of the last level, which is fresh. A word that is damaged is neither empty nor a page, and the loop goes on: it has no branch, so
 // that it is done on several words at once.
 fn pages_check(part: &[u64], look: Look) -> Tally
-    requires { ⌜ (length (now part) ≡ entries four) × GoodArea four (keptIn look) ⌝ }
-    ensures { λ r. ⌜ ((ws : List ℕ) (t : ℕ) → now (part .entry) ≡ tableWords four ws t → (M : List ℕ) → isFresh four ws M (look .bare) t ≡ true
-        → Answers (atTable four ws look 0 t) M r (set M t 1)) ⌝ }
+    requires { ⌜ (length (now part) ≡ entries (granuleIn look)) × GoodArea (granuleIn look) (keptIn look) ⌝ }
+    ensures { λ r. ⌜ ((ws : List ℕ) (t : ℕ) → now (part .entry) ≡ tableWords (granuleIn look) ws t → (M : List ℕ) → isFresh (granuleIn look) ws M (look .bare) t ≡ true
+        → Answers (atTable (granuleIn look) ws look 0 t) M r (set M t 1)) ⌝ }
 {
+    let n = part.len();
     let mut empty: u64 = 0;
     let mut pages: u64 = 0;
-    let mut left = ENTRIES;
+    let mut left = n;
     while 0 < left {
-        let w = part[ENTRIES - left];
+        let w = part[n - left];
         let page = is_page(w, look);
         empty += (w == 0) as u64;
         pages += page as u64;
         left -= 1;
     }
-    if empty + pages < ENTRIES as u64 {
+    if empty + pages < n as u64 {
         return Tally::Damaged;
     }
     Tally::Counts(1, pages)
@@ -108,12 +119,13 @@ fn pages_check(part: &[u64], look: Look) -> Tally
 
 // Where so many words of a table are left: how many are left from the first of them that is not 0 on.
 fn skip_empty(part: &[u64], left: usize) -> usize
-    requires { ⌜ (left ≤ entries four) × (length (now part) ≡ entries four) ⌝ }
-    ensures { λ r. ⌜ (r ≤ left) × ((k : ℕ) → r < k → k ≤ left → getD (now (part .entry)) (entries four - k) 0 ≡ 0) ⌝ }
+    requires { ⌜ left ≤ length (now part) ⌝ }
+    ensures { λ r. ⌜ (r ≤ left) × ((k : ℕ) → r < k → k ≤ left → getD (now (part .entry)) (length (now (part .entry)) - k) 0 ≡ 0) ⌝ }
 {
+    let n = part.len();
     let mut rest = left;
     while 0 < rest {
-        if part[ENTRIES - rest] != 0 {
+        if part[n - rest] != 0 {
             return rest;
         }
         rest -= 1;
@@ -131,21 +143,22 @@ fn table_check<'a>(
     height: usize,
 ) -> Tally
     requires { ⌜ TableFit (now marks) look t height × RunsFit look (length (now words)) (length (now second)) ⌝ }
-    ensures { λ r. ⌜ Answers (atTable four (now (words .entry) ++ now (second .entry)) look height t) (now (marks .entry)) r (now (marks .exit)) ⌝ }
+    ensures { λ r. ⌜ Answers (atTable (granuleIn look) (now (words .entry) ++ now (second .entry)) look height t) (now (marks .entry)) r (now (marks .exit)) ⌝ }
 {
-    if !is_fresh(words, second, marks, look.bare, t) {
+    if !is_fresh(look.granule, words, second, marks, look.bare, t) {
         return Tally::Damaged;
     }
     marks[t as usize] = 1;
-    let part = pool::table_part(words, second, t);
+    let part = pool::table_part(look.granule, words, second, t);
     if height == 0 {
         return pages_check(part, look);
     }
     let mut tables: u64 = 1;
     let mut mappings: u64 = 0;
-    let mut left = skip_empty(part, ENTRIES);
+    let n = part.len();
+    let mut left = skip_empty(part, n);
     while 0 < left {
-        let w = part[ENTRIES - left];
+        let w = part[n - left];
         let r = entry_check(words, second, marks, look, w, height);
         match r {
             Tally::Counts(a, b) => {
@@ -171,19 +184,35 @@ fn entry_check<'a>(
     height: usize,
 ) -> Tally
     requires { ⌜ EntryFit (now marks) look height × RunsFit look (length (now words)) (length (now second)) ⌝ }
-    ensures { λ r. ⌜ Answers (atWord four (now (words .entry) ++ now (second .entry)) look height w) (now (marks .entry)) r (now (marks .exit)) ⌝ }
+    ensures { λ r. ⌜ Answers (atWord (granuleIn look) (now (words .entry) ++ now (second .entry)) look height w) (now (marks .entry)) r (now (marks .exit)) ⌝ }
 {
-    let e = entry::read_word(w, height, look.base, look.tables, look.base2, look.tables2);
+    let e = entry::read_word(
+        look.granule,
+        w,
+        height,
+        look.base,
+        look.tables,
+        look.base2,
+        look.tables2,
+    );
     match e {
         Entry::Empty => Tally::Counts(0, 0),
         Entry::Frame {
             base: frame,
             attributes: _,
         } => {
-            let size = path::size_at(height);
+            let size = path::size_at(look.granule, height);
             let first = look.many as u64;
             let more = look.many2 as u64;
-            let met = path::meets_area(look.kept, first, look.kept2, more, frame, size);
+            let met = path::meets_area(
+                look.granule,
+                look.kept,
+                first,
+                look.kept2,
+                more,
+                frame,
+                size,
+            );
             if met {
                 return Tally::Damaged;
             }
@@ -196,6 +225,7 @@ fn entry_check<'a>(
 
 // Checks the first f numbers of the free list: in range, not marked before, and their tables all zero.
 fn free_check<'a>(
+    granule: u64,
     words: &'a [u64],
     second: &'a [u64],
     marks: &mut [u8],
@@ -203,8 +233,8 @@ fn free_check<'a>(
     n: u32,
     f: usize,
 ) -> bool
-    requires { ⌜ (n ≤ length (now marks)) × ((f ≤ length (now list)) × Cut (length (now words))) ⌝ }
-    ensures { λ r. ⌜ r ≡ freePass four (now (words .entry) ++ now (second .entry)) n (now (marks .entry)) (take f (now (list .entry))) ⌝ }
+    requires { ⌜ (n ≤ length (now marks)) × ((f ≤ length (now list)) × Cut (granuleOf granule) (length (now words))) ⌝ }
+    ensures { λ r. ⌜ r ≡ freePass (granuleOf granule) (now (words .entry) ++ now (second .entry)) n (now (marks .entry)) (take f (now (list .entry))) ⌝ }
 {
     let mut i: usize = 0;
     while i < f {
@@ -216,7 +246,7 @@ fn free_check<'a>(
         if marks[place] != 0 {
             return false;
         }
-        if !pool::is_table_empty(words, second, t) {
+        if !pool::is_table_empty(granule, words, second, t) {
             return false;
         }
         marks[place] = 1;
@@ -227,12 +257,13 @@ fn free_check<'a>(
 
 // Whether every reachable word is sound, no table is reached twice, and no frame shares a byte with a region of so many tables. Empty tables are not looked at.
 fn tree_check<'a>(s: Setup, words: &'a [u64], second: &'a [u64], kept: u64, many: u64) -> bool
-    requires { ⌜ Rooted s (length (now words)) (length (now second)) × (GoodArea four (oneRegion kept many) × (many ≤ mostTables)) ⌝ }
-    ensures { λ r. ⌜ r ≡ (noneInside four (oneRegion kept many) (treeOf s (now (words .entry) ++ now (second .entry)) .mappings)
+    requires { ⌜ Rooted s (length (now words)) (length (now second)) × (GoodArea (granuleOf (s .granule)) (oneRegion kept many) × (many ≤ mostTables)) ⌝ }
+    ensures { λ r. ⌜ r ≡ (noneInside (granuleOf (s .granule)) (oneRegion kept many) (treeOf s (now (words .entry) ++ now (second .entry)) .mappings)
         && soundTree (treeOf s (now (words .entry) ++ now (second .entry)))) ⌝ }
 {
     let mut marks = [0u8; MARKS];
     let look = Look {
+        granule: s.granule,
         base: s.base,
         tables: s.tables as u16,
         base2: s.base2,
@@ -261,7 +292,7 @@ pub fn add_tests<'a>(
     tables2: u64,
 ) -> u64
     ensures { λ r. ⌜ ((list : List ℕ) → length list ≡ places
-        → r ≡ addTests four (pool s (now (words .entry) ++ now (second .entry)) (length (now (words .entry))) list) base2 tables2) ⌝ }
+        → r ≡ addTests (granuleOf (s .granule)) (pool s (now (words .entry) ++ now (second .entry)) (length (now (words .entry))) list) base2 tables2) ⌝ }
 {
     if !path::good_adding(s, base2, tables2, words.len(), second.len(), places) {
         return 1;
@@ -275,18 +306,15 @@ pub fn add_tests<'a>(
     0
 }
 
-// The counts of reached tables and of mappings of a sound pool; refusal 1 for bad setup numbers or lengths, 8 for a broken rule.
-pub fn audit<'a>(s: Setup, words: &'a [u64], second: &'a [u64], list: &[u32]) -> AuditAnswer
-    ensures { λ r. ⌜ saysAudit r ≡ auditW four (pool s (now (words .entry) ++ now (second .entry)) (length (now (words .entry))) (now (list .entry))) ⌝ }
+// What the audit goes by: the pool's own regions, with which no frame may share a byte, and an empty table is damage.
+fn strict(s: Setup) -> Look
+    requires { ⌜ total (areaOf s) ≤ mostTables ⌝ }
+    ensures { λ r. ⌜ r ≡ strictly s ⌝ }
 {
-    if !path::good_setup(s, words.len(), second.len(), list.len()) {
-        return AuditAnswer::Refused(1);
-    }
     let n = s.tables as u16;
     let m = s.tables2 as u16;
-    let all = s.tables + s.tables2;
-    let mut marks = [0u8; MARKS];
-    let look = Look {
+    Look {
+        granule: s.granule,
         base: s.base,
         tables: n,
         base2: s.base2,
@@ -296,14 +324,34 @@ pub fn audit<'a>(s: Setup, words: &'a [u64], second: &'a [u64], list: &[u32]) ->
         kept2: s.base2,
         many2: m,
         bare: false,
-    };
+    }
+}
+
+// The counts of reached tables and of mappings of a sound pool; refusal 1 for bad setup numbers or lengths, 8 for a broken rule.
+pub fn audit<'a>(s: Setup, words: &'a [u64], second: &'a [u64], list: &[u32]) -> AuditAnswer
+    ensures { λ r. ⌜ saysAudit r ≡ auditW (granuleOf (s .granule)) (pool s (now (words .entry) ++ now (second .entry)) (length (now (words .entry))) (now (list .entry))) ⌝ }
+{
+    if !path::good_setup(s, words.len(), second.len(), list.len()) {
+        return AuditAnswer::Refused(1);
+    }
+    let all = s.tables + s.tables2;
+    let mut marks = [0u8; MARKS];
+    let look = strict(s);
     let r = table_check(words, second, &mut marks, look, 0, (s.levels - 1) as usize);
     match r {
         Tally::Counts(tables, mappings) => {
             if tables != all - s.free {
                 return AuditAnswer::Refused(8);
             }
-            if !free_check(words, second, &mut marks, list, all as u32, s.free as usize) {
+            if !free_check(
+                s.granule,
+                words,
+                second,
+                &mut marks,
+                list,
+                all as u32,
+                s.free as usize,
+            ) {
                 return AuditAnswer::Refused(8);
             }
             AuditAnswer::Sound { tables, mappings }

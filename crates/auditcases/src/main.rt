@@ -32,6 +32,11 @@ const THIRD: usize = 1536;
 
 // The name of a pool, and what the audit answers.
 fn report(name: &[u8], levels: u64, free: u64, words: &[u64], list: &[u32]) {
+    report_of(name, levels, free, path::KIB4, words, list);
+}
+
+// The same with a granule.
+fn report_of(name: &[u8], levels: u64, free: u64, granule: u64, words: &[u64], list: &[u32]) {
     let s = Setup {
         levels,
         base: BASE,
@@ -39,6 +44,7 @@ fn report(name: &[u8], levels: u64, free: u64, words: &[u64], list: &[u32]) {
         free,
         base2: 0,
         tables2: 0,
+        granule,
     };
     io::write_all(STDOUT_FILENO, name);
     let answer = audit::audit(s, words, &NO_WORDS, list);
@@ -65,7 +71,7 @@ fn put(words: &mut Words, i: usize, w: u64) {
 
 // The word that names table c.
 fn table_word(c: u32) -> u64 {
-    entry::table_word(BASE, TABLES as u16, 0, c)
+    entry::table_word(path::KIB4, BASE, TABLES as u16, 0, c)
 }
 
 // An entry that names table c.
@@ -97,7 +103,7 @@ fn two_tables(words: &mut Words, list: &mut List) {
 fn three_tables(words: &mut Words, list: &mut List) {
     two_tables(words, list);
     link(words, FIRST, 2);
-    frame(words, SECOND, path::PAGE);
+    frame(words, SECOND, path::KIB4);
 }
 
 // Four levels, a table each, and one page.
@@ -106,7 +112,7 @@ fn four_levels(words: &mut Words) {
     link(words, ROOT, 1);
     link(words, FIRST + 511, 3);
     link(words, THIRD, 2);
-    frame(words, SECOND + 511, path::PAGE);
+    frame(words, SECOND + 511, path::KIB4);
 }
 
 // Three tables, but for one word.
@@ -156,7 +162,7 @@ fn pages_at_the_pool(words: &mut Words, list: &mut List) {
         b"page of the root",
         SECOND + 1,
         BASE,
-        path::PAGE,
+        path::KIB4,
         words,
         list,
     );
@@ -164,7 +170,7 @@ fn pages_at_the_pool(words: &mut Words, list: &mut List) {
         b"page of the last table",
         SECOND + 1,
         0x4000_3000,
-        path::PAGE,
+        path::KIB4,
         words,
         list,
     );
@@ -172,7 +178,7 @@ fn pages_at_the_pool(words: &mut Words, list: &mut List) {
         b"page past the pool",
         SECOND + 1,
         0x4000_4000,
-        path::PAGE,
+        path::KIB4,
         words,
         list,
     );
@@ -180,7 +186,7 @@ fn pages_at_the_pool(words: &mut Words, list: &mut List) {
         b"page before the pool",
         SECOND + 1,
         0x3FFF_F000,
-        path::PAGE,
+        path::KIB4,
         words,
         list,
     );
@@ -236,6 +242,12 @@ fn bad_list(words: &mut Words, list: &mut List) {
     with_word(b"free table not zero", 1, THIRD + 511, 1, words, list);
 }
 
+fn bad_granule(words: &mut Words, list: &mut List) {
+    three_tables(words, list);
+    report_of(b"the other granule", LEVELS, 1, path::KIB16, words, list);
+    report_of(b"no such granule", LEVELS, 1, 8192, words, list);
+}
+
 fn main() {
     let mut words = [0u64; 2048];
     let mut list = [0u32; 4];
@@ -246,4 +258,5 @@ fn main() {
     blocks_at_the_pool(&mut words, &mut list);
     bad_tables(&mut words, &mut list);
     bad_list(&mut words, &mut list);
+    bad_granule(&mut words, &mut list);
 }

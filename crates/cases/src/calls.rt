@@ -17,7 +17,7 @@ use model::Unmapped;
 use path::Setup;
 
 // The numbers of an answer.
-pub(crate) const ANSWER: usize = 11;
+pub(crate) const ANSWER: usize = 12;
 
 // An answer as numbers: the refusal or 0, the setup that is handed back, and the rest, which with 9 is the hole, followed by zeros.
 pub(crate) type Told = [u64; ANSWER];
@@ -72,6 +72,7 @@ fn setup(line: &Line) -> Setup {
         free: line[7],
         base2: line[8],
         tables2: line[9],
+        granule: line[10],
     }
 }
 
@@ -84,6 +85,7 @@ fn told(refusal: u64, s: Setup, a: u64, b: u64, c: u64, d: u64) -> Told {
         s.free,
         s.base2,
         s.tables2,
+        s.granule,
         a,
         b,
         c,
@@ -98,6 +100,7 @@ fn format(line: &Line, words: &mut [u64], second: &mut [u64], list: &mut [u32]) 
         line[6],
         line[7],
         line[8],
+        line[9],
         words,
         second,
         list,
@@ -113,7 +116,7 @@ fn formatted(r: Formatted) -> Told {
 }
 
 fn add(line: &Line, words: &[u64], second: &mut [u64], list: &mut [u32]) -> Told {
-    added(pagetable::add(setup(line), words, second, list, line[10], line[11]))
+    added(pagetable::add(setup(line), words, second, list, line[11], line[12]))
 }
 
 fn added(r: Added) -> Told {
@@ -130,10 +133,10 @@ fn map(line: &Line, words: &mut [u64], second: &mut [u64], list: &[u32]) -> Told
         words,
         second,
         list,
-        line[10],
         line[11],
         line[12],
         line[13],
+        line[14],
     ))
 }
 
@@ -146,7 +149,7 @@ fn mapped(r: Mapped) -> Told {
 }
 
 fn unmap(line: &Line, words: &mut [u64], second: &mut [u64], list: &mut [u32]) -> Told {
-    unmapped(pagetable::unmap(setup(line), words, second, list, line[10]))
+    unmapped(pagetable::unmap(setup(line), words, second, list, line[11]))
 }
 
 fn unmapped(r: Unmapped) -> Told {
@@ -165,7 +168,7 @@ fn unmapped(r: Unmapped) -> Told {
 
 fn query(line: &Line, words: &[u64], second: &[u64], list: &[u32]) -> Told {
     let s = setup(line);
-    let answer = pagetable::query(s, words, second, list, line[10]);
+    let answer = pagetable::query(s, words, second, list, line[11]);
     match answer {
         QueryAnswer::Found {
             base,
@@ -213,13 +216,14 @@ pub(crate) fn hand_back(told: Told, line: &mut Line) {
     line[7] = told[4];
     line[8] = told[5];
     line[9] = told[6];
+    line[10] = told[7];
 }
 
 // Whether an answer is the one that the line has.
 pub(crate) fn same(line: &Line, told: Told) -> bool {
     let mut i = 0;
     while i < ANSWER {
-        if line[i + 14] != told[i] {
+        if line[i + 15] != told[i] {
             return false;
         }
         i += 1;

@@ -19,32 +19,32 @@ const TEXT: usize = 262144;
 // Lends so many words of both runs and so many places, each sort alike. All other words are 0.
 fn lend(line: &mut Line, words: &mut Words, more: &mut More, list: &mut Places) {
     *words = [0; memory::WORDS];
-    memory::fill(words, 0, line[10] as usize, line[11]);
+    memory::fill(words, 0, line[11] as usize, line[12]);
     *more = [0; memory::MORE];
-    memory::fill(more, 0, line[14] as usize, line[15]);
-    memory::fill_places(list, 0, memory::narrow(line[13]));
-    line[1] = line[10];
-    line[2] = line[14];
-    line[3] = line[12];
+    memory::fill(more, 0, line[15] as usize, line[16]);
+    memory::fill_places(list, 0, memory::narrow(line[14]));
+    line[1] = line[11];
+    line[2] = line[15];
+    line[3] = line[13];
 }
 
 // Lends another second run, and so many places in all, of which those that were lent stay.
 fn have(line: &mut Line, more: &mut More, list: &mut Places) {
     *more = [0; memory::MORE];
-    memory::fill(more, 0, line[10] as usize, line[11]);
-    memory::fill_places(list, line[3] as usize, memory::narrow(line[13]));
-    line[2] = line[10];
-    line[3] = line[12];
+    memory::fill(more, 0, line[11] as usize, line[12]);
+    memory::fill_places(list, line[3] as usize, memory::narrow(line[14]));
+    line[2] = line[11];
+    line[3] = line[13];
 }
 
 // A word becomes another, by its number in both runs, where the second begins at `from`.
 fn write(line: &Line, from: u64, words: &mut Words, more: &mut More) {
-    let i = line[10];
+    let i = line[11];
     if i < from {
-        pool::put(words, more, i as usize, line[11]);
+        pool::put(words, more, i as usize, line[12]);
     } else {
         let k = std::num::wrapping_add_u64(i - from, memory::WORDS as u64);
-        pool::put(words, more, k as usize, line[11]);
+        pool::put(words, more, k as usize, line[12]);
     }
 }
 
@@ -56,7 +56,7 @@ fn lay(call: u8, line: &mut Line, words: &mut Words, more: &mut More, list: &mut
         b'h' => have(line, more, list),
         b'w' => write(line, lent, words, more),
         b'W' => write(line, memory::WORDS as u64, words, more),
-        b'p' | b'P' => pool::give(list, line[10] as usize, memory::narrow(line[11])),
+        b'p' | b'P' => pool::give(list, line[11] as usize, memory::narrow(line[12])),
         _ => {}
     }
 }
@@ -83,16 +83,16 @@ fn say_call(call: u8, line: &mut Line, words: &mut Words, more: &mut More, list:
 // Whether a call answers what its line says, and leaves memory of that sum.
 fn agrees(call: u8, line: &Line, words: &mut Words, more: &mut More, list: &mut Places) -> bool {
     let told = calls::lent(call, line, words, more, list);
-    calls::same(line, told) && memory::sum(words, more, list) == line[25]
+    calls::same(line, told) && memory::sum(words, more, list) == line[27]
 }
 
 // Whether the host's call for a word answers what its line says.
 fn host_agrees(call: u8, line: &Line) -> bool {
     let word = match call {
-        b'E' => entry::frame_word(line[10], line[11], line[12]),
-        _ => entry::word_meaning(line[10], line[11]),
+        b'E' => entry::frame_word(line[11], line[12], line[13]),
+        _ => entry::word_meaning(line[11], line[12]),
     };
-    word == line[14]
+    word == line[15]
 }
 
 // A line that is said: what it says, and what follows from it.

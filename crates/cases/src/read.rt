@@ -15,10 +15,10 @@ const SPACE: u8 = 3;
 const NUMBER: u8 = 4;
 
 // The numbers of a line.
-pub(crate) const LINE: usize = 26;
+pub(crate) const LINE: usize = 28;
 
-// Each at its place: 1 to 3 are the words of both runs and the places lent, 4 to 9 the setup, 10 to 13 the rest that a call takes, 14 to 24 the answer
-// and 25 the sum of the memory after it. What a line may name and does not is 0; what stands before that stays as it was.
+// Each at its place: 1 to 3 are the words of both runs and the places lent, 4 to 10 the setup, 11 to 14 the rest that a call takes, 15 to 26 the answer
+// and 27 the sum of the memory after it. What a line may name and does not is 0, and a granule 4096; what stands before that stays as it was.
 pub(crate) type Line = [u64; LINE];
 
 pub(crate) struct State {
@@ -59,7 +59,17 @@ fn first_place(call: u8) -> usize {
     match call {
         b'F' | b'M' | b'U' | b'Q' | b'A' | b'G' => 1,
         b'f' | b's' => 4,
-        _ => 10,
+        _ => 11,
+    }
+}
+
+// A format or a setup that names no granule has that of 4 KiB.
+fn begin(call: u8, line: &mut Line) {
+    memory::fill(line, first_place(call), LINE, 0);
+    match call {
+        b'f' => line[9] = 4096,
+        b's' => line[10] = 4096,
+        _ => {}
     }
 }
 
@@ -91,7 +101,7 @@ pub(crate) fn byte(mut s: State, b: u8, line: &mut Line) -> State {
                 s.call = b;
                 s.next = first_place(b);
                 s.part = WORD;
-                memory::fill(line, s.next, LINE, 0);
+                begin(b, line);
             }
             s
         }

@@ -48,8 +48,8 @@ pub(crate) fn answer(call: u8, told: Told) {
 fn refused(told: Told) {
     number(b" -> refused ", told[0]);
     if told[0] == 9 {
-        hex(b", hole ", told[7]);
-        hex(b", size ", told[8]);
+        hex(b", hole ", told[8]);
+        hex(b", size ", told[9]);
     }
 }
 
@@ -58,14 +58,14 @@ fn done(call: u8, told: Told) {
     match call {
         b'f' => text(b" -> done, all words 0"),
         b'g' => text(b" -> done, all more words 0"),
-        b'm' => number(b" -> takes ", told[7]),
+        b'm' => number(b" -> takes ", told[8]),
         b'u' => gives(told),
         b'q' => found(told),
         _ => sound(told),
     }
 }
 
-// The setup that a call hands back, and the second region's numbers where one of them is not 0.
+// The setup that a call hands back: the second region's numbers where one of them is not 0, and the granule where it is not 4096, or not 0 where no level is.
 fn setup(told: Told) {
     number(b"; levels ", told[1]);
     hex(b", base ", told[2]);
@@ -75,16 +75,20 @@ fn setup(told: Told) {
         hex(b", second base ", told[5]);
         number(b", second tables ", told[6]);
     }
+    let plain = if told[1] == 0 { 0 } else { 4096 };
+    if told[7] != plain {
+        number(b", granule ", told[7]);
+    }
 }
 
 fn gives(told: Told) {
-    number(b" -> gives ", told[10]);
-    frame(told[7], told[8], told[9]);
+    number(b" -> gives ", told[11]);
+    frame(told[8], told[9], told[10]);
 }
 
 fn found(told: Told) {
-    hex(b" -> base ", told[7]);
-    frame(told[8], told[9], told[10]);
+    hex(b" -> base ", told[8]);
+    frame(told[9], told[10], told[11]);
 }
 
 fn frame(base: u64, size: u64, attributes: u64) {
@@ -94,8 +98,8 @@ fn frame(base: u64, size: u64, attributes: u64) {
 }
 
 fn sound(told: Told) {
-    number(b" -> tables ", told[7]);
-    number(b", mappings ", told[8]);
+    number(b" -> tables ", told[8]);
+    number(b", mappings ", told[9]);
 }
 
 // A word, by its number in both runs.

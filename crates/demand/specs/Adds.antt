@@ -10,10 +10,10 @@ use native.Mathlib.Decide.{decLt}
 use lib.Dec.{ltb}
 use lib.ListN.{length, getD, take, drop, replicate, length-append, length-replicate, length-drop}
 use lib.Seq.{length-take-le, getD-take, take-all}
-use borrow.Author.Tests.{lt-ltb}
+use borrow.Author.Tests.{lt-ltb, eq-eqb}
 use Rattle.laws.specs.Lists.{down}
 use Rattle.laws.specs.ListLaws.{length-down, getD-down, getD-first, getD-later, part-first, allZero-at, allZero-replicate, take-first}
-use Rattle.path.specs.Geometry.{Granule, entries, Sane}
+use Rattle.path.specs.Geometry.{Granule, pageSize, entries, Sane}
 use Rattle.path.specs.Areas.{Area, areaOf, oneRegion, withSecond, total, Shares}
 use Rattle.path.specs.Numbers.{goodAdding, GoodNumbers, GoodAdding, GoodSetup}
 use Rattle.path.specs.Laws.{same-truth, good-adding, table-stays}
@@ -83,10 +83,14 @@ module _ (G : Granule) (Z : Sane G) {p : Pool} {A : Ledger} (I : Sim G Z p A) (q
   -- the numbers and lengths are good by the ledger where they are by the words
   good-same : goodAdd G p₁ q m ≡ goodAdding G (own G Z I .levels) (own G Z I .area) q m (K * n) (K * n + length second) (freeTables G (own G Z I) + length rest)
   good-same =
-      ap (λ (b : Bool). goodAdding G (p .numbers .levels) (areaOf (p .numbers)) q m (p .cut) (length (p₁ .words)) (length (p₁ .list)) && b) (lt-ltb f (total (areaOf (p .numbers))) (I .good .room))
+      ap (λ (b : Bool). b && goodAt) (eq-eqb (p .numbers .granule) (pageSize G) (I .good .granule-is))
+      ∙ ap (λ (b : Bool). goodAdding G (p .numbers .levels) (areaOf (p .numbers)) q m (p .cut) (length (p₁ .words)) (length (p₁ .list)) && b) (lt-ltb f (total (areaOf (p .numbers))) (I .good .room))
       ∙ right-and (goodAdding G (p .numbers .levels) (areaOf (p .numbers)) q m (p .cut) (length (p₁ .words)) (length (p₁ .list)))
       ∙ (λ i. goodAdding G (p .numbers .levels) (areaOf (p .numbers)) q m (N₀ .cut-is i) (words-long i) (places i))
     where
+      goodAt : Bool
+      goodAt = goodAdding G (p .numbers .levels) (areaOf (p .numbers)) q m (p .cut) (length (p₁ .words)) (length (p₁ .list)) && ltb f (total (areaOf (p .numbers)))
+
       right-and : (b : Bool) → (b && true) ≡ b
       right-and true = refl
       right-and false = refl

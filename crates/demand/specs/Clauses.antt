@@ -1,13 +1,14 @@
 -- What the public calls promise of a ledger: the clause `ledger` of their contracts.
 use mathlib.Core.Path.{_≡_}
-use mathlib.Core.List.{List}
+use mathlib.Core.Bool.{false}
+use mathlib.Core.List.{List, []}
 use Prim.Native.Nat.{ℕ}
-use Rattle.path.specs.Geometry.{Granule}
+use Rattle.path.specs.Geometry.{Granule, goodGranule, granuleOf}
 use Rattle.path.specs.Areas.{Area}
 use Rattle.path.specs.declared.Setup.{Setup}
-use Rattle.model.specs.Answers.{Answer, Pool, pool, Done, done}
+use Rattle.model.specs.Answers.{Answer, formatted, refused, Pool, pool, Done, done}
 use Rattle.model.specs.Adds.{lent}
-use Rattle.model.specs.Ledger.{Ledger}
+use Rattle.model.specs.Ledger.{Ledger, ledger}
 use Rattle.demand.specs.Holds.{Holds}
 use Rattle.demand.specs.Demand3.{Ask, Call, formatC, addC, askC, goOn, goBack, stepL}
 
@@ -16,10 +17,15 @@ abbrev pub ByLedger : Granule → Pool → Call → Done → Type 0
 ByLedger G p c d =
     (A : Ledger) → Holds G p A → (d .answer ≡ stepL G A c .answer) × Holds G (d .after) (stepL G A c .after)
 
--- format is handed no setup: whatever the setup was, a refused format goes on with it
-abbrev pub FormatByLedger : Granule → List ℕ → ℕ → List ℕ → ℕ → Area → Done → Type 0
-FormatByLedger G ws cut list levels area d =
-    (s : Setup) → ByLedger G (pool s ws cut list) (formatC levels area) (goOn (pool s ws cut list) d (d .answer))
+-- Format is handed no setup, and its granule is a number.
+pub record FormatByLedger (number : ℕ) (ws : List ℕ) (cut : ℕ) (list : List ℕ) (levels : ℕ) (area : Area) (d : Done) : Type 0 where
+  -- whatever the setup of that granule was, the ledger decides, and a refused format goes on with that setup
+  pub goes-on : (s : Setup) → s .granule ≡ number
+      → ByLedger (granuleOf number) (pool s ws cut list) (formatC levels area) (goOn (pool s ws cut list) d (d .answer))
+  -- an accepted one leaves a pool of that granule without a mapping, whatever the memory was, the tables of another granule too
+  pub fresh : d .answer ≡ formatted → Holds (granuleOf number) (d .after) (ledger levels area [])
+  -- a number that names no granule is refused with 1
+  pub unnamed : goodGranule number ≡ false → d .answer ≡ refused 1
 
 -- an add is handed the memory that it is lent: whatever pool it was lent for, that pool's ledger decides, and after a refusal that pool goes on
 abbrev pub AddByLedger : Granule → Pool → ℕ → ℕ → Done → Type 0

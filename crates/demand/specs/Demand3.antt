@@ -26,7 +26,7 @@ pub data Ask : Type 0 where
 
 -- a call and its arguments, whatever they are
 pub data Call : Type 0 where
-  -- levels, and the area of the tables: base and tables of each region
+  -- levels, and the area of the tables: base and tables of each region; the granule stays the pool's
   formatC : ℕ → Area → Call
   -- base and tables of a second region; what stands in the second run that is lent with it, and in the longer list after the free numbers
   addC : ℕ → ℕ → List ℕ → List ℕ → Call

@@ -5,7 +5,7 @@ use mathlib.Core.List.{List, [], _∷_}
 use Prim.Native.Nat.{ℕ, _-_}
 use lib.ListN.{length, replicate}
 use Rattle.laws.specs.Lists.{down}
-use Rattle.path.specs.Geometry.{Granule, four}
+use Rattle.path.specs.Geometry.{Granule}
 use Rattle.path.specs.Areas.{Area, total}
 use Rattle.path.specs.Numbers.{noSetup, setupOf, goodNumbers}
 use Rattle.path.specs.Laws.{setup-good}
@@ -26,7 +26,7 @@ module _ (G : Granule) where
   format-good p levels area g = go (goodNumbers G levels area (p .cut) (length (p .words)) (length (p .list))) refl
     where
       left : Bool → Done
-      left y = cond y (done formatted (pool (setupOf levels area (total area - 1)) (replicate (length (p .words)) 0) (p .cut) (down (total area)))) (refuse 1 (pool noSetup (p .words) (p .cut) (p .list)))
+      left y = cond y (done formatted (pool (setupOf G levels area (total area - 1)) (replicate (length (p .words)) 0) (p .cut) (down (total area)))) (refuse 1 (pool noSetup (p .words) (p .cut) (p .list)))
 
       fresh : goodNumbers G levels area (p .cut) (length (p .words)) (length (p .list)) ≡ true → goodPool G (left (goodNumbers G levels area (p .cut) (length (p .words)) (length (p .list))) .after) ≡ true
       fresh e = audit-counts G _ 1 0 (format-audit G levels area (p .words) (p .cut) (p .list) (rw e)) .0
@@ -54,6 +54,6 @@ module _ (G : Granule) where
   stays-good-all p [] g = g
   stays-good-all p (c ∷ cs) g = stays-good-all (stepW G p c .after) cs (stays-good p c g)
 
--- with the 4 KiB granule, in the paper's numbers: what breaks no rule breaks none after any calls
-pub never-breaks : (p : Pool) (cs : List Call) → (¬ Breaks p) → ¬ Breaks (poolAfter four p cs)
-never-breaks p cs n = good-keeps (poolAfter four p cs) (stays-good-all four p cs (unbroken-good p n))
+  -- in the words of the table of refusals: what breaks no rule breaks none after any calls
+  pub never-breaks : (p : Pool) (cs : List Call) → (¬ Breaks G p) → ¬ Breaks G (poolAfter G p cs)
+  never-breaks p cs n = good-keeps G (poolAfter G p cs) (stays-good-all p cs (unbroken-good G p n))

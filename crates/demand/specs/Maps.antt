@@ -82,6 +82,7 @@ tests-fine G levels area a b size k e = go (ltb (G .large) (heightOf G size)) (l
 -- good numbers stay good with memory of the same lengths and another free count
 abbrev pub regood : {G : Granule} {s : Setup} {c w l : ℕ} → GoodSetup G s c w l → (w′ l′ f : ℕ) → w′ ≡ entries G * total (areaOf s) → l′ ≡ total (areaOf s) → f < total (areaOf s) → GoodSetup G (withFree s f) c w′ l′
 regood g w′ l′ f p q r = record {
+  granule-is = g .granule-is;
   numbers = record {
     enough = g .numbers .enough;
     not-more = g .numbers .not-more;

@@ -37,7 +37,7 @@ zero-at k i = allZero-at (replicate k 0) (allZero-replicate k) i
 module _ (G : Granule) (Z : Sane G) where
   -- what an accepted format leaves
   pub fresh-sim : (levels : ℕ) (area : Area) (ws : List ℕ) (cut : ℕ) (list : List ℕ) → GoodNumbers G levels area cut (length ws) (length list)
-      → Sim G Z (pool (setupOf levels area (total area - 1)) (replicate (length ws) 0) cut (down (total area))) (ledger levels area [])
+      → Sim G Z (pool (setupOf G levels area (total area - 1)) (replicate (length ws) 0) cut (down (total area))) (ledger levels area [])
   fresh-sim levels area ws cut list g = record {
     good = good;
     levels-are = refl;
@@ -52,13 +52,14 @@ module _ (G : Granule) (Z : Sane G) where
   }
     where
       p : Pool
-      p = pool (setupOf levels area (total area - 1)) (replicate (length ws) 0) cut (down (total area))
+      p = pool (setupOf G levels area (total area - 1)) (replicate (length ws) 0) cut (down (total area))
 
       some : 0 < total area
       some = omega (arith, g .some-table)
 
       good : GoodSetup G (p .numbers) (p .cut) (length (p .words)) (length (p .list))
       good = record {
+        granule-is = refl;
         numbers = record { enough = g .enough; not-more = g .not-more; some-table = g .some-table; few = g .few; placed = g .placed; cut-is = g .cut-is; words-are = length-replicate (length ws) 0 ∙ g .words-are; places-are = length-down (total area) };
         room = omega (arith, g .some-table);
       }

@@ -10,16 +10,17 @@ use lib.Dec.{ltb, leb, eqb}
 use lib.ListN.{length, take, replicate}
 use Rattle.laws.specs.Lists.{down}
 use borrow.Author.Tests.{leb-true, leb-false, eqb-true}
-use Rattle.path.specs.Geometry.{Granule, four, entries, pageSize, sizeAt, spaceOf, physical, heightOf, Sane}
-use Rattle.path.specs.Laws.{four-sane, good-numbers}
+use Rattle.path.specs.Geometry.{Granule, granuleOf, entries, pageSize, sizeAt, spaceOf, physical, heightOf, Sane}
+use Rattle.path.specs.Laws.{granule-sane, good-numbers}
 use Rattle.path.specs.Areas.{Area, areaOf, oneRegion, withSecond, total, GoodArea, meetsArea}
 use Rattle.path.specs.Numbers.{noSetup, setupOf, goodNumbers, goodAdding, GoodNumbers}
 use Rattle.model.specs.Answers.{Answer, formatted, added, took, gave, found, audited, refused, Mapping, mapping, Pool, pool, Done, done, refuse}
-use Rattle.model.specs.Calls.{walkTo, formatW, queryW, mapTests, mapAt, mapW, unmapTests, unmapAt, unmapW}
+use Rattle.model.specs.Calls.{walkTo, formatW, formatN, queryW, mapTests, mapAt, mapW, unmapTests, unmapAt, unmapW}
 use Rattle.model.specs.Audit.{auditW, noneInside}
+use Rattle.model.specs.GranuleLaws.{format-accepted}
 use Rattle.model.specs.Sound.{mappingsOf}
 use Rattle.model.specs.Ledger.{Ledger, ledger, withLive, anyOverlap, coverOf, dropAt, freeTables, tablesLacking, Entered, entered, formatL, addL, queryOf, queryL, mapL, unmapOf, unmapL, auditL}
-use Rattle.demand.specs.Holds.{Holds}
+use Rattle.demand.specs.Holds.{ledgerOf, Holds}
 use Rattle.demand.specs.Sims.{Sim, holds-sim, sim-holds}
 use Rattle.demand.specs.Queries.{own, ledger-is, pool-good, query-own}
 use Rattle.demand.specs.Maps.{Alike, ledgerMap, own-sim, tests-fine, map-alike}
@@ -75,7 +76,7 @@ module _ (G : Granule) (Z : Sane G) where
         same = (λ i. goodNumbers G levels area (I .good .numbers .cut-is i) (I .good .numbers .words-are i) (I .good .numbers .places-are i))
 
         left : Bool → Done
-        left y = cond y (done formatted (pool (setupOf levels area (total area - 1)) (replicate (length (p .words)) 0) (p .cut) (down (total area)))) (refuse 1 (pool noSetup (p .words) (p .cut) (p .list)))
+        left y = cond y (done formatted (pool (setupOf G levels area (total area - 1)) (replicate (length (p .words)) 0) (p .cut) (down (total area)))) (refuse 1 (pool noSetup (p .words) (p .cut) (p .list)))
 
         right : Bool → Entered
         right y = cond y (entered formatted (ledger levels area [])) (entered (refused 1) (own G Z I))
@@ -209,7 +210,7 @@ module _ (G : Granule) (Z : Sane G) where
   from-format levels area ws cut list e cs = go (goodNumbers G levels area cut (length ws) (length list)) refl e
     where
       left : Bool → Done
-      left y = cond y (done formatted (pool (setupOf levels area (total area - 1)) (replicate (length ws) 0) cut (down (total area)))) (refuse 1 (pool noSetup ws cut list))
+      left y = cond y (done formatted (pool (setupOf G levels area (total area - 1)) (replicate (length ws) 0) cut (down (total area)))) (refuse 1 (pool noSetup ws cut list))
 
       go : (y : Bool) → goodNumbers G levels area cut (length ws) (length list) ≡ y → left y .answer ≡ formatted → Demand3 G (left y .after) (ledger levels area []) cs
       go true q e = demand3 (sim-holds G Z (fresh-sim G Z levels area ws cut list (good-numbers q))) cs
@@ -224,6 +225,21 @@ module _ (G : Granule) (Z : Sane G) where
   pub step-holds : {p : Pool} {A : Ledger} → Holds G p A → (c : Call) → (stepW G p c .answer ≡ stepL G A c .answer) × Holds G (stepW G p c .after) (stepL G A c .after)
   step-holds H c = let S = step-alike (holds-sim G Z H) c in (S .answer, sim-holds G Z (S .sim))
 
--- the 4 KiB granule, three and four levels
-pub demand3-four : {p : Pool} {A : Ledger} → Holds four p A → (cs : List Call) → Demand3 four p A cs
-demand3-four H cs = demand3 four four-sane H cs
+-- ---- both granules: the one that a number names
+
+-- a format with that number, of any memory
+pub format-demand : (number levels : ℕ) (area : Area) (ws : List ℕ) (cut : ℕ) (list : List ℕ) → formatN number levels area ws cut list .answer ≡ formatted → (cs : List Call)
+    → Demand3 (granuleOf number) (formatN number levels area ws cut list .after) (ledger levels area []) cs
+format-demand number levels area ws cut list e cs =
+    let same = format-accepted number levels area ws cut list e in
+    subst (λ (d : Done). Demand3 (granuleOf number) (d .after) (ledger levels area []) cs) (sym same)
+    (from-format (granuleOf number) (granule-sane number) levels area ws cut list (sym (ap (λ (d : Done). d .answer) same) ∙ e) cs)
+
+-- a pool that the audit accepts, by the number in its setup
+pub audit-demand : (p : Pool) (t m : ℕ) → auditW (granuleOf (p .numbers .granule)) p ≡ audited t m → (cs : List Call)
+    → Demand3 (granuleOf (p .numbers .granule)) p (ledgerOf (granuleOf (p .numbers .granule)) p) cs
+audit-demand p = from-audit (granuleOf (p .numbers .granule)) (granule-sane (p .numbers .granule)) p
+
+-- a pool that holds a ledger
+pub demand3-of : (number : ℕ) {p : Pool} {A : Ledger} → Holds (granuleOf number) p A → (cs : List Call) → Demand3 (granuleOf number) p A cs
+demand3-of number H cs = demand3 (granuleOf number) (granule-sane number) H cs

@@ -8,8 +8,8 @@ use model::QueryAnswer;
 use model::UnmapAnswer;
 use path::GIB;
 use path::GIB512;
+use path::KIB4;
 use path::MIB2;
-use path::PAGE;
 use path::Setup;
 use std::num::wrapping_add_u64;
 use std::num::wrapping_sub_u64;
@@ -45,7 +45,7 @@ fn address(before: &[u8], n: u64) {
 }
 
 fn size(n: u64) {
-    if n == PAGE {
+    if n == KIB4 {
         text(b"a page of 4 KiB");
     } else if n == MIB2 {
         text(b"a frame of 2 MiB");
@@ -116,11 +116,12 @@ fn same_setup(s: Setup, t: Setup) -> bool {
         && s.free == t.free
         && s.base2 == t.base2
         && s.tables2 == t.tables2
+        && s.granule == t.granule
 }
 
 fn compared(same: bool) {
     if same {
-        text(b"  All 2048 words, 4 places of the free list and 6 setup numbers are as before.\n");
+        text(b"  All 2048 words, 4 places of the free list and 7 setup numbers are as before.\n");
     } else {
         text(b"  SOMETHING CHANGED.\n");
     }
@@ -150,7 +151,7 @@ fn format(words: &mut Words, list: &mut List) -> Setup {
     address(b", for addresses below ", GIB512);
     text(b".\n");
     let mut second = NO_WORDS;
-    let r = pagetable::format(3, BASE, TABLES, 0, 0, words, &mut second, list);
+    let r = pagetable::format(3, BASE, TABLES, 0, 0, KIB4, words, &mut second, list);
     let answer = r.answer;
     let back = r.setup;
     match answer {
@@ -265,7 +266,7 @@ fn found(base: u64, frame: u64, bytes: u64, attributes: u64) {
 
 fn scan_starts(s: Setup, words: &mut Words, list: &mut List) -> Setup {
     text(b"\nThe scan guest gets its program and a buffer for pictures.\n");
-    let s = map(s, words, list, 0x1000, 0x8000_1000, PAGE, 5);
+    let s = map(s, words, list, 0x1000, 0x8000_1000, KIB4, 5);
     let s = map(s, words, list, 0x20_0000, 0x8020_0000, MIB2, 3);
     query(s, words, list, 0x20_1234);
     text(b"\nHow large a frame fits where nothing is mapped? Query says it.\n");
@@ -278,7 +279,7 @@ fn scan_asks_for_too_much(s: Setup, words: &mut Words, list: &mut List) -> Setup
     text(
         b"\nThe scan guest asks for a page far away. It needs two tables more, and one is free.\n",
     );
-    map(s, words, list, 0x4000_0000, 0x8040_0000, PAGE, 3)
+    map(s, words, list, 0x4000_0000, 0x8040_0000, KIB4, 3)
 }
 
 fn no_table_is_left(s: Setup, words: &mut Words, list: &mut List) -> Setup {
@@ -293,7 +294,7 @@ fn no_table_is_left(s: Setup, words: &mut Words, list: &mut List) -> Setup {
 
 fn scan_asks_for_its_tables(s: Setup, words: &mut Words, list: &mut List) -> Setup {
     text(b"\nNo guest is given its own tables: the page of table 1 is refused.\n");
-    map(s, words, list, 0x2000, 0x4000_1000, PAGE, 3)
+    map(s, words, list, 0x2000, 0x4000_1000, KIB4, 3)
 }
 
 fn scan_gives_back(s: Setup, words: &mut Words, list: &mut List) -> Setup {
@@ -306,7 +307,7 @@ fn scan_gives_back(s: Setup, words: &mut Words, list: &mut List) -> Setup {
 fn scan_asks_again(s: Setup, words: &mut Words, list: &mut List) {
     text(b"\nThe map that was refused is done now.\n");
     query(s, words, list, 0x4000_0000);
-    let s = map(s, words, list, 0x4000_0000, 0x8040_0000, PAGE, 3);
+    let s = map(s, words, list, 0x4000_0000, 0x8040_0000, KIB4, 3);
     query(s, words, list, 0x4000_0FFF);
 }
 

@@ -1,12 +1,22 @@
 -- What the host's boot code is told, in plain numbers: a word or its meaning, or a refusal, which is below 16.
-use Prim.Native.Nat.{ℕ, _+_, _%_, _≤_}
+use Prim.Native.Nat.{ℕ, _+_, _%_, _^_, _≤_}
 use mathlib.Core.Path.{_≡_}
+use mathlib.Core.Logic.{_⊎_}
 use mathlib.Core.Bool.{cond}
 use lib.Dec.{ltb, eqb}
-use Rattle.path.specs.Geometry.{Granule, physical, heightOf}
+use Rattle.path.specs.Geometry.{Granule, four, sixteen, physical, heightOf}
 use Rattle.entry.specs.Words.{frameWord, frameAt}
 use Rattle.entry.specs.declared.Entry.{Entry}
 use Rattle.entry.specs.declared.Entry.the-variants.{Empty, Table, Frame, Damaged}
+
+-- The granule whose frames have a size: 16 KiB and 32 MiB are of 16 KiB pages, and any other size is read with 4 KiB pages, where 4096, 2 MiB and 1 GiB are
+-- the frames' sizes. No size is of both.
+unfoldable pub sizedBy : ℕ → Granule
+sizedBy size = cond (ltb (sixteen .large) (heightOf sixteen size)) four sixteen
+
+-- the five sizes, by both granules
+abbrev pub FrameSize : ℕ → Type 0
+FrameSize size = (size ≡ 2 ^ 12) ⊎ ((size ≡ 2 ^ 21) ⊎ ((size ≡ 2 ^ 30) ⊎ ((size ≡ 2 ^ 14) ⊎ (size ≡ 2 ^ 25))))
 
 -- the entry word of a frame, checked in the order 2, 3, 4, 5
 unfoldable pub hostWord : Granule → ℕ → ℕ → ℕ → ℕ

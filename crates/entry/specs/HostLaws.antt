@@ -1,5 +1,5 @@
 -- Laws of the host's two calls: an answer below 16 is a refusal and no other is, and on every other answer each call undoes the other.
-use Prim.Native.Nat.{ℕ, _+_, _%_, _^_, _≤_, _<_}
+use Prim.Native.Nat.{ℕ, zero, suc, _+_, _%_, _^_, _≤_, _<_}
 use mathlib.Core.Path.{_≡_, refl, sym, _∙_}
 use mathlib.Core.Bool.{Bool, true, false, cond}
 use mathlib.Core.Logic.{_⊎_, inl, inr, ⊎-elim}
@@ -7,13 +7,77 @@ use native.Mathlib.Decide.{decLt}
 use native.Mathlib.Omega.{arith}
 use lib.Dec.{ltb, eqb}
 use borrow.Author.Tests.{lt-ltb, le-ltb, eq-eqb, ne-eqb, ltb-false, eqb-true}
-use Rattle.path.specs.Geometry.{Granule, Sane, physical, heightOf}
-use Rattle.path.specs.Laws.{height-size}
+use Rattle.path.specs.Geometry.{Granule, Sane, four, sixteen, granuleOf, sizeAt, physical, seek, heightOf}
+use Rattle.path.specs.Laws.{four-sane, sixteen-sane, granule-either, height-size}
 use Rattle.entry.specs.Words.{frameWord, frameAt, Framed, baseIn, attrsIn}
-use Rattle.entry.specs.Host.{hostWord, Accepted, meaningOf, hostMeaning}
+use Rattle.entry.specs.Host.{sizedBy, FrameSize, hostWord, Accepted, meaningOf, hostMeaning}
 use Rattle.entry.specs.Laws.{framed-paged, frame-at-back, frame-at-only, frame-or-damaged, frame-word-ge, attrs-lt}
 use Rattle.entry.specs.declared.Entry.{Entry}
 use Rattle.entry.specs.declared.Entry.the-variants.{Empty, Table, Frame, Damaged}
+
+-- ---- sizes
+
+pub sized-sixteen : (size : ℕ) → heightOf sixteen size ≤ sixteen .large → sizedBy size ≡ sixteen
+unfolding sizedBy
+sized-sixteen size l = rw (le-ltb (sixteen .large) (heightOf sixteen size) l)
+
+pub sized-four : (size : ℕ) → sixteen .large < heightOf sixteen size → sizedBy size ≡ four
+unfolding sizedBy
+sized-four size l = rw (lt-ltb (sixteen .large) (heightOf sixteen size) l)
+
+pub sized-sane : (size : ℕ) → Sane (sizedBy size)
+unfolding sizedBy
+sized-sane size = go (ltb (sixteen .large) (heightOf sixteen size))
+  where
+    go : (t : Bool) → Sane (cond t four sixteen)
+    go true = four-sane
+    go false = sixteen-sane
+
+-- which sizes of frames a granule has, one height after the other
+sixteen-size : (size : ℕ) → heightOf sixteen size ≤ sixteen .large → (size ≡ 2 ^ 14) ⊎ (size ≡ 2 ^ 25)
+unfolding sizeAt
+sixteen-size size l = go (heightOf sixteen size) l (height-size sixteen size l)
+  where
+    go : (h : ℕ) → h ≤ 1 → sizeAt sixteen h ≡ size → (size ≡ 2 ^ 14) ⊎ (size ≡ 2 ^ 25)
+    go zero m e = inl (sym e)
+    go (suc zero) m e = inr (sym e)
+    go (suc (suc h)) m e = absurd (omega arith)
+
+four-size : (size : ℕ) → heightOf four size ≤ four .large → (size ≡ 2 ^ 12) ⊎ ((size ≡ 2 ^ 21) ⊎ (size ≡ 2 ^ 30))
+unfolding sizeAt
+four-size size l = go (heightOf four size) l (height-size four size l)
+  where
+    go : (h : ℕ) → h ≤ 2 → sizeAt four h ≡ size → (size ≡ 2 ^ 12) ⊎ ((size ≡ 2 ^ 21) ⊎ (size ≡ 2 ^ 30))
+    go zero m e = inl (sym e)
+    go (suc zero) m e = inr (inl (sym e))
+    go (suc (suc zero)) m e = inr (inr (sym e))
+    go (suc (suc (suc h))) m e = absurd (omega arith)
+
+-- a size is one of a frame of its granule exactly when it is one of the five
+pub size-known : (size : ℕ) → heightOf (sizedBy size) size ≤ sizedBy size .large → FrameSize size
+size-known size l = go (decLt (sixteen .large) (heightOf sixteen size))
+  where
+    go : Dec (sixteen .large < heightOf sixteen size) → FrameSize size
+    go (yes m) = ⊎-elim inl (λ e. inr (⊎-elim inl (λ f. inr (inl f)) e)) (four-size size (rw (sized-four size m) at l))
+    go (no n) = inr (inr (inr (sixteen-size size (omega arith))))
+
+pub known-size : (size : ℕ) → FrameSize size → heightOf (sizedBy size) size ≤ sizedBy size .large
+unfolding sizedBy heightOf seek sizeAt
+known-size size (inl e) = rw e (omega arith)
+known-size size (inr (inl e)) = rw e (omega arith)
+known-size size (inr (inr (inl e))) = rw e (omega arith)
+known-size size (inr (inr (inr (inl e)))) = rw e (omega arith)
+known-size size (inr (inr (inr (inr e)))) = rw e (omega arith)
+
+-- and whichever of the two granules has frames of a size, it is that size's
+pub sized-granule : (number size : ℕ) → heightOf (granuleOf number) size ≤ granuleOf number .large → sizedBy size ≡ granuleOf number
+unfolding sizedBy heightOf seek sizeAt
+sized-granule number size = granule-either (λ (G : Granule). heightOf G size ≤ G .large → sizedBy size ≡ G) (λ l. by-four (four-size size l)) (sized-sixteen size) number
+  where
+    by-four : (size ≡ 2 ^ 12) ⊎ ((size ≡ 2 ^ 21) ⊎ (size ≡ 2 ^ 30)) → sizedBy size ≡ four
+    by-four (inl e) = rw e
+    by-four (inr (inl e)) = rw e
+    by-four (inr (inr e)) = rw e
 
 -- ---- words
 

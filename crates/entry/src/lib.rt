@@ -3,10 +3,10 @@ ghost use mathlib.Core.Path.{_≡_};
 ghost use Prim.Native.Nat.{ℕ, _<_, _^_};
 ghost use mathlib.Core.Bool.{cond};
 ghost use lib.Dec.{ltb, leb, eqb};
-ghost use Rattle.path.specs.Geometry.{four, physical};
+ghost use Rattle.path.specs.Geometry.{granuleOf, physical};
 ghost use Rattle.path.specs.Areas.{areaAt};
 ghost use Rattle.entry.specs.Words.{attrWord, baseIn, attrsIn, typeAt, frameWord, tableWord, namedIn, childAt, frameAt, entryAt};
-ghost use Rattle.entry.specs.Host.{hostWord, hostMeaning, meaningOf};
+ghost use Rattle.entry.specs.Host.{sizedBy, hostWord, hostMeaning, meaningOf};
 
 // The attribute words of the attributes 0 to 15.
 const ATTRIBUTES: [u64; 16] = [
@@ -35,8 +35,6 @@ const NORMAL: u64 = 0x73C;
 const DEVICE: u64 = 0x400;
 // A word's bits below the base of a frame count up to this.
 const BELOW_BASE: u64 = 4096;
-// The greatest height of a frame.
-const LARGE: usize = 2;
 
 // What a word says.
 pub enum Entry {
@@ -63,12 +61,24 @@ fn type_at(height: usize) -> u64
     if height == 0 { 3 } else { 1 }
 }
 
+// The granule whose frames have a size: that of 16 KiB pages, or else that of 4 KiB pages.
+fn granule_by(size: u64) -> u64
+    ensures { λ r. ⌜ granuleOf r ≡ sizedBy size ⌝ }
+{
+    if path::height_of(path::KIB16, size) > path::large_of(path::KIB16) {
+        return path::KIB4;
+    }
+    path::KIB16
+}
+
 // The entry word of a frame, or a refusal: 2, 3, 4 or 5.
 pub fn frame_word(base: u64, size: u64, attributes: u64) -> u64
-    ensures { λ r. ⌜ r ≡ hostWord four base size attributes ⌝ }
+    ensures { λ r. ⌜ r ≡ hostWord (sizedBy size) base size attributes ⌝ }
 {
-    let height = path::height_of(size);
-    if height > LARGE {
+    let granule = granule_by(size);
+    let height = path::height_of(granule, size);
+    let large = path::large_of(granule);
+    if height > large {
         return 2;
     }
     if attributes > 15 {
@@ -80,7 +90,8 @@ pub fn frame_word(base: u64, size: u64, attributes: u64) -> u64
     if base + size > path::PHYSICAL {
         return 4;
     }
-    if base % size != 0 {
+    let rest = path::rest_at(granule, base, height);
+    if rest != 0 {
         return 5;
     }
     base + type_at(height) + attr_word(attributes)
@@ -101,19 +112,19 @@ pub fn word_of(base: u64, height: usize, attributes: u64) -> u64
 }
 
 // The word that names table c of a pool, of so many tables in its first region; 0 where the base of c's region is above 2^48.
-pub fn table_word(base: u64, tables: u16, base2: u64, c: u32) -> u64
-    ensures { λ r. ⌜ ((m : ℕ) → r ≡ cond (leb (cond (ltb c tables) base base2) physical) (tableWord four (areaAt base tables base2 m) c) 0) ⌝ }
+pub fn table_word(granule: u64, base: u64, tables: u16, base2: u64, c: u32) -> u64
+    ensures { λ r. ⌜ ((m : ℕ) → r ≡ cond (leb (cond (ltb c tables) base base2) physical) (tableWord (granuleOf granule) (areaAt base tables base2 m) c) 0) ⌝ }
 {
     if c < tables as u32 {
         if base > path::PHYSICAL {
             return 0;
         }
-        return base + path::PAGE * (c as u64) + 3;
+        return base + path::page_of(granule) * (c as u64) + 3;
     }
     if base2 > path::PHYSICAL {
         return 0;
     }
-    base2 + path::PAGE * ((c - tables as u32) as u64) + 3
+    base2 + path::page_of(granule) * ((c - tables as u32) as u64) + 3
 }
 
 // The attributes that the bits of a word stand for.
@@ -144,14 +155,14 @@ pub fn is_frame(w: u64, height: usize) -> bool
 }
 
 // The frame that a word says at a height, or that it is damaged.
-pub fn frame_at(w: u64, height: usize) -> Entry
-    ensures { λ r. ⌜ r ≡ frameAt four height w ⌝ }
+pub fn frame_at(granule: u64, w: u64, height: usize) -> Entry
+    ensures { λ r. ⌜ r ≡ frameAt (granuleOf granule) height w ⌝ }
 {
-    if height > LARGE {
+    if height > path::large_of(granule) {
         return Entry::Damaged;
     }
     let base = base_in(w);
-    if path::rest_at(base, height) != 0 {
+    if path::rest_at(granule, base, height) != 0 {
         return Entry::Damaged;
     }
     if is_frame(w, height) {
@@ -164,8 +175,8 @@ pub fn frame_at(w: u64, height: usize) -> Entry
 }
 
 // The number of the table in a region of so many tables that a word names; that many where it names none.
-fn named_in(w: u64, base: u64, tables: u16) -> u32
-    ensures { λ r. ⌜ r ≡ namedIn four base tables w ⌝ }
+fn named_in(granule: u64, w: u64, base: u64, tables: u16) -> u32
+    ensures { λ r. ⌜ r ≡ namedIn (granuleOf granule) base tables w ⌝ }
 {
     if base > path::PHYSICAL {
         if w < base {
@@ -173,10 +184,10 @@ fn named_in(w: u64, base: u64, tables: u16) -> u32
         }
     }
     let off = std::num::wrapping_sub_u64(w, base);
-    if off % path::PAGE != 3 {
+    if path::rest_at(granule, off, 0) != 3 {
         return tables as u32;
     }
-    let c = off / path::PAGE;
+    let c = path::pages_in(granule, off);
     if c >= tables as u64 {
         return tables as u32;
     }
@@ -184,10 +195,10 @@ fn named_in(w: u64, base: u64, tables: u16) -> u32
 }
 
 // The child that a word names as a table, of the first region or else of the second; 0 where it names none.
-pub fn child_in(w: u64, base: u64, tables: u16, base2: u64, tables2: u16) -> u32
-    ensures { λ r. ⌜ r ≡ childAt four (areaAt base tables base2 tables2) w ⌝ }
+pub fn child_in(granule: u64, w: u64, base: u64, tables: u16, base2: u64, tables2: u16) -> u32
+    ensures { λ r. ⌜ r ≡ childAt (granuleOf granule) (areaAt base tables base2 tables2) w ⌝ }
 {
-    let c = named_in(w, base, tables);
+    let c = named_in(granule, w, base, tables);
     if c > 0 {
         if c < tables as u32 {
             return c;
@@ -196,7 +207,7 @@ pub fn child_in(w: u64, base: u64, tables: u16, base2: u64, tables2: u16) -> u32
     if tables2 == 0 {
         return 0;
     }
-    let d = named_in(w, base2, tables2);
+    let d = named_in(granule, w, base2, tables2);
     if d >= tables2 as u32 {
         return 0;
     }
@@ -204,19 +215,27 @@ pub fn child_in(w: u64, base: u64, tables: u16, base2: u64, tables2: u16) -> u32
 }
 
 // What a word says at a height of a tree whose tables stand in one or two regions.
-pub fn read_word(w: u64, height: usize, base: u64, tables: u16, base2: u64, tables2: u16) -> Entry
-    ensures { λ r. ⌜ r ≡ entryAt four (areaAt base tables base2 tables2) height w ⌝ }
+pub fn read_word(
+    granule: u64,
+    w: u64,
+    height: usize,
+    base: u64,
+    tables: u16,
+    base2: u64,
+    tables2: u16,
+) -> Entry
+    ensures { λ r. ⌜ r ≡ entryAt (granuleOf granule) (areaAt base tables base2 tables2) height w ⌝ }
 {
     if w == 0 {
         return Entry::Empty;
     }
     if height > 0 {
-        let c = child_in(w, base, tables, base2, tables2);
+        let c = child_in(granule, w, base, tables, base2, tables2);
         if c > 0 {
             return Entry::Table(c);
         }
     }
-    frame_at(w, height)
+    frame_at(granule, w, height)
 }
 
 // A frame as base + 16 + attributes; 8 for what is no frame.
@@ -234,11 +253,12 @@ fn meaning_of(e: Entry) -> u64
 
 // The meaning of a word at a size: base + 16 + attributes, or a refusal: 2 or 8.
 pub fn word_meaning(w: u64, size: u64) -> u64
-    ensures { λ r. ⌜ r ≡ hostMeaning four w size ⌝ }
+    ensures { λ r. ⌜ r ≡ hostMeaning (sizedBy size) w size ⌝ }
 {
-    let height = path::height_of(size);
-    if height > LARGE {
-        return 2;
+    let granule = granule_by(size);
+    let height = path::height_of(granule, size);
+    if height <= path::large_of(granule) {
+        return meaning_of(frame_at(granule, w, height));
     }
-    meaning_of(frame_at(w, height))
+    2
 }

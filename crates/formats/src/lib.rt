@@ -7,11 +7,10 @@ ghost use mathlib.Core.List.{_++_};
 ghost use Prim.Native.Nat.{_≤_};
 ghost use lib.ListN.{length};
 ghost use Rattle.laws.specs.Lists.{down};
-ghost use Rattle.path.specs.Geometry.{four};
 ghost use Rattle.path.specs.Areas.{areaAt};
-ghost use Rattle.path.specs.Numbers.{mostTables};
-ghost use Rattle.model.specs.Answers.{formatDid};
-ghost use Rattle.model.specs.Calls.{formatW};
+ghost use Rattle.path.specs.Numbers.{noSetup, mostTables};
+ghost use Rattle.model.specs.Answers.{saysFormat, refused, formatDid};
+ghost use Rattle.model.specs.Calls.{formatN};
 
 // Place i of the list becomes its length - 1 - i.
 fn count_down(list: &mut [u32])
@@ -26,6 +25,17 @@ fn count_down(list: &mut [u32])
     }
 }
 
+// A refused format: 1, and no pool's setup numbers.
+fn format_refused() -> Formatted
+    ensures { λ r. ⌜ (saysFormat (r .answer) ≡ refused 1) × (r .setup ≡ noSetup) ⌝ }
+{
+    let none = path::no_setup();
+    Formatted {
+        answer: FormatAnswer::Refused(1),
+        setup: none,
+    }
+}
+
 // An empty tree: all words 0, and every table but the root free. Or refusal 1.
 pub fn format(
     levels: u64,
@@ -33,14 +43,19 @@ pub fn format(
     tables: u64,
     base2: u64,
     tables2: u64,
+    granule: u64,
     words: &mut [u64],
     second: &mut [u64],
     list: &mut [u32],
 ) -> Formatted
     ensures { λ r. ⌜ formatDid r (now (words .exit)) (now (second .exit)) (now (list .exit))
-        ≡ formatW four levels (areaAt base tables base2 tables2) (now (words .entry) ++ now (second .entry)) (length (now (words .entry))) (now (list .entry)) ⌝ }
+        ≡ formatN granule levels (areaAt base tables base2 tables2) (now (words .entry) ++ now (second .entry)) (length (now (words .entry))) (now (list .entry)) ⌝ }
 {
+    if !path::good_granule(granule) {
+        return format_refused();
+    }
     if !path::good_numbers(
+        granule,
         levels,
         base,
         tables,
@@ -50,11 +65,7 @@ pub fn format(
         second.len(),
         list.len(),
     ) {
-        let none = path::no_setup();
-        return Formatted {
-            answer: FormatAnswer::Refused(1),
-            setup: none,
-        };
+        return format_refused();
     }
     pool::clear(words);
     pool::clear(second);
@@ -69,6 +80,7 @@ pub fn format(
             free,
             base2,
             tables2,
+            granule,
         },
     }
 }

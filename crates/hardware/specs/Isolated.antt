@@ -9,9 +9,9 @@ use native.Mathlib.Omega.{arith}
 use lib.Dec.{ltb, leb, eqb}
 use lib.ListN.{length, take, replicate}
 use borrow.Author.Tests.{leb-true, ltb-true}
-use Rattle.path.specs.Geometry.{Granule, Sane, four, entries}
+use Rattle.path.specs.Geometry.{Granule, Sane, granuleOf, entries}
 use Rattle.path.specs.Areas.{Area, areaOf, total, InArea}
-use Rattle.path.specs.Laws.{four-sane}
+use Rattle.path.specs.Laws.{granule-sane}
 use Rattle.path.specs.Numbers.{goodNumbers}
 use Rattle.path.specs.declared.Setup.{Setup}
 use Rattle.model.specs.Answers.{Mapping, mapping, formatted, took, gave, refused, Pool}
@@ -143,10 +143,10 @@ module _ (G : Granule) (Z : Sane G) {p : Pool} {A : Ledger} (H : Holds G p A) wh
 
   -- ---- what the guest reaches in the middle of a call
 
-  -- a byte of a mapping that is held is no table's of an area that its frame is off
-  not-inside : (c : Call) {r s : Area} (x : ℕ) → s ≡ r → ((m : Mapping) → Held G A c m → OffTables G r m)
-      → (m : Mapping) × Held G A c m × InFrame m x → ¬ InArea G s x
-  not-inside c x e off (m, h, f) i = off m h (record { byte = x; starts = f .0; ends = f .1; inside = subst (λ (r : Area). InArea G r x) e i })
+  -- a byte of a mapping that is held is no table's of an area, of any granule, that its frame is off
+  not-inside : (c : Call) (T : Granule) {r s : Area} (x : ℕ) → s ≡ r → ((m : Mapping) → Held G A c m → OffTables T r m)
+      → (m : Mapping) × Held G A c m × InFrame m x → ¬ InArea T s x
+  not-inside c T x e off (m, h, f) i = off m h (record { byte = x; starts = f .0; ends = f .1; inside = subst (λ (r : Area). InArea T r x) e i })
 
   module _ (c : Call) {mem : ℕ → ℕ → ℕ} (D : During G p c mem) where
     -- a walk under way, by the numbers of the pool
@@ -166,10 +166,10 @@ module _ (G : Granule) (Z : Sane G) {p : Pool} {A : Ledger} (H : Holds G p A) wh
         (told-either (R .address)))
 
     off-own : OffOwn G p mem
-    off-own x R = not-inside c x (H .area-is) (held-off c) (reached x R)
+    off-own x R = not-inside c G x (H .area-is) (held-off c) (reached x R)
 
     off-later : AtOnce c → OffLater G p c mem
-    off-later o x R = not-inside c x (step-holds G Z H c .1 .area-is) (held-later c o) (reached x R)
+    off-later o x R = not-inside c G x (step-holds G Z H c .1 .area-is) (held-later c o) (reached x R)
 
   seals : (c : Call) → Sealed G p c
   unfolding performAll
@@ -186,30 +186,30 @@ module _ (G : Granule) (Z : Sane G) {p : Pool} {A : Ledger} (H : Holds G p A) wh
 -- ---- two guests
 
 -- what one reaches is none of the other's
-module _ (G : Granule) (Z : Sane G) {p q : Pool} {A B : Ledger} (H : Holds G p A) (K : Holds G q B) (c d : Call) where
-  off-other : ((m : Mapping) → Held G A c m → OffBoth G B d m)
-      → ((m k : Mapping) → Held G A c m → Held G B d k → (x : ℕ) → InFrame m x → ¬ InFrame k x)
-      → (mem : ℕ → ℕ → ℕ) → During G p c mem → OffOther G p q B d mem
+module _ {G K : Granule} (Y : Sane G) (Z : Sane K) {p q : Pool} {A B : Ledger} (H : Holds G p A) (J : Holds K q B) (c d : Call) where
+  off-other : ((m : Mapping) → Held G A c m → OffBoth K B d m)
+      → ((m k : Mapping) → Held G A c m → Held K B d k → (x : ℕ) → InFrame m x → ¬ InFrame k x)
+      → (mem : ℕ → ℕ → ℕ) → During G p c mem → OffOther G p K q B d mem
   off-other tables frames mem D = record {
-    tables = λ x R. not-inside G Z H c x (K .area-is) (λ m h. tables m h .0) (reached G Z H c D x R);
-    later-tables = λ x R. not-inside G Z H c x (step-holds G Z K d .1 .area-is) (λ m h. tables m h .1) (reached G Z H c D x R);
-    frames = λ x R k i. let (m, h, f) = reached G Z H c D x R in frames m k h i x f;
+    tables = λ x R. not-inside G Y H c K x (J .area-is) (λ m h. tables m h .0) (reached G Y H c D x R);
+    later-tables = λ x R. not-inside G Y H c K x (step-holds K Z J d .1 .area-is) (λ m h. tables m h .1) (reached G Y H c D x R);
+    frames = λ x R k i. let (m, h, f) = reached G Y H c D x R in frames m k h i x f;
   }
 
 -- ---- the promise
 
-pub isolation : (G : Granule) → Sane G → Isolation G
-isolation G Z = record {
-  own-tables = λ p A H cs c. seals G Z (after cs H) c;
-  two-guests = λ p q A B H K cs ds c d apart. record {
-    first = off-other G Z (after cs H) (after ds K) c d (apart .first-tables) (apart .frames);
-    second = off-other G Z (after ds K) (after cs H) d c (apart .second-tables) (λ m k i j x f g. apart .frames k m j i x g f);
+after : {G : Granule} → Sane G → (cs : List Call) {p : Pool} {A : Ledger} → Holds G p A → Holds G (poolAfter G p cs) (ledgerAfter G A cs)
+after {G} Z cs H = sim-holds G Z (after-sim G Z cs (holds-sim G Z H))
+
+pub isolation : (G K : Granule) → Sane G → Sane K → Isolation G K
+isolation G K Y Z = record {
+  own-tables = λ p A H cs c. seals G Y (after Y cs H) c;
+  two-guests = λ p q A B H J cs ds c d apart. record {
+    first = off-other Y Z (after Y cs H) (after Z ds J) c d (apart .first-tables) (apart .frames);
+    second = off-other Z Y (after Z ds J) (after Y cs H) d c (apart .second-tables) (λ m k i j x f g. apart .frames k m j i x g f);
   };
 }
-  where
-    after : (cs : List Call) {p : Pool} {A : Ledger} → Holds G p A → Holds G (poolAfter G p cs) (ledgerAfter G A cs)
-    after cs H = sim-holds G Z (after-sim G Z cs (holds-sim G Z H))
 
--- with 4 KiB pages, three and four levels
-pub isolation-four : Isolation four
-isolation-four = isolation four four-sane
+-- for the granules that two numbers name: 4 KiB with three and four levels, 16 KiB with three, or one of each
+pub isolation-of : (number other : ℕ) → Isolation (granuleOf number) (granuleOf other)
+isolation-of number other = isolation (granuleOf number) (granuleOf other) (granule-sane number) (granule-sane other)

@@ -72,31 +72,32 @@ InFrame m x = (m .frame ≤ x) × (x < m .frame + m .size)
 abbrev pub OffBoth : Granule → Ledger → Call → Mapping → Type 0
 OffBoth G B d m = OffTables G (B .area) m × OffTables G (stepL G B d .after .area) m
 
--- what the host sees to, where the call c is made on a pool with the ledger A while d is made on one with the ledger B. That a frame shares no byte with
--- its own pool's tables is not asked: refusal 11 sees to it.
-pub record KeptApart (G : Granule) (A : Ledger) (c : Call) (B : Ledger) (d : Call) : Type 0 where
+-- what the host sees to, where the call c is made on a pool of granule G with the ledger A while d is made on one of granule K with the ledger B. That a
+-- frame shares no byte with its own pool's tables is not asked: refusal 11 sees to it.
+pub record KeptApart (G : Granule) (A : Ledger) (c : Call) (K : Granule) (B : Ledger) (d : Call) : Type 0 where
   -- no frame of either shares a byte with the other's tables
-  pub first-tables : (m : Mapping) → Held G A c m → OffBoth G B d m
-  pub second-tables : (m : Mapping) → Held G B d m → OffBoth G A c m
+  pub first-tables : (m : Mapping) → Held G A c m → OffBoth K B d m
+  pub second-tables : (m : Mapping) → Held K B d m → OffBoth G A c m
   -- and none with a frame of the other
-  pub frames : (m k : Mapping) → Held G A c m → Held G B d k → (x : ℕ) → InFrame m x → ¬ InFrame k x
+  pub frames : (m k : Mapping) → Held G A c m → Held K B d k → (x : ℕ) → InFrame m x → ¬ InFrame k x
 
 -- none of the bytes that the guest of p reaches is one of the tables of q before d or after it, or of a frame that the guest of q has before or after it
-pub record OffOther (G : Granule) (p q : Pool) (B : Ledger) (d : Call) (mem : ℕ → ℕ → ℕ) : Type 0 where
-  pub tables : (x : ℕ) → Reaches G (p .numbers) mem x → ¬ InArea G (areaOf (q .numbers)) x
-  pub later-tables : (x : ℕ) → Reaches G (p .numbers) mem x → ¬ InArea G (areaOf (stepW G q d .after .numbers)) x
-  pub frames : (x : ℕ) → Reaches G (p .numbers) mem x → (k : Mapping) → Held G B d k → ¬ InFrame k x
+pub record OffOther (G : Granule) (p : Pool) (K : Granule) (q : Pool) (B : Ledger) (d : Call) (mem : ℕ → ℕ → ℕ) : Type 0 where
+  pub tables : (x : ℕ) → Reaches G (p .numbers) mem x → ¬ InArea K (areaOf (q .numbers)) x
+  pub later-tables : (x : ℕ) → Reaches G (p .numbers) mem x → ¬ InArea K (areaOf (stepW K q d .after .numbers)) x
+  pub frames : (x : ℕ) → Reaches G (p .numbers) mem x → (k : Mapping) → Held K B d k → ¬ InFrame k x
 
 -- calls under way on both
-pub record Apart (G : Granule) (p : Pool) (A : Ledger) (c : Call) (q : Pool) (B : Ledger) (d : Call) : Type 0 where
-  pub first : (mem : ℕ → ℕ → ℕ) → During G p c mem → OffOther G p q B d mem
-  pub second : (mem : ℕ → ℕ → ℕ) → During G q d mem → OffOther G q p A c mem
+pub record Apart (G : Granule) (p : Pool) (A : Ledger) (c : Call) (K : Granule) (q : Pool) (B : Ledger) (d : Call) : Type 0 where
+  pub first : (mem : ℕ → ℕ → ℕ) → During G p c mem → OffOther G p K q B d mem
+  pub second : (mem : ℕ → ℕ → ℕ) → During K q d mem → OffOther K q G p A c mem
 
 -- ---- the promise
 
--- for pools that hold ledgers, as that of a fresh format and every pool that the audit accepts do: after any calls, for any call next
-pub record Isolation (G : Granule) : Type 0 where
+-- for pools that hold ledgers, as that of a fresh format and every pool that the audit accepts do: after any calls, for any call next. Two guests may have
+-- tables of the same granule, or of two.
+pub record Isolation (G K : Granule) : Type 0 where
   pub own-tables : (p : Pool) (A : Ledger) → Holds G p A → (cs : List Call) (c : Call) → Sealed G (poolAfter G p cs) c
-  pub two-guests : (p q : Pool) (A B : Ledger) → Holds G p A → Holds G q B → (cs ds : List Call) (c d : Call)
-      → KeptApart G (ledgerAfter G A cs) c (ledgerAfter G B ds) d
-      → Apart G (poolAfter G p cs) (ledgerAfter G A cs) c (poolAfter G q ds) (ledgerAfter G B ds) d
+  pub two-guests : (p q : Pool) (A B : Ledger) → Holds G p A → Holds K q B → (cs ds : List Call) (c d : Call)
+      → KeptApart G (ledgerAfter G A cs) c K (ledgerAfter K B ds) d
+      → Apart G (poolAfter G p cs) (ledgerAfter G A cs) c K (poolAfter K q ds) (ledgerAfter K B ds) d

@@ -2,8 +2,8 @@
 -- agree, at rest and after every single write of every call.
 --
 -- The hardware's walk is written from the bit fields of the Arm Architecture Reference Manual (VMSAv8-64, stage 2) and uses nothing of our own
--- reading of a word. It is that of 48-bit output addresses, the access flag and dirty state not managed by hardware (VTCR_EL2.HA and HD are 0),
--- MemAttr as without HCR_EL2.FWB, XN as with FEAT_XNX (without it bit 53, which our words never set, is not read). What stage 1 makes of an
+-- reading of a word. It is that of a granule (VTCR_EL2.TG0: 4 KiB or 16 KiB) with 48-bit output addresses, the access flag and dirty state not managed by
+-- hardware (VTCR_EL2.HA and HD are 0), MemAttr as without HCR_EL2.FWB, XN as with FEAT_XNX (without it bit 53, which our words never set, is not read). What stage 1 makes of an
 -- address before, and what it adds to the attributes, is not said.
 --
 -- Not said either: a contract fixes the lent memory at a call's end, and not in which order the compiled stores are made (the promise holds for any
@@ -158,7 +158,8 @@ neverHigh w = bits 54 1 w
 abbrev pub addressFrom : ℕ → ℕ → ℕ
 addressFrom s w = bits s (48 - s) w * 2 ^ s
 
--- A word of height h stands for an address's bits from this one upward: with 4 KiB 12, 21, 30 and 39. (An entry of the last level has height 0.)
+-- A word of height h stands for an address's bits from this one upward: with 4 KiB 12, 21, 30 and 39, with 16 KiB 14, 25 and 36. (An entry of the last
+-- level, 3, has height 0.)
 abbrev pub shift : Granule → ℕ → ℕ
 shift G h = G .page + G .index * h
 
@@ -209,7 +210,7 @@ unfoldable pub walk : Granule → (ℕ → ℕ → ℕ) → ℕ → ℕ → ℕ 
 walk G mem a zero b = onStep (stepBy G a zero (mem zero (b + 8 * indexBits G a zero))) (λ _. none)
 walk G mem a (suc h) b = onStep (stepBy G a (suc h) (mem (suc h) (b + 8 * indexBits G a (suc h)))) (λ c. walk G mem a h c)
 
--- the addresses that so many levels translate are below this: 2^39 or 2^48
+-- the addresses that so many levels translate are below this: with 4 KiB 2^39 or 2^48 (T0SZ is 25 or 16), with 16 KiB 2^47 (T0SZ is 17)
 abbrev pub inputEnd : Granule → ℕ → ℕ
 inputEnd G levels = 2 ^ shift G levels
 
@@ -248,7 +249,7 @@ saysOf a m = record {
 abbrev pub told : List Mapping → ℕ → Option Translation
 told L a = Option·map (saysOf a) (coverOf a L)
 
--- the hardware, set up with a pool's levels and base, translates every address as these mappings say
+-- the hardware, set up with a pool's granule, levels and base, translates every address as these mappings say
 abbrev pub Reads : Granule → Setup → (ℕ → ℕ → ℕ) → List Mapping → Type 0
 Reads G s mem L = (a : ℕ) → stage2 G (s .levels) (s .base) mem a ≡ told L a
 

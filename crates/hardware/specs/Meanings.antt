@@ -1,13 +1,14 @@
 -- What the walker makes of each value of a field, as the tables of the Arm manual have it (VMSAv8-64 stage 2, MemAttr without HCR_EL2.FWB, XN with
 -- FEAT_XNX). Most of these values stand in no word of ours: nothing else would tell a wrong reading of them.
-use Prim.Native.Nat.{ℕ, _+_}
+use Prim.Native.Nat.{ℕ, _+_, _-_, _*_, _^_}
 use mathlib.Core.Path.{_≡_, refl}
 use mathlib.Core.Bool.{Bool, true, false}
 use mathlib.Core.Option.{Option, some, none}
-use Rattle.path.specs.Geometry.{Granule, four}
+use Rattle.path.specs.Geometry.{four, sixteen}
 use Rattle.hardware.specs.Machine.{Kind, device, normal, Shared, nonShareable, unpredictable, outerShareable, innerShareable}
 use Rattle.hardware.specs.Machine.{nGnRnE, nGnRE, nGRE, GRE, reserved, nonCacheable, writeThrough, writeBack}
 use Rattle.hardware.specs.Machine.{kindOf, sharedOf, memHigh, memLow, shareBits, Step, fault, hit, next, stepBy}
+use Rattle.hardware.specs.Machine.{bits, shift, indexBits, addressFrom, inputEnd}
 
 -- what a word's fields say, where the word is a page's or a block's
 abbrev kindIn : ℕ → Kind
@@ -46,10 +47,6 @@ abbrev moved : Step → Option ℕ
 moved (hit t) = some (t .address)
 moved fault = none
 moved (next b) = none
-
--- pages of 16 KiB, tables of 2048 entries, three levels
-abbrev sixteen : Granule
-sixteen = record { page = 14; index = 11; large = 1; fewest = 3; most = 3 }
 
 pub record Meanings : Type 0 where
   -- MemAttr, bits 5:2: Device memory, or how the outer and the inner caches keep Normal memory
@@ -100,12 +97,27 @@ pub record Meanings : Type 0 where
   pub invalid : stepBy four 0x1234 0 0x80000402 ≡ fault
   pub no-page : stepBy four 0x1234 0 0x80000401 ≡ fault
   pub table : stepBy four 0x1234 1 0x80001003 ≡ next 0x80001000
+  -- the same with 16 KiB, where bits 13:12 of a word are no address bits
+  pub page-16k : moved (stepBy sixteen 0x7ABC 0 0x80004403) ≡ some 0x80007ABC
+  pub page-16k-low : moved (stepBy sixteen 0x7ABC 0 0x80007403) ≡ some 0x80007ABC
+  pub no-page-16k : stepBy sixteen 0x1234 0 0x80004401 ≡ fault
+  pub table-16k : stepBy sixteen 0x1234 1 0x80004003 ≡ next 0x80004000
+  pub table-16k-low : stepBy sixteen 0x1234 2 0x80007003 ≡ next 0x80004000
   -- blocks: of 2 MiB and of 1 GiB, none of 512 GiB; of 32 MiB with 16 KiB pages, none above
   pub block-1 : moved (stepBy four 0x201234 1 0x80200401) ≡ some 0x80201234
   pub block-2 : moved (stepBy four 0x40001234 2 0x80000401) ≡ some 0x80001234
   pub block-3 : stepBy four 0x1234 3 0x401 ≡ fault
   pub block-16k : moved (stepBy sixteen 0x2001234 1 0x82000401) ≡ some 0x82001234
   pub no-block-16k : stepBy sixteen 0x1234 2 0x401 ≡ fault
+  -- the indices of an address: bits 47:39, 38:30, 29:21 and 20:12; with 16 KiB bits 46:36, 35:25 and 24:14
+  pub index-4k : (a : ℕ) → (indexBits four a 3 ≡ bits 39 9 a) × (indexBits four a 2 ≡ bits 30 9 a) × (indexBits four a 1 ≡ bits 21 9 a) × (indexBits four a 0 ≡ bits 12 9 a)
+  pub index-16k : (a : ℕ) → (indexBits sixteen a 2 ≡ bits 36 11 a) × (indexBits sixteen a 1 ≡ bits 25 11 a) × (indexBits sixteen a 0 ≡ bits 14 11 a)
+  -- the address in a word: of a table or a page bits 47:12, of a block bits 47:21 or 47:30; with 16 KiB bits 47:14, and 47:25
+  pub address-4k : (w : ℕ) → (addressFrom (four .page) w ≡ bits 12 36 w * 2 ^ 12) × (addressFrom (shift four 1) w ≡ bits 21 27 w * 2 ^ 21) × (addressFrom (shift four 2) w ≡ bits 30 18 w * 2 ^ 30)
+  pub address-16k : (w : ℕ) → (addressFrom (sixteen .page) w ≡ bits 14 34 w * 2 ^ 14) × (addressFrom (shift sixteen 1) w ≡ bits 25 23 w * 2 ^ 25)
+  -- where input addresses end, by T0SZ: 25 for three levels, 16 for four; with 16 KiB 17 for three
+  pub end-4k : (inputEnd four 3 ≡ 2 ^ (64 - 25)) × (inputEnd four 4 ≡ 2 ^ (64 - 16))
+  pub end-16k : inputEnd sixteen 3 ≡ 2 ^ (64 - 17)
 
 pub meanings : Meanings
 meanings = record {
@@ -150,9 +162,20 @@ meanings = record {
   invalid = refl;
   no-page = refl;
   table = refl;
+  page-16k = refl;
+  page-16k-low = refl;
+  no-page-16k = refl;
+  table-16k = refl;
+  table-16k-low = refl;
   block-1 = refl;
   block-2 = refl;
   block-3 = refl;
   block-16k = refl;
   no-block-16k = refl;
+  index-4k = λ a. (refl, refl, refl, refl);
+  index-16k = λ a. (refl, refl, refl);
+  address-4k = λ w. (refl, refl, refl);
+  address-16k = λ w. (refl, refl);
+  end-4k = (refl, refl);
+  end-16k = refl;
 }

@@ -10,9 +10,9 @@ use lib.ListN.{length, take, replicate}
 use lib.Seq.{length-take-le, getD-take}
 use Rattle.laws.specs.Lists.{down}
 use Rattle.laws.specs.ListLaws.{allZero-at, allZero-replicate, getD-down, getD-first}
-use Rattle.path.specs.Geometry.{Granule, Sane, entries, four}
+use Rattle.path.specs.Geometry.{Granule, Sane, granuleOf, entries}
 use Rattle.path.specs.Areas.{Area, areaOf, total, tableAt, GoodArea}
-use Rattle.path.specs.Laws.{four-sane}
+use Rattle.path.specs.Laws.{granule-sane}
 use Rattle.path.specs.Numbers.{GoodNumbers}
 use Rattle.model.specs.Answers.{Mapping, mapping, Answer, Pool, Done}
 use Rattle.model.specs.Walk.{slot}
@@ -253,9 +253,10 @@ module _ (G : Granule) (Z : Sane G) {p : Pool} {A : Ledger} (I : Sim G Z p A) wh
   pub machine : (c : Call) → Machine G p A c
   machine c = subst (λ (B : Ledger). Machine G p B c) (sym (ledger-is G Z I)) (machine-own c)
 
--- for every sane granule, so for three and four levels of 4 KiB
+-- for every sane granule
 pub promise : (G : Granule) → Sane G → Promise G
 promise G Z p A H cs c = machine G Z (after-sim G Z cs (holds-sim G Z H)) c
 
-pub promise-four : Promise four
-promise-four = promise four four-sane
+-- so for the one that a number names: 4 KiB with three and four levels, 16 KiB with three
+pub promise-of : (number : ℕ) → Promise (granuleOf number)
+promise-of number = promise (granuleOf number) (granule-sane number)

@@ -195,7 +195,7 @@ module _ (G : Granule) (p : Pool) where
     zeros = replicate (length (p .words)) 0
 
     abbrev formatting : Done
-    formatting = done formatted (pool (setupOf levels area (total area - 1)) zeros (p .cut) (down (total area)))
+    formatting = done formatted (pool (setupOf G levels area (total area - 1)) zeros (p .cut) (down (total area)))
 
     -- what a format comes to
     pub data FormatView : Done → Type 0 where

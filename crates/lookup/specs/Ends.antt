@@ -4,7 +4,7 @@ use mathlib.Core.Bool.{Bool, cond, _&&_}
 use mathlib.Core.List.{List, []}
 use lib.Dec.{ltb, leb, eqb}
 use lib.ListN.{length, getD}
-use Rattle.path.specs.Geometry.{Granule, entries, physical}
+use Rattle.path.specs.Geometry.{Granule, entries, goodLevels, physical}
 use Rattle.path.specs.Areas.{Area, areaOf, total}
 use Rattle.path.specs.Numbers.{mostTables}
 use Rattle.path.specs.declared.Setup.{Setup}
@@ -22,11 +22,11 @@ unfoldable pub endOf : Granule → List ℕ → Area → ℕ → List ℕ → Wa
 endOf G ws area r way =
     cond (ltb (r / 4) (length ws)) (stop (entryAt G area (r % 4) (getD ws (r / 4) 0)) (r % 4) way) (stop Damaged (r % 4) way)
 
--- a first base and table counts that a pool may have, at most four levels, a target among their heights, and the words of all tables
+-- a first base, levels and table counts that a pool may have, a target among the heights, and the words of all tables
 unfoldable pub canWalk : Granule → Setup → ℕ → ℕ → Bool
 canWalk G s words target =
     leb (s .base) physical
-    && (leb (s .levels) 4
+    && (goodLevels G (s .levels)
     && (ltb target (s .levels)
     && (leb 1 (total (areaOf s))
     && (leb (total (areaOf s)) mostTables

@@ -7,10 +7,11 @@ use native.Mathlib.Omega.{arith}
 use lib.Dec.{ltb, leb, eqb}
 use lib.ListN.{length, getD}
 use borrow.Author.Tests.{lt-ltb, le-ltb, ltb-true, leb-true, eqb-true, le-leb, eq-eqb}
-use Rattle.path.specs.Geometry.{Granule, Sane, entries, physical}
+use Rattle.path.specs.Geometry.{Granule, Sane, entries, goodLevels, physical}
 use Rattle.path.specs.Areas.{Area, areaOf, total}
 use Rattle.path.specs.Numbers.{mostTables, GoodSetup}
 use Rattle.path.specs.Paths.{pathOf}
+use Rattle.path.specs.Laws.{good-levels, levels-some}
 use Rattle.path.specs.declared.Setup.{Setup}
 use Rattle.entry.specs.Words.{entryAt}
 use Rattle.entry.specs.Laws.{and-true}
@@ -45,7 +46,8 @@ module _ (G : Granule) (ws : List ℕ) (area : Area) (way : List ℕ) where
 -- the numbers that a walk may be made by, as facts
 pub record CanWalk (G : Granule) (s : Setup) (words target : ℕ) : Type 0 where
   pub low : s .base ≤ physical
-  pub short : s .levels ≤ 4
+  pub enough : G .fewest ≤ s .levels
+  pub not-more : s .levels ≤ G .most
   pub above : target < s .levels
   pub some-table : 1 ≤ total (areaOf s)
   pub few : total (areaOf s) ≤ mostTables
@@ -56,13 +58,14 @@ module _ {G : Granule} {s : Setup} {words target : ℕ} where
   unfolding canWalk
   can-walk e =
       let (a, e₁) = and-true (leb (s .base) physical) _ e in
-      let (b, e₂) = and-true (leb (s .levels) 4) _ e₁ in
+      let (b, e₂) = and-true (goodLevels G (s .levels)) _ e₁ in
       let (c, e₃) = and-true (ltb target (s .levels)) _ e₂ in
       let (d, e₄) = and-true (leb 1 (total (areaOf s))) _ e₃ in
       let (f, g) = and-true (leb (total (areaOf s)) mostTables) _ e₄ in
       record {
         low = leb-true (s .base) physical a;
-        short = leb-true (s .levels) 4 b;
+        enough = good-levels G (s .levels) b .0;
+        not-more = good-levels G (s .levels) b .1;
         above = ltb-true target (s .levels) c;
         some-table = leb-true 1 (total (areaOf s)) d;
         few = leb-true (total (areaOf s)) mostTables f;
@@ -74,7 +77,7 @@ module _ {G : Granule} {s : Setup} {words target : ℕ} where
   walk-can c =
       rw (
         le-leb (s .base) physical (c .low),
-        le-leb (s .levels) 4 (c .short),
+        levels-some G (c .enough) (c .not-more),
         lt-ltb target (s .levels) (c .above),
         le-leb 1 (total (areaOf s)) (c .some-table),
         le-leb (total (areaOf s)) mostTables (c .few),
@@ -103,7 +106,8 @@ module _ (G : Granule) (s : Setup) (ws : List ℕ) (target a : ℕ) where
       → walkIf G s ws target a ≡ walkTo G (pool s ws cut list) target a
   reach-good S g l = walk-if (walk-can (record {
     low = omega (arith, g);
-    short = omega (arith, S, g);
+    enough = omega (arith, g);
+    not-more = omega (arith, g);
     above = omega (arith, S, g);
     some-table = omega (arith, g);
     few = omega (arith, g);

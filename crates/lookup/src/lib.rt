@@ -6,7 +6,7 @@ ghost use mathlib.Core.Path.{_≡_};
 ghost use mathlib.Core.List.{_++_};
 ghost use Prim.Native.Nat.{_/_, _%_, _≤_, _<_};
 ghost use lib.ListN.{length};
-ghost use Rattle.path.specs.Geometry.{four};
+ghost use Rattle.path.specs.Geometry.{granuleOf};
 ghost use Rattle.path.specs.Areas.{areaAt, areaOf};
 ghost use Rattle.path.specs.Paths.{pathOf};
 ghost use Rattle.model.specs.Walk.{slot, atHeight, stop, walkFrom};
@@ -26,6 +26,7 @@ fn ended(entry: Entry, left: usize, tables: [u32; 4]) -> Walked
 
 // From table t, whose entries have this height, down to the target height or to an entry that is not a table. `above` holds the tables above t.
 fn descend(
+    granule: u64,
     words: &[u64],
     second: &[u64],
     base: u64,
@@ -39,18 +40,14 @@ fn descend(
     t: u32,
 ) -> Walked
     requires { ⌜ height ≤ 3 ⌝ }
-    ensures { λ r. ⌜ r ≡ walkFrom four (now (words .entry) ++ now (second .entry)) (areaAt base tables base2 tables2) target path height above t ⌝ }
+    ensures { λ r. ⌜ r ≡ walkFrom (granuleOf granule) (now (words .entry) ++ now (second .entry)) (areaAt base tables base2 tables2) target path height above t ⌝ }
 {
     let at = 3 - height;
     let i = path[at];
     let mut way = above;
     way[at] = t;
-    let w = pool::word(
-        words,
-        second,
-        (path::ENTRIES * (t as u64) + (i as u64)) as usize,
-    );
-    let e = entry::read_word(w, height, base, tables, base2, tables2);
+    let w = pool::word(words, second, pool::entry_place(granule, t, i));
+    let e = entry::read_word(granule, w, height, base, tables, base2, tables2);
     match e {
         Entry::Table(c) => {
             if height <= target {
@@ -61,6 +58,7 @@ fn descend(
                 return ended(Entry::Damaged, below, way);
             }
             descend(
+                granule,
                 words,
                 second,
                 base,
@@ -82,6 +80,7 @@ fn descend(
 
 // From the root, whose entries have the height `top`, down to the target height or to an entry that is not a table. No tree is higher than 3.
 fn walk(
+    granule: u64,
     words: &[u64],
     second: &[u64],
     base: u64,
@@ -92,13 +91,14 @@ fn walk(
     path: [u16; 4],
     top: usize,
 ) -> Walked
-    ensures { λ r. ⌜ r ≡ walkOf four (now (words .entry) ++ now (second .entry)) (areaAt base tables base2 tables2) target path top ⌝ }
+    ensures { λ r. ⌜ r ≡ walkOf (granuleOf granule) (now (words .entry) ++ now (second .entry)) (areaAt base tables base2 tables2) target path top ⌝ }
 {
     let none = [0u32; 4];
     if top > 3 {
         return ended(Entry::Damaged, top, none);
     }
     descend(
+        granule,
         words,
         second,
         base,
@@ -115,7 +115,7 @@ fn walk(
 
 // The walk to a height for an address. Setup numbers that no pool has are damage.
 pub fn walk_to(s: Setup, words: &[u64], second: &[u64], target: usize, address: u64) -> Walked
-    ensures { λ r. ⌜ r ≡ walkBy four s (now (words .entry) ++ now (second .entry)) target address ⌝ }
+    ensures { λ r. ⌜ r ≡ walkBy (granuleOf (s .granule)) s (now (words .entry) ++ now (second .entry)) target address ⌝ }
 {
     let levels = s.levels;
     let tables = s.tables;
@@ -132,6 +132,7 @@ pub fn walk_to(s: Setup, words: &[u64], second: &[u64], target: usize, address: 
     }
     let top = (levels - 1) as usize;
     walk(
+        s.granule,
         words,
         second,
         s.base,
@@ -139,19 +140,19 @@ pub fn walk_to(s: Setup, words: &[u64], second: &[u64], target: usize, address: 
         s.base2,
         tables2 as u16,
         target,
-        path::path_of(address),
+        path::path_of(s.granule, address),
         top,
     )
 }
 
 // Whether `reach` walks by these numbers.
 fn walkable(s: Setup, words: u64, target: usize) -> bool
-    ensures { λ r. ⌜ r ≡ canWalk four s words target ⌝ }
+    ensures { λ r. ⌜ r ≡ canWalk (granuleOf (s .granule)) s words target ⌝ }
 {
     if s.base > path::PHYSICAL {
         return false;
     }
-    if s.levels > 4 {
+    if !path::good_levels(s.granule, s.levels) {
         return false;
     }
     if target as u64 >= s.levels {
@@ -167,7 +168,7 @@ fn walkable(s: Setup, words: u64, target: usize) -> bool
     if tables < 1 {
         return false;
     }
-    words == path::ENTRIES * tables
+    words == path::entries_of(s.granule) * tables
 }
 
 // The same walk as a loop over the heights, for the calls whose speed shows. Answers four times the place of the last entry among the words, plus the entry's
@@ -181,10 +182,10 @@ pub fn reach(
     address: u64,
     way: &mut [u32; 4],
 ) -> u64
-    ensures end { λ r. ⌜ endOf four (now (words .entry) ++ now (second .entry)) (areaOf s) r (now (way .exit))
-        ≡ walkIf four s (now (words .entry) ++ now (second .entry)) target address ⌝ }
+    ensures end { λ r. ⌜ endOf (granuleOf (s .granule)) (now (words .entry) ++ now (second .entry)) (areaOf s) r (now (way .exit))
+        ≡ walkIf (granuleOf (s .granule)) s (now (words .entry) ++ now (second .entry)) target address ⌝ }
     ensures place { λ r. ⌜ (r / 4 < length (now (words .entry) ++ now (second .entry))
-        → r / 4 ≡ slot four (atHeight (now (way .exit)) (r % 4)) (atHeight (pathOf four address) (r % 4))) ⌝ }
+        → r / 4 ≡ slot (granuleOf (s .granule)) (atHeight (now (way .exit)) (r % 4)) (atHeight (pathOf (granuleOf (s .granule)) address) (r % 4))) ⌝ }
 {
     let all = (words.len() + second.len()) as u64;
     let past = 4 * all;
@@ -192,6 +193,8 @@ pub fn reach(
     if !walkable(s, all, target) {
         return past;
     }
+    let tables = s.tables as u16;
+    let tables2 = s.tables2 as u16;
     let mut t: u32 = 0;
     let mut up: u32 = 0;
     let mut h: usize = 4;
@@ -199,14 +202,14 @@ pub fn reach(
         h -= 1;
         if (h as u64) < s.levels {
             way[3 - h] = t;
-            let i = path::index_at(address, h);
-            let place = path::ENTRIES * (t as u64) + (i as u64);
-            let end = 4 * place + (h as u64);
+            let i = path::index_at(s.granule, address, h);
+            let place = pool::entry_place(s.granule, t, i);
+            let end = 4 * (place as u64) + (h as u64);
             if h == target {
                 return end;
             }
-            let w = pool::word(words, second, place as usize);
-            let child = entry::child_in(w, s.base, s.tables as u16, s.base2, s.tables2 as u16);
+            let w = pool::word(words, second, place);
+            let child = entry::child_in(s.granule, w, s.base, tables, s.base2, tables2);
             if child == 0 {
                 return end;
             }

@@ -9,7 +9,7 @@ ghost use mathlib.Core.Bool.{true};
 ghost use mathlib.Core.List.{_++_};
 ghost use Prim.Native.Nat.{ℕ, _+_, _-_, _≤_};
 ghost use lib.ListN.{length};
-ghost use Rattle.path.specs.Geometry.{four, physical, heightOf};
+ghost use Rattle.path.specs.Geometry.{granuleOf, physical, heightOf};
 ghost use Rattle.path.specs.Areas.{areaAt, areaOf};
 ghost use Rattle.path.specs.Numbers.{goodSetup};
 ghost use Rattle.entry.specs.Words.{frameWord};
@@ -24,23 +24,24 @@ ghost use Rattle.maps.specs.Parts.{metBy, mapFrom};
 
 // Map's tests 2 to 5 and then 11, or 0, for a size of this height.
 fn map_tests(s: Setup, address: u64, frame: u64, size: u64, height: usize, attributes: u64) -> u64
-    requires { ⌜ height ≡ heightOf four size ⌝ }
-    ensures { λ r. ⌜ r ≡ mapTests four (s .levels) (areaOf s) address frame size attributes ⌝ }
+    requires { ⌜ height ≡ heightOf (granuleOf (s .granule)) size ⌝ }
+    ensures { λ r. ⌜ r ≡ mapTests (granuleOf (s .granule)) (s .levels) (areaOf s) address frame size attributes ⌝ }
 {
-    if height > 2 {
+    let large = path::large_of(s.granule);
+    if height > large {
         return 2;
     }
     if attributes > 15 {
         return 3;
     }
-    if !path::in_space(s.levels, address, size) {
+    if !path::in_space(s.granule, s.levels, address, size) {
         return 4;
     }
     if frame > path::PHYSICAL - size {
         return 4;
     }
-    let rest = path::rest_at(address, height) + path::rest_at(frame, height);
-    let met = path::meets_area(s.base, s.tables, s.base2, s.tables2, frame, size);
+    let rest = path::rest_at(s.granule, address, height) + path::rest_at(s.granule, frame, height);
+    let met = path::meets_area(s.granule, s.base, s.tables, s.base2, s.tables2, frame, size);
     if rest != 0 {
         return 5;
     }
@@ -80,6 +81,7 @@ fn may_take(list: &[u32], tables: u32, way: [u32; 4], free: usize, need: usize) 
 // The writes of a map: each missing table is taken from the end of the free list, top first, filled with zeros and then linked; the frame's word comes
 // last.
 fn map_plan(
+    granule: u64,
     base: u64,
     tables: u16,
     base2: u64,
@@ -92,7 +94,7 @@ fn map_plan(
     need: usize,
 ) -> [Step; plans::STEPS]
     requires { ⌜ ((base ≤ physical) × (base2 ≤ physical)) × ((height + need ≤ 3) × (need ≤ free)) ⌝ }
-    ensures { λ r. ⌜ ((m : ℕ) → planned r ≡ mapWrites four (areaAt base tables base2 m) path (now (list .entry)) height word table free need) ⌝ }
+    ensures { λ r. ⌜ ((m : ℕ) → planned r ≡ mapWrites (granuleOf granule) (areaAt base tables base2 m) path (now (list .entry)) height word table free need) ⌝ }
 {
     let mut plan = [Step::Nothing; plans::STEPS];
     let mut t = table;
@@ -100,15 +102,15 @@ fn map_plan(
     while i < need {
         let c = pool::place(list, free - 1 - i);
         let at = 3 - (height + need - i);
-        let place = plans::entry_place(t, path[at]);
-        let value = entry::table_word(base, tables, base2, c);
+        let place = pool::entry_place(granule, t, path[at]);
+        let value = entry::table_word(granule, base, tables, base2, c);
         plan[2 * i] = Step::Wipe { table: c };
         plan[2 * i + 1] = Step::Store { place, value };
         t = c;
         i += 1;
     }
     let at = 3 - height;
-    let place = plans::entry_place(t, path[at]);
+    let place = pool::entry_place(granule, t, path[at]);
     plan[2 * need] = Step::Store { place, value: word };
     plan
 }
@@ -135,10 +137,10 @@ fn map_empty(
     way: [u32; 4],
     left: usize,
 ) -> Mapped
-    requires { ⌜ (goodSetup four s (length (now words)) (length (now words ++ now second)) (length (now list)) ≡ true) × ((height ≤ left) × (left ≤ 3)) ⌝ }
+    requires { ⌜ (goodSetup (granuleOf (s .granule)) s (length (now words)) (length (now words ++ now second)) (length (now list)) ≡ true) × ((height ≤ left) × (left ≤ 3)) ⌝ }
     ensures { λ r. ⌜ ((b k : ℕ) → word ≡ frameWord b height k
         → mapDid r (now (words .exit)) (now (second .exit)) (now (list .entry))
-        ≡ mapHere four (pool s (now (words .entry) ++ now (second .entry)) (length (now (words .entry))) (now (list .entry))) address b height k (stop Empty left way) (left - height)) ⌝ }
+        ≡ mapHere (granuleOf (s .granule)) (pool s (now (words .entry) ++ now (second .entry)) (length (now (words .entry))) (now (list .entry))) address b height k (stop Empty left way) (left - height)) ⌝ }
 {
     let need = left - height;
     let free = s.free as usize;
@@ -148,9 +150,10 @@ fn map_empty(
     if !may_take(list, (s.tables + s.tables2) as u32, way, free, need) {
         return map_refused(8, s);
     }
-    let path = path::path_of(address);
+    let path = path::path_of(s.granule, address);
     let at = 3 - left;
     let plan = map_plan(
+        s.granule,
         s.base,
         s.tables as u16,
         s.base2,
@@ -162,7 +165,7 @@ fn map_empty(
         free,
         need,
     );
-    plans::write_words(words, second, plan);
+    plans::write_words(s.granule, words, second, plan);
     let rest = (free - need) as u64;
     Mapped {
         answer: MapAnswer::Taken(need as u64),
@@ -172,7 +175,7 @@ fn map_empty(
 
 // The refusal of a map whose walk does not end at an empty entry: 8 for damage, 6 for a table or a frame.
 fn met(s: Setup, words: &[u64], second: &[u64], height: usize, address: u64) -> u64
-    ensures { λ r. ⌜ r ≡ metBy (walkBy four s (now (words .entry) ++ now (second .entry)) height address .entry) ⌝ }
+    ensures { λ r. ⌜ r ≡ metBy (walkBy (granuleOf (s .granule)) s (now (words .entry) ++ now (second .entry)) height address .entry) ⌝ }
 {
     let o = lookup::walk_to(s, words, second, height, address);
     let e = o.entry;
@@ -194,10 +197,10 @@ fn map_walk(
     height: usize,
     word: u64,
 ) -> Mapped
-    requires { ⌜ (goodSetup four s (length (now words)) (length (now words ++ now second)) (length (now list)) ≡ true) × (height ≤ 2) ⌝ }
+    requires { ⌜ (goodSetup (granuleOf (s .granule)) s (length (now words)) (length (now words ++ now second)) (length (now list)) ≡ true) × (height ≤ granuleOf (s .granule) .large) ⌝ }
     ensures { λ r. ⌜ ((b k : ℕ) → word ≡ frameWord b height k
         → mapDid r (now (words .exit)) (now (second .exit)) (now (list .entry))
-        ≡ mapFrom four (pool s (now (words .entry) ++ now (second .entry)) (length (now (words .entry))) (now (list .entry))) address b height k) ⌝ }
+        ≡ mapFrom (granuleOf (s .granule)) (pool s (now (words .entry) ++ now (second .entry)) (length (now (words .entry))) (now (list .entry))) address b height k) ⌝ }
 {
     let mut way = [0u32; 4];
     let end = lookup::reach(s, &words[..], &second[..], height, address, &mut way);
@@ -232,12 +235,12 @@ pub fn map(
     attributes: u64,
 ) -> Mapped
     ensures { λ r. ⌜ mapDid r (now (words .exit)) (now (second .exit)) (now (list .entry))
-        ≡ mapW four (pool s (now (words .entry) ++ now (second .entry)) (length (now (words .entry))) (now (list .entry))) address frame size attributes ⌝ }
+        ≡ mapW (granuleOf (s .granule)) (pool s (now (words .entry) ++ now (second .entry)) (length (now (words .entry))) (now (list .entry))) address frame size attributes ⌝ }
 {
     if !path::good_setup(s, words.len(), second.len(), list.len()) {
         return map_refused(1, s);
     }
-    let height = path::height_of(size);
+    let height = path::height_of(s.granule, size);
     let no = map_tests(s, address, frame, size, height, attributes);
     if no != 0 {
         return map_refused(no, s);

@@ -6,12 +6,13 @@ use mathlib.Core.Bool.{Bool, true, false, cond, and-eq-true-iff}
 use mathlib.Core.List.{List, [], _∷_, _++_}
 use native.Mathlib.Nat.{mul-add}
 use native.Mathlib.Omega.{arith}
+use lib.Dec.{eqb}
 use lib.ListN.{length, set, take, drop, replicate, length-append, length-replicate, length-drop, take-append-drop}
 use lib.Seq.{length-take-le, drop-drop}
 use borrow.Author.Tests.{ltb-true}
 use Rattle.laws.specs.Lists.{down}
 use Rattle.laws.specs.ListLaws.{length-down, set-later, down-more}
-use Rattle.path.specs.Geometry.{Granule, Sane, entries, sizeAt}
+use Rattle.path.specs.Geometry.{Granule, Sane, pageSize, entries, sizeAt}
 use Rattle.path.specs.Areas.{Area, areaOf, oneRegion, total}
 use Rattle.path.specs.Numbers.{goodAdding, GoodAdding, GoodSetup}
 use Rattle.path.specs.Laws.{good-adding}
@@ -70,7 +71,7 @@ module _ (G : Granule) (p : Pool) (q m : ℕ)
       ∙ omega (arith, front-long, length-append new (drop (f + m) (p .list)), new-long, length-drop (f + m) (p .list), g .numbers .places-are, g .one-yet .1)
 
   pub grown-good : GoodSetup G (grown G p q m .numbers) (grown G p q m .cut) (length (grown G p q m .words)) (length (grown G p q m .list))
-  grown-good = record { numbers = rw (grown-words, grown-places) (g .numbers); room = omega (arith, g .one-yet .1) }
+  grown-good = record { granule-is = refl; numbers = rw (grown-words, grown-places) (g .numbers); room = omega (arith, g .one-yet .1) }
 
 -- one place more: with i of the new numbers appended, the next makes it one more
 pub append-more : (n m f i : ℕ) (l : List ℕ) → i < m → f + m ≤ length l
@@ -138,7 +139,8 @@ module _ (G : Granule) (p : Pool) (q m : ℕ) {no : ℕ} (e : no ≡ addTests G 
 pub may-add : (G : Granule) (p : Pool) (q m : ℕ) → goodAdd G p q m ≡ true
     → GoodAdding G (p .numbers .levels) (areaOf (p .numbers)) q m (p .cut) (length (p .words)) (length (p .list)) × (p .numbers .free < total (areaOf (p .numbers)))
 may-add G p q m e =
-    let (g, r) = and-eq-true-iff (goodAdding G (p .numbers .levels) (areaOf (p .numbers)) q m (p .cut) (length (p .words)) (length (p .list))) _ .0 e in
+    let (_, b) = and-eq-true-iff (eqb (p .numbers .granule) (pageSize G)) _ .0 e in
+    let (g, r) = and-eq-true-iff (goodAdding G (p .numbers .levels) (areaOf (p .numbers)) q m (p .cut) (length (p .words)) (length (p .list))) _ .0 b in
     (good-adding g, ltb-true (p .numbers .free) (total (areaOf (p .numbers))) r)
 
 -- words that agree on the tables of the area

@@ -3,10 +3,10 @@
 use Prim.Native.Nat.{ℕ, _+_, _*_}
 use mathlib.Core.Bool.{Bool, cond, _&&_}
 use mathlib.Core.List.{List, _++_}
-use lib.Dec.{ltb}
+use lib.Dec.{ltb, eqb}
 use lib.ListN.{length, take, drop, replicate}
 use Rattle.laws.specs.Lists.{down, distinct}
-use Rattle.path.specs.Geometry.{Granule, entries}
+use Rattle.path.specs.Geometry.{Granule, pageSize, entries}
 use Rattle.path.specs.Areas.{Area, areaOf, oneRegion, withSecond, total}
 use Rattle.path.specs.Numbers.{setupOf, goodAdding}
 use Rattle.model.specs.Answers.{added, Pool, pool, Done, done, refuse}
@@ -20,8 +20,9 @@ lent p second rest = pool (p .numbers) (take (p .cut) (p .words) ++ second) (p .
 -- tested against the old limit
 abbrev pub goodAdd : Granule → Pool → ℕ → ℕ → Bool
 goodAdd G p q m =
-    goodAdding G (p .numbers .levels) (areaOf (p .numbers)) q m (p .cut) (length (p .words)) (length (p .list))
-    && ltb (p .numbers .free) (total (areaOf (p .numbers)))
+    eqb (p .numbers .granule) (pageSize G)
+    && (goodAdding G (p .numbers .levels) (areaOf (p .numbers)) q m (p .cut) (length (p .words)) (length (p .list))
+    && ltb (p .numbers .free) (total (areaOf (p .numbers))))
 
 -- every reachable word is sound, and no table is reached twice: else refusal 8. The words are read under the old setup.
 abbrev pub soundTree : Found → Bool
@@ -34,7 +35,7 @@ appended n m f list = take f list ++ (take m (down (n + m)) ++ drop (f + m) list
 -- what an accepted add leaves: the new region in the setup, the second run all zeros, its tables at the end of the free list, highest number first
 abbrev pub grown : Granule → Pool → ℕ → ℕ → Pool
 grown G p q m =
-    pool (setupOf (p .numbers .levels) (withSecond (areaOf (p .numbers)) q m) (p .numbers .free + m))
+    pool (setupOf G (p .numbers .levels) (withSecond (areaOf (p .numbers)) q m) (p .numbers .free + m))
     (take (p .cut) (p .words) ++ replicate (entries G * m) 0)
     (p .cut)
     (appended (p .numbers .tables) m (p .numbers .free) (p .list))

@@ -94,7 +94,7 @@ saysAudit (A.Sound t m) = audited t m
 saysAudit (A.Refused k) = refused k
 
 -- Setup numbers, table words and free list. The words are the two lent runs put together, the first and then the second, so that table t's stand from
--- place 512 × t on whichever region it is in; `cut` is how many of them are the first run's.
+-- place entries × t on whichever region it is in; `cut` is how many of them are the first run's.
 pub record Pool : Type 0 where
   pub numbers : Setup
   pub words : List ℕ

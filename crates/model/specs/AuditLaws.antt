@@ -389,7 +389,7 @@ down-front (suc n) =
 
 module _ (G : Granule) (levels : ℕ) (area : Area) (n k c : ℕ) (is : total area ≡ suc n) where
   abbrev fresh : Pool
-  fresh = pool (setupOf levels area n) (replicate k 0) c (down (suc n))
+  fresh = pool (setupOf G levels area n) (replicate k 0) c (down (suc n))
 
   all-empty : (t : ℕ) → EmptyTable G (replicate k 0) t
   all-empty t i l = allZero-at (replicate k 0) (allZero-replicate k) (slot G t i)
@@ -413,7 +413,7 @@ module _ (G : Granule) (levels : ℕ) (area : Area) (n k c : ℕ) (is : total ar
   fresh-good {places} N =
       let w : length (blanks k) ≡ k = length-replicate k 0 in
       let l : length (down (suc n)) ≡ places = length-down (suc n) ∙ sym is ∙ sym (N .places-are) in
-      setup-good (record { numbers = rw (w, l) N; room = omega (arith, is) })
+      setup-good (record { granule-is = refl; numbers = rw (w, l) N; room = omega (arith, is) })
     where
       blanks : ℕ → List ℕ
       blanks k = replicate k 0
@@ -426,14 +426,14 @@ unfolding formatW
 format-audit G levels area ws cut list = go (goodNumbers G levels area cut (length ws) (length list)) refl
   where
     left : (n : ℕ) → total area ≡ n → GoodNumbers G levels area cut (length ws) (length list)
-        → auditW G (pool (setupOf levels area (n - 1)) (replicate (length ws) 0) cut (down n)) ≡ audited 1 0
+        → auditW G (pool (setupOf G levels area (n - 1)) (replicate (length ws) 0) cut (down n)) ≡ audited 1 0
     left zero e N = absurd (omega (arith, e, N .some-table))
     left (suc n) e N = rw (sub-one (suc n)) (fresh-audit G levels area n (length ws) cut e (fresh-good G levels area n (length ws) cut e N))
 
     answered : Bool → Done
     answered b =
         cond b
-        (done formatted (pool (setupOf levels area (total area - 1)) (replicate (length ws) 0) cut (down (total area))))
+        (done formatted (pool (setupOf G levels area (total area - 1)) (replicate (length ws) 0) cut (down (total area))))
         (refuse 1 (pool noSetup ws cut list))
 
     go : (b : Bool) → goodNumbers G levels area cut (length ws) (length list) ≡ b

@@ -5,7 +5,7 @@ use mathlib.Core.List.{List, [], _∷_}
 use lib.Dec.{ltb, leb, eqb}
 use lib.ListN.{length, replicate}
 use Rattle.laws.specs.Lists.{down}
-use Rattle.path.specs.Geometry.{Granule, pageSize, sizeAt, physical, spaceOf, heightOf}
+use Rattle.path.specs.Geometry.{Granule, goodGranule, granuleOf, pageSize, sizeAt, physical, spaceOf, heightOf}
 use Rattle.path.specs.Areas.{Area, areaOf, total, meetsArea}
 use Rattle.path.specs.Numbers.{noSetup, setupOf, withFree, goodNumbers, goodSetup}
 use Rattle.path.specs.Paths.{baseAt, pathOf}
@@ -36,8 +36,13 @@ walkTo G p target a =
 unfoldable pub formatW : Granule → ℕ → Area → List ℕ → ℕ → List ℕ → Done
 formatW G levels area ws cut list =
     cond (goodNumbers G levels area cut (length ws) (length list))
-    (done formatted (pool (setupOf levels area (total area - 1)) (replicate (length ws) 0) cut (down (total area))))
+    (done formatted (pool (setupOf G levels area (total area - 1)) (replicate (length ws) 0) cut (down (total area))))
     (refuse 1 (pool noSetup ws cut list))
+
+-- the same where the granule is a number: 1 for one that names none
+unfoldable pub formatN : ℕ → ℕ → Area → List ℕ → ℕ → List ℕ → Done
+formatN number levels area ws cut list =
+    cond (goodGranule number) (formatW (granuleOf number) levels area ws cut list) (refuse 1 (pool noSetup ws cut list))
 
 -- Query: the entry where the walk to the last level ends; an empty one is a hole of its region
 unfoldable pub foundAt : Granule → ℕ → Entry → ℕ → Answer

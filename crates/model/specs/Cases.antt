@@ -1,12 +1,12 @@
 -- Document 01's eleven cases, as one statement over the definitions: the calls over a pool and over a ledger, each on what the last one left. The holes of
--- request 2 stand beside them, and the story of request 6.
+-- request 2 stand beside them, and the story of request 6; then the like of them with the 16 KiB granule of request 11.
 use Prim.Native.Nat.{ℕ, _+_, _-_, _*_}
 use mathlib.Core.Path.{_≡_, refl}
 use mathlib.Core.Bool.{true}
 use mathlib.Core.List.{[], _∷_}
 use lib.ListN.{getD, set, replicate}
 use Rattle.laws.specs.Lists.{down, part, zeroed, allZero, among, distinct}
-use Rattle.path.specs.Geometry.{four, sizeAt, goodLevels, spaceOf, seek, heightOf}
+use Rattle.path.specs.Geometry.{Granule, four, sixteen, granuleOf, pageSize, entries, sizeAt, goodLevels, spaceOf, seek, heightOf}
 use Rattle.path.specs.Areas.{oneRegion, tableAt, meetsRegion, meetsArea}
 use Rattle.path.specs.Numbers.{goodArea, goodNumbers, goodSetup, goodAdding}
 use Rattle.path.specs.Paths.{indexAt, baseAt, indices, pathOf}
@@ -14,7 +14,7 @@ use Rattle.entry.specs.Words.{typeAt, frameWord, tableWord, namedIn, childAt, f
 use Rattle.model.specs.Answers.{Mapping, mapping, Answer, formatted, added, took, gave, found, refused, hole, pool, Done, done, refuse}
 use Rattle.model.specs.Walk.{onward, walkFrom}
 use Rattle.model.specs.Writes.{performAll, mapWrites, mayTake, onlyEntry, freed, pruneWrites}
-use Rattle.model.specs.Calls.{formatW, foundAt, queryW, mapTests, mapHere, mapAt, mapW, unmapTests, unmapHere, unmapAt, unmapW}
+use Rattle.model.specs.Calls.{formatW, formatN, foundAt, queryW, mapTests, mapHere, mapAt, mapW, unmapTests, unmapHere, unmapAt, unmapW}
 use Rattle.model.specs.Audit.{ofEntries, ofTable, noneInside}
 use Rattle.model.specs.Adds.{lent, appended, addW}
 use Rattle.model.specs.Ledger.{Entered, entered, ledger, anyOverlap, coverOf, dropAt, regionsOf, hasRegion, newRegions, regionsNeeded, tablesNeeded, tablesLacking, freeTables, holeFrom, holeOf, formatL, addL, mapL, unmapOf, unmapL, queryL}
@@ -24,32 +24,46 @@ pub record Both : Type 0 where
   pub pool : Done
   pub ledger : Entered
 
--- a format, P = 0x40000000, n = 4, of memory and of a ledger that hold anything
-unfoldable pub format : ℕ → Both
-unfolding goodLevels goodArea goodNumbers down formatW formatL
-format levels =
+-- a format with a granule, P and n, of memory and of a ledger that hold anything
+unfoldable pub formatAt : Granule → ℕ → ℕ → ℕ → Both
+unfolding granuleOf goodLevels goodArea goodNumbers down formatW formatN formatL
+formatAt G levels base n =
     record {
-      pool = formatW four levels (oneRegion 0x40000000 4) (replicate 2048 7) 2048 (replicate 4 9);
-      ledger = formatL four (ledger 9 (oneRegion 9 4) (mapping 1 2 3 4 ∷ [])) levels (oneRegion 0x40000000 4);
+      pool = formatN (pageSize G) levels (oneRegion base n) (replicate (entries G * n) 7) (entries G * n) (replicate n 9);
+      ledger = formatL G (ledger 9 (oneRegion 9 n) (mapping 1 2 3 4 ∷ [])) levels (oneRegion base n);
     }
+
+-- with 4 KiB, P = 0x40000000 and n = 4
+abbrev pub format : ℕ → Both
+format levels = formatAt four levels 0x40000000 4
 
 -- a map, and an unmap, of what a call left
-unfoldable pub map : Both → ℕ → ℕ → ℕ → ℕ → Both
+unfoldable pub mapAs : Granule → Both → ℕ → ℕ → ℕ → ℕ → Both
 unfolding goodSetup sizeAt spaceOf seek heightOf meetsRegion meetsArea mapTests indexAt indices pathOf typeAt frameWord tableAt tableWord namedIn childAt frameAt entryAt among onward walkFrom zeroed performAll mapWrites mayTake mapHere mapAt mapW baseAt anyOverlap regionsOf hasRegion newRegions regionsNeeded tablesNeeded tablesLacking freeTables mapL
-map B a b size k = record { pool = mapW four (B .pool .after) a b size k; ledger = mapL four (B .ledger .after) a b size k }
+mapAs G B a b size k = record { pool = mapW G (B .pool .after) a b size k; ledger = mapL G (B .ledger .after) a b size k }
 
-unfoldable pub unmap : Both → ℕ → Both
+unfoldable pub unmapAs : Granule → Both → ℕ → Both
 unfolding unmapTests part allZero onlyEntry freed pruneWrites unmapHere unmapAt unmapW coverOf dropAt holeFrom holeOf unmapOf unmapL
-unmap B a = record { pool = unmapW four (B .pool .after) a; ledger = unmapL four (B .ledger .after) a }
+unmapAs G B a = record { pool = unmapW G (B .pool .after) a; ledger = unmapL G (B .ledger .after) a }
 
 -- an add, with a second run and a longer list that hold anything
-unfoldable pub add : Both → ℕ → ℕ → Both
+unfoldable pub addAs : Granule → Both → ℕ → ℕ → Both
 unfolding goodAdding distinct noneInside ofEntries ofTable appended addW addL
-add B q m =
+addAs G B q m =
     record {
-      pool = addW four (lent (B .pool .after) (replicate (512 * m) 5) (replicate (2 + m - B .pool .after .numbers .free) 8)) q m;
-      ledger = addL four (B .ledger .after) q m (512 * m) (2 + m);
+      pool = addW G (lent (B .pool .after) (replicate (entries G * m) 5) (replicate (B .pool .after .numbers .tables + m - B .pool .after .numbers .free) 8)) q m;
+      ledger = addL G (B .ledger .after) q m (entries G * m) (B .ledger .after .area .tables + m);
     }
+
+-- the same with 4 KiB
+abbrev pub map : Both → ℕ → ℕ → ℕ → ℕ → Both
+map = mapAs four
+
+abbrev pub unmap : Both → ℕ → Both
+unmap = unmapAs four
+
+abbrev pub add : Both → ℕ → ℕ → Both
+add = addAs four
 
 -- The calls, numbered as the cases are.
 abbrev case1 : Both
@@ -97,10 +111,7 @@ case11b = map case11 0x8000000000 0x80000000 4096 3
 -- The customer's story of request 6: a pool of two tables is one short; a second region of two comes, and the map succeeds. n = 2 at 0x40000000, m = 2 at
 -- 0x50000000.
 abbrev short1 : Both
-short1 = record {
-  pool = formatW four 3 (oneRegion 0x40000000 2) (replicate 1024 7) 1024 (replicate 2 9);
-  ledger = formatL four (ledger 9 (oneRegion 9 2) []) 3 (oneRegion 0x40000000 2);
-}
+short1 = formatAt four 3 0x40000000 2
 
 abbrev short2 : Both
 short2 = map short1 0 0x80000000 4096 3
@@ -128,6 +139,46 @@ early =
 abbrev big : Both
 big = map short1 0 0x80000000 0x40000000 3
 
+-- The like with 16 KiB, P = 0x40000000 and n = 3: a page at 0, 32 MiB beside its table, the two go; and the last page of the space.
+abbrev large1 : Both
+large1 = formatAt sixteen 3 0x40000000 3
+
+abbrev large2 : Both
+large2 = mapAs sixteen large1 0 0x80000000 0x4000 3
+
+abbrev large3 : Both
+large3 = mapAs sixteen large2 0x2000000 0x82000000 0x2000000 3
+
+abbrev large4 : Both
+large4 = unmapAs sixteen large3 0
+
+abbrev large5 : Both
+large5 = unmapAs sixteen large4 0x2000000
+
+abbrev large6 : Both
+large6 = mapAs sixteen large1 0x7FFFFFFFC000 0x80000000 0x4000 3
+
+-- a second region of two tables, for a pool of one
+abbrev wide1 : Both
+wide1 = formatAt sixteen 3 0x40000000 1
+
+abbrev wide2 : Both
+wide2 = addAs sixteen wide1 0x50000000 2
+
+abbrev wide3 : Both
+wide3 = mapAs sixteen wide2 0 0x80000000 0x4000 3
+
+-- what a map, and an unmap, of that pool is refused with for its arguments, or 0
+abbrev mapFails : ℕ → ℕ → ℕ → ℕ
+mapFails a b size = mapTests sixteen 3 (oneRegion 0x40000000 3) a b size 3
+
+abbrev unmapFails : ℕ → ℕ
+unmapFails a = unmapTests sixteen 3 a
+
+-- format with a granule's number, of words and list of one table
+abbrev formatOne : ℕ → ℕ → ℕ → ℕ → Answer
+formatOne number levels base words = formatN number levels (oneRegion base 1) (replicate words 7) words (replicate 1 9) .answer
+
 -- both answer so
 abbrev Answers : Both → Answer → Type 0
 Answers B x = (B .pool .answer ≡ x) × (B .ledger .answer ≡ x)
@@ -141,12 +192,18 @@ abbrev Holes : Both → Both → ℕ → ℕ → Type 0
 Holes B C b s = (C .pool ≡ done (hole b s) (B .pool .after)) × (C .ledger ≡ entered (hole b s) (B .ledger .after))
 
 -- so many tables are free, by the setup number and by the ledger
+abbrev FreeAs : Granule → Both → ℕ → Type 0
+FreeAs G B f = (B .pool .after .numbers .free ≡ f) × (freeTables G (B .ledger .after) ≡ f)
+
 abbrev Free : Both → ℕ → Type 0
-Free B f = (B .pool .after .numbers .free ≡ f) × (freeTables four (B .ledger .after) ≡ f)
+Free = FreeAs four
 
 -- a query after a call
+abbrev FindsAs : Granule → Both → ℕ → Answer → Type 0
+FindsAs G B a x = (queryW G (B .pool .after) a ≡ x) × (queryL G (B .ledger .after) a ≡ x)
+
 abbrev Finds : Both → ℕ → Answer → Type 0
-Finds B a x = (queryW four (B .pool .after) a ≡ x) × (queryL four (B .ledger .after) a ≡ x)
+Finds = FindsAs four
 
 -- a word, and a place of the free list, after a call
 abbrev word : Both → ℕ → ℕ
@@ -244,9 +301,73 @@ pub record Cases : Type 0 where
   -- a live frame under the new region; a region right after it
   pub under-11 : Answers (add big 0xBFFFF000 2) (refused 11)
   pub after-frame : Answers (add big 0xC0000000 2) added
+  -- 16 KiB: format, and the hole of an empty pool: a root entry's region, 64 GiB; at the end of the space too
+  pub formats-16k : Answers large1 formatted
+  pub list-16k : large1 .pool .after .list ≡ 2 ∷ 1 ∷ 0 ∷ []
+  pub hole-16k : FindsAs sixteen large1 0 (hole 0 0x1000000000)
+  pub hole-16k-last : FindsAs sixteen large1 0x7FFFFFFFFFFF (hole 0x7FF000000000 0x1000000000)
+  -- a page takes two tables, of 64 GiB and of 32 MiB; the holes beside it
+  pub takes-16k : Answers large2 (took 2)
+  pub word-16k-0 : word large2 0 ≡ 0x40004003
+  pub word-16k-2048 : word large2 2048 ≡ 0x40008003
+  pub word-16k-4096 : word large2 4096 ≡ 0x00400000800007FF
+  pub hole-16k-page : FindsAs sixteen large2 0x7FFF (hole 0x4000 0x4000)
+  pub hole-16k-block : FindsAs sixteen large2 0x2001234 (hole 0x2000000 0x2000000)
+  pub hole-16k-root : FindsAs sixteen large2 0x1000000000 (hole 0x1000000000 0x1000000000)
+  -- 32 MiB takes one table, of 64 GiB, and none where that stands
+  pub takes-16k-one : Answers (mapAs sixteen large1 0x2000000 0x82000000 0x2000000 3) (took 1)
+  pub takes-16k-none : Answers large3 (took 0)
+  pub word-16k-2049 : word large3 2049 ≡ 0x00400000820007FD
+  pub finds-16k : FindsAs sixteen large3 0x2001234 (found (mapping 0x2000000 0x82000000 0x2000000 3))
+  -- a page inside it; a page that needs two tables more
+  pub taken-16k : Refuses large3 (mapAs sixteen large3 0x2004000 0x84000000 0x4000 3) 6
+  pub lacking-16k : Refuses large3 (mapAs sixteen large3 0x1000000000 0x84000000 0x4000 3) 7
+  -- an unmap inside it; the page goes with its table, then 32 MiB with the other
+  pub inside-16k : Refuses large3 (unmapAs sixteen large3 0x2004000) 10
+  pub gives-16k : Answers large4 (gave 0x80000000 0x4000 3 1)
+  pub gives-16k-block : Answers large5 (gave 0x82000000 0x2000000 3 1)
+  pub free-16k : FreeAs sixteen large5 2
+  pub root-16k : allZero (part (large5 .pool .after .words) 0 2048) ≡ true
+  -- the last page of the space, and the first past it
+  pub takes-16k-last : Answers large6 (took 2)
+  pub past-16k : mapFails 0x800000000000 0x80000000 0x4000 ≡ 4
+  -- its own two sizes and no other: not 4 KiB, 2 MiB or 1 GiB, and none in the root; 4 KiB does not have them
+  pub size-16k : mapFails 0x4000000 0x84000000 0x4000 ≡ 0
+  pub size-16k-32m : mapFails 0x4000000 0x84000000 0x2000000 ≡ 0
+  pub size-16k-4k : mapFails 0x4000000 0x84000000 0x1000 ≡ 2
+  pub size-16k-2m : mapFails 0x4000000 0x84000000 0x200000 ≡ 2
+  pub size-16k-1g : mapFails 0x40000000 0x80000000 0x40000000 ≡ 2
+  pub size-16k-64g : mapFails 0x1000000000 0x1000000000 0x1000000000 ≡ 2
+  pub size-4k-16k : mapTests four 3 (oneRegion 0x40000000 4) 0 0x80000000 0x4000 3 ≡ 2
+  pub size-4k-32m : mapTests four 3 (oneRegion 0x40000000 4) 0 0x80000000 0x2000000 3 ≡ 2
+  -- multiples of them
+  pub address-16k : mapFails 0x1000 0x84000000 0x4000 ≡ 5
+  pub frame-16k : mapFails 0x4000 0x84001000 0x4000 ≡ 5
+  pub unmap-16k : unmapFails 0x1000 ≡ 5
+  -- no frame in the tables; right after them one is fine
+  pub pool-16k : mapFails 0x4000 0x40008000 0x4000 ≡ 11
+  pub after-16k : mapFails 0x4000 0x4000C000 0x4000 ≡ 0
+  -- a second region, for a pool of one table
+  pub adds-16k : Answers wide2 added
+  pub adds-16k-low : Answers (addAs sixteen wide1 0x50001000 2) (refused 1)
+  pub takes-16k-wide : Answers wide3 (took 2)
+  pub word-16k-wide : word wide3 0 ≡ 0x50000003
+  pub word-16k-wide-2048 : word wide3 2048 ≡ 0x50004003
+  -- the granule's number, its levels, its alignment and its words
+  pub number-4k : formatOne 4096 3 0x40001000 512 ≡ formatted
+  pub number-16k : formatOne 16384 3 0x40004000 2048 ≡ formatted
+  pub number-64k : formatOne 65536 3 0x40000000 8192 ≡ refused 1
+  pub number-0 : formatOne 0 3 0x40000000 512 ≡ refused 1
+  pub levels-16k : formatOne 16384 4 0x40000000 2048 ≡ refused 1
+  pub aligned-16k : formatOne 16384 3 0x40001000 2048 ≡ refused 1
+  pub words-16k : formatOne 16384 3 0x40000000 512 ≡ refused 1
+  pub words-4k : formatOne 4096 3 0x40000000 2048 ≡ refused 1
+  -- a setup with the other granule's number
+  pub mixed-16k : queryW four (large1 .pool .after) 0 ≡ refused 1
+  pub mixed-4k : queryW sixteen (case1 .pool .after) 0 ≡ refused 1
 
 pub cases : Cases
-unfolding format map unmap add foundAt queryW queryL
+unfolding formatAt mapAs unmapAs addAs foundAt queryW queryL
 cases =
     record {
       formats = (refl, refl);
@@ -318,4 +439,56 @@ cases =
       early-8 = refl;
       under-11 = (refl, refl);
       after-frame = (refl, refl);
+      formats-16k = (refl, refl);
+      list-16k = refl;
+      hole-16k = (refl, refl);
+      hole-16k-last = (refl, refl);
+      takes-16k = (refl, refl);
+      word-16k-0 = refl;
+      word-16k-2048 = refl;
+      word-16k-4096 = refl;
+      hole-16k-page = (refl, refl);
+      hole-16k-block = (refl, refl);
+      hole-16k-root = (refl, refl);
+      takes-16k-one = (refl, refl);
+      takes-16k-none = (refl, refl);
+      word-16k-2049 = refl;
+      finds-16k = (refl, refl);
+      taken-16k = (refl, refl);
+      lacking-16k = (refl, refl);
+      inside-16k = (refl, refl);
+      gives-16k = (refl, refl);
+      gives-16k-block = (refl, refl);
+      free-16k = (refl, refl);
+      root-16k = refl;
+      takes-16k-last = (refl, refl);
+      past-16k = refl;
+      size-16k = refl;
+      size-16k-32m = refl;
+      size-16k-4k = refl;
+      size-16k-2m = refl;
+      size-16k-1g = refl;
+      size-16k-64g = refl;
+      size-4k-16k = refl;
+      size-4k-32m = refl;
+      address-16k = refl;
+      frame-16k = refl;
+      unmap-16k = refl;
+      pool-16k = refl;
+      after-16k = refl;
+      adds-16k = (refl, refl);
+      adds-16k-low = (refl, refl);
+      takes-16k-wide = (refl, refl);
+      word-16k-wide = refl;
+      word-16k-wide-2048 = refl;
+      number-4k = refl;
+      number-16k = refl;
+      number-64k = refl;
+      number-0 = refl;
+      levels-16k = refl;
+      aligned-16k = refl;
+      words-16k = refl;
+      words-4k = refl;
+      mixed-16k = refl;
+      mixed-4k = refl;
     }

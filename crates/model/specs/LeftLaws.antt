@@ -110,6 +110,7 @@ module _ (G : Granule) (p : Pool) where
 
 -- the setup numbers but the free count, the cut, and the lengths of the lent memory
 pub record Kept (p q : Pool) : Type 0 where
+  pub granule : q .numbers .granule ≡ p .numbers .granule
   pub levels : q .numbers .levels ≡ p .numbers .levels
   pub area : areaOf (q .numbers) ≡ areaOf (p .numbers)
   pub cut : q .cut ≡ p .cut
@@ -117,8 +118,9 @@ pub record Kept (p q : Pool) : Type 0 where
   pub places : length (q .list) ≡ length (p .list)
 
 pub leaves-kept : {G : Granule} {p q : Pool} → Leaves G p q → Kept p q
-leaves-kept as-it-was = record { levels = refl; area = refl; cut = refl; words = refl; places = refl }
+leaves-kept as-it-was = record { granule = refl; levels = refl; area = refl; cut = refl; words = refl; places = refl }
 leaves-kept {G} {p} (after-writes ws f room) = record {
+  granule = refl;
   levels = refl;
   area = refl;
   cut = refl;
@@ -134,6 +136,7 @@ leaves-room (after-writes ws f room) l = room l
 -- so a pool whose numbers and lengths are good is left so
 pub leaves-good : {G : Granule} {p q : Pool} → Leaves G p q → goodPool G p ≡ true → goodPool G q ≡ true
 leaves-good {G} {p} {q} L e = setup-good (record {
+  granule-is = K .granule ∙ S .granule-is;
   numbers = rw (K .levels, K .area, K .cut, K .words, K .places) (S .numbers);
   room = leaves-room L (S .room);
 })

@@ -18,6 +18,7 @@ pub mod RunLaws
 pub mod MappingLaws
 pub mod Descent
 pub mod DescentLaws
+pub mod GranuleLaws
 pub mod Refusals
 pub mod RefusalLaws
 pub mod LeftLaws

@@ -5,7 +5,7 @@ use mathlib.Core.Bool.{Bool, true, false, not}
 use mathlib.Core.List.{List, _++_}
 use borrow.Author.Tests.{not-false}
 use lib.ListN.{length, length-append}
-use Rattle.path.specs.Geometry.{four, sizeAt, atLevel}
+use Rattle.path.specs.Geometry.{Granule, sizeAt, atLevel}
 use Rattle.path.specs.Numbers.{goodSetup}
 use Rattle.path.specs.Paths.{baseAt}
 use Rattle.path.specs.Laws.{level-some}
@@ -22,12 +22,12 @@ passed e n = sym e ∙ not-false _ n
 
 -- the test of a pool's numbers, made of the lengths of its two runs
 pub good-both :
-    (s : Setup) (first second list : List ℕ) {r : Bool} → r ≡ goodSetup four s (length first) (length first + length second) (length list)
-    → r ≡ goodPool four (pool s (first ++ second) (length first) list)
-good-both s first second list e = e ∙ ap (λ (n : ℕ). goodSetup four s (length first) n (length list)) (sym (length-append first second))
+    (G : Granule) (s : Setup) (first second list : List ℕ) {r : Bool} → r ≡ goodSetup G s (length first) (length first + length second) (length list)
+    → r ≡ goodPool G (pool s (first ++ second) (length first) list)
+good-both G s first second list e = e ∙ ap (λ (n : ℕ). goodSetup G s (length first) n (length list)) (sym (length-append first second))
 
 -- the hole that code finds at a height
 pub hole-known :
-    (a h : ℕ) {b s : ℕ} → h < 4 → b ≡ atLevel four h (baseAt four a h) → s ≡ atLevel four h (sizeAt four h)
-    → hole b s ≡ hole (baseAt four a h) (sizeAt four h)
-hole-known a h l x y = rw (x ∙ level-some four l _, y ∙ level-some four l _)
+    (G : Granule) (a h : ℕ) {b s : ℕ} → h < G .most → b ≡ atLevel G h (baseAt G a h) → s ≡ atLevel G h (sizeAt G h)
+    → hole b s ≡ hole (baseAt G a h) (sizeAt G h)
+hole-known G a h l x y = rw (x ∙ level-some G l _, y ∙ level-some G l _)

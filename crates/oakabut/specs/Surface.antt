@@ -3,8 +3,8 @@ use Prim.Native.Nat.{ℕ}
 use mathlib.Core.List.{List, [], _∷_, _++_}
 use lib.ListN.{length, getD}
 use mathlib.Core.Path.{_≡_}
-use Rattle.path.specs.Areas.{areaAt}
-use Rattle.path.specs.Numbers.{setupOf}
+use Rattle.path.specs.Geometry.{Granule, granuleOf}
+use Rattle.path.specs.Numbers.{setup}
 use Rattle.path.specs.declared.Setup.{Setup}
 use Rattle.model.specs.Answers.{Answer, answered, refusal, Pool, pool, Done}
 
@@ -27,9 +27,13 @@ abbrev pub holedOf : (zeros : List ℕ) → Answer → List ℕ
 holedOf zeros (answered values) = values ++ (0 ∷ 0 ∷ [])
 holedOf zeros (refusal k values) = zeros ++ carriedOf values
 
--- the setup numbers in six places
+-- the setup numbers in seven places
 abbrev pub setupAt : List ℕ → Setup
-setupAt l = setupOf (getD l 0 0) (areaAt (getD l 1 0) (getD l 2 0) (getD l 4 0) (getD l 5 0)) (getD l 3 0)
+setupAt l = setup (getD l 0 0) (getD l 1 0) (getD l 2 0) (getD l 3 0) (getD l 4 0) (getD l 5 0) (getD l 6 0)
+
+-- the granule of such a setup
+abbrev pub granuleAt : List ℕ → Granule
+granuleAt l = granuleOf (getD l 6 0)
 
 -- the pool that a caller hands over: its setup numbers, the words of both runs, how many of them are the first's, and the list
 abbrev pub poolAt : (numbers words : List ℕ) (cut : ℕ) (list : List ℕ) → Pool
@@ -37,7 +41,7 @@ poolAt s w c l = pool (setupAt s) w c l
 
 -- places that begin with a setup
 abbrev pub after : Setup → List ℕ → List ℕ
-after s l = s .levels ∷ s .base ∷ s .tables ∷ s .free ∷ s .base2 ∷ s .tables2 ∷ l
+after s l = s .levels ∷ s .base ∷ s .tables ∷ s .free ∷ s .base2 ∷ s .tables2 ∷ s .granule ∷ l
 
 -- the places of each call's answer: of format and of an add,
 abbrev pub setupPlaces : Setup → Answer → List ℕ

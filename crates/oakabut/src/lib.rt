@@ -9,19 +9,18 @@ use path::Setup;
 ghost use mathlib.Core.Path.{_≡_};
 ghost use mathlib.Core.List.{[], _++_};
 ghost use lib.ListN.{length};
-ghost use Rattle.path.specs.Geometry.{four};
 ghost use Rattle.path.specs.Areas.{areaAt};
-ghost use Rattle.entry.specs.Host.{hostWord, hostMeaning};
+ghost use Rattle.entry.specs.Host.{sizedBy, hostWord, hostMeaning};
 ghost use Rattle.model.specs.Answers.{saysFormat, saysAdd, saysMap, saysUnmap, saysQuery, saysAudit};
-ghost use Rattle.model.specs.Calls.{formatW, mapW, unmapW, queryW};
+ghost use Rattle.model.specs.Calls.{formatN, mapW, unmapW, queryW};
 ghost use Rattle.model.specs.Adds.{addW};
 ghost use Rattle.model.specs.Audit.{auditW};
-ghost use Rattle.oakabut.specs.Surface.{setupAt, poolAt, after, setupPlaces, mapPlaces, unmapPlaces, queryPlaces, auditPlaces, Told, Left};
+ghost use Rattle.oakabut.specs.Surface.{setupAt, granuleAt, poolAt, after, setupPlaces, mapPlaces, unmapPlaces, queryPlaces, auditPlaces, Told, Left};
 
 // The entry word of a frame, or a refusal: 2, 3, 4 or 5.
 #[no_mangle]
 pub extern "C" fn oak_frame_word(base: u64, size: u64, attributes: u64) -> u64
-    ensures { λ r. ⌜ r ≡ hostWord four base size attributes ⌝ }
+    ensures { λ r. ⌜ r ≡ hostWord (sizedBy size) base size attributes ⌝ }
 {
     entry::frame_word(base, size, attributes)
 }
@@ -29,13 +28,13 @@ pub extern "C" fn oak_frame_word(base: u64, size: u64, attributes: u64) -> u64
 // The meaning of a word at a size: base + 16 + attributes, or a refusal: 2 or 8.
 #[no_mangle]
 pub extern "C" fn oak_word_meaning(word: u64, size: u64) -> u64
-    ensures { λ r. ⌜ r ≡ hostMeaning four word size ⌝ }
+    ensures { λ r. ⌜ r ≡ hostMeaning (sizedBy size) word size ⌝ }
 {
     entry::word_meaning(word, size)
 }
 
-// The setup numbers in six places.
-fn setup_at(s: &[u64; 6]) -> Setup
+// The setup numbers in seven places.
+fn setup_at(s: &[u64; 7]) -> Setup
     ensures { λ r. ⌜ r ≡ setupAt (now (s .entry)) ⌝ }
 {
     Setup {
@@ -45,18 +44,27 @@ fn setup_at(s: &[u64; 6]) -> Setup
         free: s[3],
         base2: s[4],
         tables2: s[5],
+        granule: s[6],
     }
 }
 
 // And back.
-fn setup_places(s: Setup) -> [u64; 6]
+fn setup_places(s: Setup) -> [u64; 7]
     ensures { λ r. ⌜ r ≡ after s [] ⌝ }
 {
-    [s.levels, s.base, s.tables, s.free, s.base2, s.tables2]
+    [
+        s.levels,
+        s.base,
+        s.tables,
+        s.free,
+        s.base2,
+        s.tables2,
+        s.granule,
+    ]
 }
 
 // Each answer of the page table becomes the returned number, which is 0 or the refusal, and the places of `answer`.
-fn formatted(a: FormatAnswer, s: Setup, answer: &mut [u64; 6]) -> u64
+fn formatted(a: FormatAnswer, s: Setup, answer: &mut [u64; 7]) -> u64
     ensures { λ r. ⌜ Told (saysFormat a) (setupPlaces s) r (now (answer .exit)) ⌝ }
 {
     *answer = setup_places(s);
@@ -66,7 +74,7 @@ fn formatted(a: FormatAnswer, s: Setup, answer: &mut [u64; 6]) -> u64
     }
 }
 
-fn added(a: AddAnswer, s: Setup, answer: &mut [u64; 6]) -> u64
+fn added(a: AddAnswer, s: Setup, answer: &mut [u64; 7]) -> u64
     ensures { λ r. ⌜ Told (saysAdd a) (setupPlaces s) r (now (answer .exit)) ⌝ }
 {
     *answer = setup_places(s);
@@ -76,20 +84,29 @@ fn added(a: AddAnswer, s: Setup, answer: &mut [u64; 6]) -> u64
     }
 }
 
-fn mapped(a: MapAnswer, s: Setup, answer: &mut [u64; 7]) -> u64
+fn mapped(a: MapAnswer, s: Setup, answer: &mut [u64; 8]) -> u64
     ensures { λ r. ⌜ Told (saysMap a) (mapPlaces s) r (now (answer .exit)) ⌝ }
 {
-    *answer = [s.levels, s.base, s.tables, s.free, s.base2, s.tables2, 0];
+    *answer = [
+        s.levels,
+        s.base,
+        s.tables,
+        s.free,
+        s.base2,
+        s.tables2,
+        s.granule,
+        0,
+    ];
     match a {
         MapAnswer::Taken(tables) => {
-            answer[6] = tables;
+            answer[7] = tables;
             0
         }
         MapAnswer::Refused(k) => k,
     }
 }
 
-fn unmapped(a: UnmapAnswer, s: Setup, answer: &mut [u64; 12]) -> u64
+fn unmapped(a: UnmapAnswer, s: Setup, answer: &mut [u64; 13]) -> u64
     ensures { λ r. ⌜ Told (saysUnmap a) (unmapPlaces s) r (now (answer .exit)) ⌝ }
 {
     *answer = [
@@ -99,6 +116,7 @@ fn unmapped(a: UnmapAnswer, s: Setup, answer: &mut [u64; 12]) -> u64
         s.free,
         s.base2,
         s.tables2,
+        s.granule,
         0,
         0,
         0,
@@ -113,15 +131,15 @@ fn unmapped(a: UnmapAnswer, s: Setup, answer: &mut [u64; 12]) -> u64
             attributes,
             tables,
         } => {
-            answer[6] = frame;
-            answer[7] = size;
-            answer[8] = attributes;
-            answer[9] = tables;
+            answer[7] = frame;
+            answer[8] = size;
+            answer[9] = attributes;
+            answer[10] = tables;
             0
         }
         UnmapAnswer::Hole { base, size } => {
-            answer[10] = base;
-            answer[11] = size;
+            answer[11] = base;
+            answer[12] = size;
             9
         }
         UnmapAnswer::Refused(k) => k,
@@ -175,15 +193,26 @@ pub extern "C" fn oak_format(
     tables: u64,
     base2: u64,
     tables2: u64,
+    granule: u64,
     words: &mut [u64],
     second: &mut [u64],
     list: &mut [u32],
-    answer: &mut [u64; 6],
+    answer: &mut [u64; 7],
 ) -> u64
-    ensures { λ r. ⌜ Left (formatW four levels (areaAt base tables base2 tables2) (now (words .entry) ++ now (second .entry)) (length (now (words .entry))) (now (list .entry)))
+    ensures { λ r. ⌜ Left (formatN granule levels (areaAt base tables base2 tables2) (now (words .entry) ++ now (second .entry)) (length (now (words .entry))) (now (list .entry)))
         setupPlaces r (now (answer .exit)) (now (words .exit)) (now (second .exit)) (now (list .exit)) ⌝ }
 {
-    let d = pagetable::format(levels, base, tables, base2, tables2, words, second, list);
+    let d = pagetable::format(
+        levels,
+        base,
+        tables,
+        base2,
+        tables2,
+        granule,
+        words,
+        second,
+        list,
+    );
     let a = d.answer;
     formatted(a, d.setup, answer)
 }
@@ -191,15 +220,15 @@ pub extern "C" fn oak_format(
 // Gives the pool a second region of tables, and answers its setup.
 #[no_mangle]
 pub extern "C" fn oak_add(
-    s: &[u64; 6],
+    s: &[u64; 7],
     words: &[u64],
     second: &mut [u64],
     list: &mut [u32],
     base2: u64,
     tables2: u64,
-    answer: &mut [u64; 6],
+    answer: &mut [u64; 7],
 ) -> u64
-    ensures { λ r. ⌜ Left (addW four (poolAt (now (s .entry)) (now (words .entry) ++ now (second .entry)) (length (now (words .entry))) (now (list .entry))) base2 tables2)
+    ensures { λ r. ⌜ Left (addW (granuleAt (now (s .entry))) (poolAt (now (s .entry)) (now (words .entry) ++ now (second .entry)) (length (now (words .entry))) (now (list .entry))) base2 tables2)
         setupPlaces r (now (answer .exit)) (now (words .entry)) (now (second .exit)) (now (list .exit)) ⌝ }
 {
     let d = pagetable::add(setup_at(s), words, second, list, base2, tables2);
@@ -210,7 +239,7 @@ pub extern "C" fn oak_add(
 // Maps a frame at an address, and answers the setup and how many tables it took.
 #[no_mangle]
 pub extern "C" fn oak_map(
-    s: &[u64; 6],
+    s: &[u64; 7],
     words: &mut [u64],
     second: &mut [u64],
     list: &[u32],
@@ -218,9 +247,9 @@ pub extern "C" fn oak_map(
     frame: u64,
     size: u64,
     attributes: u64,
-    answer: &mut [u64; 7],
+    answer: &mut [u64; 8],
 ) -> u64
-    ensures { λ r. ⌜ Left (mapW four (poolAt (now (s .entry)) (now (words .entry) ++ now (second .entry)) (length (now (words .entry))) (now (list .entry))) address frame size attributes)
+    ensures { λ r. ⌜ Left (mapW (granuleAt (now (s .entry))) (poolAt (now (s .entry)) (now (words .entry) ++ now (second .entry)) (length (now (words .entry))) (now (list .entry))) address frame size attributes)
         mapPlaces r (now (answer .exit)) (now (words .exit)) (now (second .exit)) (now (list .entry)) ⌝ }
 {
     let p = setup_at(s);
@@ -232,14 +261,14 @@ pub extern "C" fn oak_map(
 // Removes the mapping that starts at an address, and answers the setup, its frame and how many tables came back; with 9 the hole.
 #[no_mangle]
 pub extern "C" fn oak_unmap(
-    s: &[u64; 6],
+    s: &[u64; 7],
     words: &mut [u64],
     second: &mut [u64],
     list: &mut [u32],
     address: u64,
-    answer: &mut [u64; 12],
+    answer: &mut [u64; 13],
 ) -> u64
-    ensures { λ r. ⌜ Left (unmapW four (poolAt (now (s .entry)) (now (words .entry) ++ now (second .entry)) (length (now (words .entry))) (now (list .entry))) address)
+    ensures { λ r. ⌜ Left (unmapW (granuleAt (now (s .entry))) (poolAt (now (s .entry)) (now (words .entry) ++ now (second .entry)) (length (now (words .entry))) (now (list .entry))) address)
         unmapPlaces r (now (answer .exit)) (now (words .exit)) (now (second .exit)) (now (list .exit)) ⌝ }
 {
     let d = pagetable::unmap(setup_at(s), words, second, list, address);
@@ -250,14 +279,14 @@ pub extern "C" fn oak_unmap(
 // Answers the mapping that holds an address; with 9 the hole.
 #[no_mangle]
 pub extern "C" fn oak_query(
-    s: &[u64; 6],
+    s: &[u64; 7],
     words: &[u64],
     second: &[u64],
     list: &[u32],
     address: u64,
     answer: &mut [u64; 6],
 ) -> u64
-    ensures { λ r. ⌜ Told (queryW four (poolAt (now (s .entry)) (now (words .entry) ++ now (second .entry)) (length (now (words .entry))) (now (list .entry))) address)
+    ensures { λ r. ⌜ Told (queryW (granuleAt (now (s .entry))) (poolAt (now (s .entry)) (now (words .entry) ++ now (second .entry)) (length (now (words .entry))) (now (list .entry))) address)
         queryPlaces r (now (answer .exit)) ⌝ }
 {
     let a = pagetable::query(setup_at(s), words, second, list, address);
@@ -267,13 +296,13 @@ pub extern "C" fn oak_query(
 // Answers whether the pool keeps every rule, with the counts of its tables and mappings.
 #[no_mangle]
 pub extern "C" fn oak_audit<'a>(
-    s: &[u64; 6],
+    s: &[u64; 7],
     words: &'a [u64],
     second: &'a [u64],
     list: &[u32],
     answer: &mut [u64; 2],
 ) -> u64
-    ensures { λ r. ⌜ Told (auditW four (poolAt (now (s .entry)) (now (words .entry) ++ now (second .entry)) (length (now (words .entry))) (now (list .entry))))
+    ensures { λ r. ⌜ Told (auditW (granuleAt (now (s .entry))) (poolAt (now (s .entry)) (now (words .entry) ++ now (second .entry)) (length (now (words .entry))) (now (list .entry))))
         auditPlaces r (now (answer .exit)) ⌝ }
 {
     let a = pagetable::audit(setup_at(s), words, second, list);

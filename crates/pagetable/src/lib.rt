@@ -10,10 +10,10 @@ use path::Setup;
 ghost use mathlib.Core.Path.{_≡_};
 ghost use mathlib.Core.List.{_++_};
 ghost use lib.ListN.{length};
-ghost use Rattle.path.specs.Geometry.{four};
+ghost use Rattle.path.specs.Geometry.{granuleOf};
 ghost use Rattle.path.specs.Areas.{areaAt};
 ghost use Rattle.model.specs.Answers.{pool, formatDid, addDid, mapDid, unmapDid, saysQuery, saysAudit};
-ghost use Rattle.model.specs.Calls.{formatW, mapW, unmapW, queryW};
+ghost use Rattle.model.specs.Calls.{formatN, mapW, unmapW, queryW};
 ghost use Rattle.model.specs.Adds.{addW};
 ghost use Rattle.model.specs.Audit.{auditW};
 ghost use Rattle.demand.specs.Demand3.{mapC, unmapC};
@@ -27,16 +27,27 @@ pub fn format(
     tables: u64,
     base2: u64,
     tables2: u64,
+    granule: u64,
     words: &mut [u64],
     second: &mut [u64],
     list: &mut [u32],
 ) -> Formatted
     ensures whole { λ r. ⌜ formatDid r (now (words .exit)) (now (second .exit)) (now (list .exit))
-        ≡ formatW four levels (areaAt base tables base2 tables2) (now (words .entry) ++ now (second .entry)) (length (now (words .entry))) (now (list .entry)) ⌝ }
-    ensures ledger { λ r. ⌜ FormatByLedger four (now (words .entry) ++ now (second .entry)) (length (now (words .entry))) (now (list .entry)) levels (areaAt base tables base2 tables2)
+        ≡ formatN granule levels (areaAt base tables base2 tables2) (now (words .entry) ++ now (second .entry)) (length (now (words .entry))) (now (list .entry)) ⌝ }
+    ensures ledger { λ r. ⌜ FormatByLedger granule (now (words .entry) ++ now (second .entry)) (length (now (words .entry))) (now (list .entry)) levels (areaAt base tables base2 tables2)
         (formatDid r (now (words .exit)) (now (second .exit)) (now (list .exit))) ⌝ }
 {
-    formats::format(levels, base, tables, base2, tables2, words, second, list)
+    formats::format(
+        levels,
+        base,
+        tables,
+        base2,
+        tables2,
+        granule,
+        words,
+        second,
+        list,
+    )
 }
 
 // Gives a pool of one region a second one, whose tables go to the end of the free numbers; the list that is lent has places for all tables. Refused, it changes
@@ -50,8 +61,8 @@ pub fn add(
     tables2: u64,
 ) -> Added
     ensures whole { λ r. ⌜ addDid r (now (words .entry)) (now (second .exit)) (now (list .exit))
-        ≡ addW four (pool s (now (words .entry) ++ now (second .entry)) (length (now (words .entry))) (now (list .entry))) base2 tables2 ⌝ }
-    ensures ledger { λ r. ⌜ AddByLedger four (pool s (now (words .entry) ++ now (second .entry)) (length (now (words .entry))) (now (list .entry))) base2 tables2
+        ≡ addW (granuleOf (s .granule)) (pool s (now (words .entry) ++ now (second .entry)) (length (now (words .entry))) (now (list .entry))) base2 tables2 ⌝ }
+    ensures ledger { λ r. ⌜ AddByLedger (granuleOf (s .granule)) (pool s (now (words .entry) ++ now (second .entry)) (length (now (words .entry))) (now (list .entry))) base2 tables2
         (addDid r (now (words .entry)) (now (second .exit)) (now (list .exit))) ⌝ }
 {
     adds::add(s, words, second, list, base2, tables2)
@@ -69,8 +80,8 @@ pub fn map(
     attributes: u64,
 ) -> Mapped
     ensures whole { λ r. ⌜ mapDid r (now (words .exit)) (now (second .exit)) (now (list .entry))
-        ≡ mapW four (pool s (now (words .entry) ++ now (second .entry)) (length (now (words .entry))) (now (list .entry))) address frame size attributes ⌝ }
-    ensures ledger { λ r. ⌜ ByLedger four (pool s (now (words .entry) ++ now (second .entry)) (length (now (words .entry))) (now (list .entry))) (mapC address frame size attributes)
+        ≡ mapW (granuleOf (s .granule)) (pool s (now (words .entry) ++ now (second .entry)) (length (now (words .entry))) (now (list .entry))) address frame size attributes ⌝ }
+    ensures ledger { λ r. ⌜ ByLedger (granuleOf (s .granule)) (pool s (now (words .entry) ++ now (second .entry)) (length (now (words .entry))) (now (list .entry))) (mapC address frame size attributes)
         (mapDid r (now (words .exit)) (now (second .exit)) (now (list .entry))) ⌝ }
 {
     maps::map(s, words, second, list, address, frame, size, attributes)
@@ -86,8 +97,8 @@ pub fn unmap(
     address: u64,
 ) -> Unmapped
     ensures whole { λ r. ⌜ unmapDid r (now (words .exit)) (now (second .exit)) (now (list .exit))
-        ≡ unmapW four (pool s (now (words .entry) ++ now (second .entry)) (length (now (words .entry))) (now (list .entry))) address ⌝ }
-    ensures ledger { λ r. ⌜ ByLedger four (pool s (now (words .entry) ++ now (second .entry)) (length (now (words .entry))) (now (list .entry))) (unmapC address)
+        ≡ unmapW (granuleOf (s .granule)) (pool s (now (words .entry) ++ now (second .entry)) (length (now (words .entry))) (now (list .entry))) address ⌝ }
+    ensures ledger { λ r. ⌜ ByLedger (granuleOf (s .granule)) (pool s (now (words .entry) ++ now (second .entry)) (length (now (words .entry))) (now (list .entry))) (unmapC address)
         (unmapDid r (now (words .exit)) (now (second .exit)) (now (list .exit))) ⌝ }
 {
     unmaps::unmap(s, words, second, list, address)
@@ -95,16 +106,16 @@ pub fn unmap(
 
 // Answers the mapping that holds an address, or 9 and the hole around it.
 pub fn query(s: Setup, words: &[u64], second: &[u64], list: &[u32], address: u64) -> QueryAnswer
-    ensures whole { λ r. ⌜ saysQuery r ≡ queryW four (pool s (now (words .entry) ++ now (second .entry)) (length (now (words .entry))) (now (list .entry))) address ⌝ }
-    ensures ledger { λ r. ⌜ AskedByLedger four (pool s (now (words .entry) ++ now (second .entry)) (length (now (words .entry))) (now (list .entry))) (question.query address) (saysQuery r) ⌝ }
+    ensures whole { λ r. ⌜ saysQuery r ≡ queryW (granuleOf (s .granule)) (pool s (now (words .entry) ++ now (second .entry)) (length (now (words .entry))) (now (list .entry))) address ⌝ }
+    ensures ledger { λ r. ⌜ AskedByLedger (granuleOf (s .granule)) (pool s (now (words .entry) ++ now (second .entry)) (length (now (words .entry))) (now (list .entry))) (question.query address) (saysQuery r) ⌝ }
 {
     query::query(s, words, second, list, address)
 }
 
 // Answers whether the pool keeps every rule, with the counts of its tables and mappings.
 pub fn audit<'a>(s: Setup, words: &'a [u64], second: &'a [u64], list: &[u32]) -> AuditAnswer
-    ensures whole { λ r. ⌜ saysAudit r ≡ auditW four (pool s (now (words .entry) ++ now (second .entry)) (length (now (words .entry))) (now (list .entry))) ⌝ }
-    ensures ledger { λ r. ⌜ AskedByLedger four (pool s (now (words .entry) ++ now (second .entry)) (length (now (words .entry))) (now (list .entry))) question.audit (saysAudit r) ⌝ }
+    ensures whole { λ r. ⌜ saysAudit r ≡ auditW (granuleOf (s .granule)) (pool s (now (words .entry) ++ now (second .entry)) (length (now (words .entry))) (now (list .entry))) ⌝ }
+    ensures ledger { λ r. ⌜ AskedByLedger (granuleOf (s .granule)) (pool s (now (words .entry) ++ now (second .entry)) (length (now (words .entry))) (now (list .entry))) question.audit (saysAudit r) ⌝ }
 {
     audit::audit(s, words, second, list)
 }

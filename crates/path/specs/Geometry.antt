@@ -2,7 +2,7 @@
 -- and so on: the height is the number of levels left below an entry.
 use Prim.Native.Nat.{ℕ, zero, suc, _+_, _*_, _^_, _≤_, _<_}
 use mathlib.Core.Path.{_≡_}
-use mathlib.Core.Bool.{Bool, cond, _&&_}
+use mathlib.Core.Bool.{Bool, cond, _&&_, _||_}
 use lib.Dec.{ltb, leb, eqb}
 
 pub record Granule : Type 0 where
@@ -36,6 +36,18 @@ pub record Sane (G : Granule) : Type 0 where
 abbrev pub four : Granule
 four = record { page = 12; index = 9; large = 2; fewest = 3; most = 4 }
 
+-- 16 KiB pages, tables of 2048 entries, frames of 16 KiB and 32 MiB, three levels
+abbrev pub sixteen : Granule
+sixteen = record { page = 14; index = 11; large = 1; fewest = 3; most = 3 }
+
+-- the numbers that name a granule
+abbrev pub goodGranule : ℕ → Bool
+goodGranule number = eqb number 4096 || eqb number 16384
+
+-- The granule of a pool whose setup has this number. No pool has any number but these two; where there is none, sizes are read as those of 4 KiB.
+unfoldable pub granuleOf : ℕ → Granule
+granuleOf number = cond (eqb number 16384) sixteen four
+
 -- the bytes of a page, and of a table
 abbrev pub pageSize : Granule → ℕ
 pageSize G = 2 ^ G .page
@@ -44,7 +56,7 @@ pageSize G = 2 ^ G .page
 abbrev pub entries : Granule → ℕ
 entries G = 2 ^ G .index
 
--- the bytes that an entry of height h stands for: 4096, 2 MiB, 1 GiB, 512 GiB
+-- the bytes that an entry of height h stands for: 4096, 2 MiB, 1 GiB, 512 GiB; or 16 KiB, 32 MiB, 64 GiB
 unfoldable pub sizeAt : Granule → ℕ → ℕ
 sizeAt G h = 2 ^ (G .page + G .index * h)
 
@@ -60,7 +72,7 @@ atLevel G h x = cond (ltb h (G .most)) x 0
 unfoldable pub goodLevels : Granule → ℕ → Bool
 goodLevels G levels = leb (G .fewest) levels && leb levels (G .most)
 
--- addresses are below this: 2^39 for three levels, 2^48 for four; 0 for any other number of levels
+-- addresses are below this: 2^39 for three levels, 2^48 for four, and with 16 KiB 2^47; 0 for any other number of levels
 unfoldable pub spaceOf : Granule → ℕ → ℕ
 spaceOf G levels = cond (goodLevels G levels) (sizeAt G levels) 0
 

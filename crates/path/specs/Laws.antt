@@ -2,20 +2,55 @@
 use Prim.Native.Nat.{ℕ, zero, suc, _+_, _-_, _*_, _%_, _^_, _≤_, _<_, zero-le}
 use mathlib.Core.Path.{_≡_, refl, sym, ap, _∙_}
 use mathlib.Core.Logic.{_≢_, _⊎_, inl, inr, ⊎-elim}
-use mathlib.Core.Bool.{Bool, true, false, cond, _&&_, _||_, false≢true}
-use native.Mathlib.Nat.{mul-comm, mul-suc, mul-le-mul-left, mul-lt-mul-of-pos-left, mul-mod-right, add-mul-mod-self-left, le-dest}
+use mathlib.Core.Bool.{Bool, true, false, cond, _&&_, _||_, false≢true, or-false}
+use native.Mathlib.Nat.{mul-comm, mul-suc, mul-le-mul, mul-le-mul-left, mul-lt-mul-of-pos-left, mul-mod-right, add-mul-mod-self-left, le-dest}
 use native.Mathlib.Decide.{decLt, ℕ-discrete}
 use native.Mathlib.Omega.{arith}
 use lib.Dec.{ltb, leb, eqb}
 use lib.Pow.{pow-pos, pow-mono, pow-lt, pow-add}
-use borrow.Author.Tests.{ltb-true, leb-true, leb-false, eqb-true, eqb-false, lt-ltb, le-ltb, le-leb, eq-eqb}
-use Rattle.path.specs.Geometry.{Granule, Sane, four, pageSize, entries, sizeAt, physical, atLevel, goodLevels, spaceOf, seek, heightOf}
+use borrow.Author.Tests.{ltb-true, leb-true, leb-false, eqb-true, eqb-false, lt-ltb, le-ltb, le-leb, eq-eqb, ne-eqb}
+use Rattle.path.specs.Geometry.{Granule, Sane, four, sixteen, goodGranule, granuleOf, pageSize, entries, sizeAt, physical, atLevel, goodLevels, spaceOf, seek, heightOf}
 use Rattle.path.specs.Areas.{Area, areaOf, oneRegion, withSecond, total, tableAt, GoodArea, InRegion, Shares, meetsRegion, meetsArea}
 use Rattle.path.specs.Numbers.{mostTables, goodArea, goodNumbers, goodSetup, goodAdding, GoodNumbers, GoodSetup, GoodAdding}
 use Rattle.path.specs.declared.Setup.{Setup}
 
 pub four-sane : Sane four
 four-sane = omega arith
+
+pub sixteen-sane : Sane sixteen
+sixteen-sane = omega arith
+
+-- what holds of both granules holds of the one that a number names
+pub granule-either : (P : Granule → Type 0) → P four → P sixteen → (number : ℕ) → P (granuleOf number)
+unfolding granuleOf
+granule-either P a b number = go (eqb number 16384)
+  where
+    go : (t : Bool) → P (cond t sixteen four)
+    go true = b
+    go false = a
+
+pub granule-sane : (number : ℕ) → Sane (granuleOf number)
+granule-sane = granule-either Sane four-sane sixteen-sane
+
+pub granule-sixteen : {number : ℕ} → number ≡ 16384 → granuleOf number ≡ sixteen
+unfolding granuleOf
+granule-sixteen e = rw e
+
+pub granule-four : {number : ℕ} → number ≢ 16384 → granuleOf number ≡ four
+unfolding granuleOf
+granule-four {number} n = rw (ne-eqb number 16384 n)
+
+-- a number names a granule where it is the size of that granule's pages
+pub granule-page : (number : ℕ) → goodGranule number ≡ eqb number (pageSize (granuleOf number))
+granule-page number = go (ℕ-discrete number 16384)
+  where
+    go : Dec (number ≡ 16384) → goodGranule number ≡ eqb number (pageSize (granuleOf number))
+    go (yes e) = rw (granule-sixteen e, e)
+    go (no n) = rw (granule-four n, ne-eqb number 16384 n) (or-false (eqb number 4096))
+
+-- the size of a granule's pages names it
+pub page-names : (number : ℕ) → granuleOf (pageSize (granuleOf number)) ≡ granuleOf number
+page-names = granule-either (λ G. granuleOf (pageSize G) ≡ G) (granule-four (λ e. omega arith)) (granule-sixteen refl)
 
 -- ---- sizes
 
@@ -28,6 +63,24 @@ module _ (G : Granule) where
 
   pub entries-more : Sane G → 1 < entries G
   entries-more S = pow-lt {i = 0} {j = G .index} (omega arith)
+
+  pub page-least : Sane G → 4096 ≤ pageSize G
+  page-least S = pow-mono {i = 12} (S .page-least)
+
+  -- a table takes a page, and an entry 8 bytes
+  pub page-entries : Sane G → pageSize G ≡ 8 * entries G
+  page-entries S = ap (λ (k : ℕ). 2 ^ k) (sym (S .table-page)) ∙ pow-add 2 (G .index) 3 ∙ mul-comm (entries G) 8
+
+  -- no page is so large that the tables of a pool could not stand below 2^48
+  pub page-most : Sane G → pageSize G ≤ 2 ^ 25
+  page-most S = let l : 1 ≤ G .most = omega arith in pow-mono {j = 25} (omega (arith, mul-le-mul-left (G .index) l))
+
+  pub entries-most : Sane G → entries G ≤ 2 ^ 22
+  entries-most S = let l : 1 ≤ G .most = omega arith in pow-mono {j = 22} (omega (arith, mul-le-mul-left (G .index) l))
+
+  -- the words of tables that 32 bits number can be counted; K is what code has for the entries of a table
+  pub words-fit : Sane G → {K n : ℕ} → K ≡ entries G → n < 2 ^ 32 → K * n ≤ 2 ^ 54
+  words-fit S e l = mul-le-mul {n₂ = 2 ^ 22} {m₂ = 2 ^ 32} (omega (arith, entries-most S)) (omega arith)
 
   pub size-pos : (h : ℕ) → 0 < sizeAt G h
   unfolding sizeAt
@@ -153,22 +206,34 @@ module _ (G : Granule) where
   unfolding atLevel
   level-none {h} l x = rw (le-ltb h (G .most) l)
 
-  -- a size of 0 says that no level has the height
-  pub level-size-none : (h : ℕ) → atLevel G h (sizeAt G h) ≡ 0 → G .most ≤ h
-  level-size-none h e = go (decLt h (G .most))
-    where
-      go : Dec (h < G .most) → G .most ≤ h
-      go (yes l) = omega (arith, level-some l (sizeAt G h), size-pos h)
-      go (no n) = omega arith
+  -- the bits of an address within a region of height h, in code; 0 says that no level has the height
+  module _ (S : Sane G) (h : ℕ) {b : ℕ} (e : b ≡ atLevel G h (G .page + G .index * h)) where
+    pub bits-none : b ≡ 0 → (x : ℕ) → atLevel G h x ≡ 0
+    bits-none z x = go (decLt h (G .most))
+      where
+        go : Dec (h < G .most) → atLevel G h x ≡ 0
+        go (yes l) = absurd (omega (arith, level-some l (G .page + G .index * h)))
+        go (no n) = level-none (omega arith) x
 
-  -- any other size is that of the height, and so is what is made of it
-  pub level-size-some : (h : ℕ) (f : ℕ → ℕ) → atLevel G h (sizeAt G h) ≢ 0
-      → f (atLevel G h (sizeAt G h)) ≡ atLevel G h (f (sizeAt G h))
-  level-size-some h f n = go (decLt h (G .most))
-    where
-      go : Dec (h < G .most) → f (atLevel G h (sizeAt G h)) ≡ atLevel G h (f (sizeAt G h))
-      go (yes l) = ap f (level-some l (sizeAt G h)) ∙ sym (level-some l (f (sizeAt G h)))
-      go (no m) = absurd (n (level-none (omega arith) (sizeAt G h)))
+    pub bits-level : b ≢ 0 → h < G .most
+    bits-level n = go (decLt h (G .most))
+      where
+        go : Dec (h < G .most) → h < G .most
+        go (yes l) = l
+        go (no m) = absurd (n (e ∙ level-none (omega arith) (G .page + G .index * h)))
+
+    pub bits-fit : b ≢ 0 → b < 64
+    bits-fit n =
+        let l = bits-level n in
+        omega (arith, level-some l (G .page + G .index * h), mul-lt-mul-of-pos-left {k = G .index} l (omega arith))
+
+    pub bits-size : b ≢ 0 → 2 ^ b ≡ sizeAt G h
+    unfolding sizeAt
+    bits-size n = ap (λ (k : ℕ). 2 ^ k) (e ∙ level-some (bits-level n) (G .page + G .index * h))
+
+  -- every tree has pages
+  pub level-page : Sane G → (a : ℕ) → atLevel G 0 (a % sizeAt G 0) ≡ a % pageSize G
+  level-page S a = level-some (omega arith) (a % sizeAt G 0) ∙ ap (λ (s : ℕ). a % s) size-zero
 
   pub space-some : {levels : ℕ} → G .fewest ≤ levels → levels ≤ G .most → spaceOf G levels ≡ sizeAt G levels
   unfolding spaceOf goodLevels
@@ -180,7 +245,7 @@ pub both : (a b : Bool) → (a && b) ≡ true → (a ≡ true) × (b ≡ true)
 both true b e = (refl, e)
 both false b e = absurd (false≢true e)
 
-untrue : (b : Bool) → (b ≡ true → ⊥) → b ≡ false
+pub untrue : (b : Bool) → (b ≡ true → ⊥) → b ≡ false
 untrue true f = absurd (f refl)
 untrue false f = refl
 
@@ -195,12 +260,29 @@ good-levels G levels e =
     let (a, b) = both (leb (G .fewest) levels) (leb levels (G .most)) e in
     (leb-true (G .fewest) levels a, leb-true levels (G .most) b)
 
+pub levels-some : (G : Granule) {levels : ℕ} → G .fewest ≤ levels → levels ≤ G .most → goodLevels G levels ≡ true
+unfolding goodLevels
+levels-some G l m = rw (le-leb _ _ l, le-leb _ _ m)
+
 pub levels-none : (G : Granule) (levels : ℕ) → (G .fewest ≤ levels → levels ≤ G .most → ⊥) → goodLevels G levels ≡ false
 levels-none G levels f = untrue (goodLevels G levels) (λ e. f (good-levels G levels e .0) (good-levels G levels e .1))
 
 pub space-none : (G : Granule) (levels : ℕ) → (G .fewest ≤ levels → levels ≤ G .most → ⊥) → spaceOf G levels ≡ 0
 unfolding spaceOf
 space-none G levels f = rw (levels-none G levels f)
+
+-- no space is empty
+pub space-gone : (G : Granule) (levels : ℕ) → spaceOf G levels ≡ 0 → goodLevels G levels ≡ false
+unfolding spaceOf
+space-gone G levels e = untrue (goodLevels G levels) (λ t. omega (arith, rw t at e, size-pos G levels))
+
+pub space-there : (G : Granule) (levels : ℕ) → spaceOf G levels ≢ 0 → goodLevels G levels ≡ true
+unfolding spaceOf
+space-there G levels n = go (goodLevels G levels) refl
+  where
+    go : (b : Bool) → goodLevels G levels ≡ b → b ≡ true
+    go true e = refl
+    go false e = absurd (n (rw e))
 
 -- so many addresses from a on, some at least, are all in the space, or end past it
 module _ (G : Granule) (levels a size : ℕ) where
@@ -314,12 +396,13 @@ module _ {G : Granule} {s : Setup} {cut words places : ℕ} where
   pub good-setup : goodSetup G s cut words places ≡ true → GoodSetup G s cut words places
   unfolding goodSetup
   good-setup e =
-      let (a, b) = both (goodNumbers G (s .levels) (areaOf s) cut words places) _ e in
-      record { numbers = good-numbers a; room = ltb-true (s .free) (total (areaOf s)) b }
+      let (g, f) = both (eqb (s .granule) (pageSize G)) _ e in
+      let (a, b) = both (goodNumbers G (s .levels) (areaOf s) cut words places) _ f in
+      record { granule-is = eqb-true (s .granule) (pageSize G) g; numbers = good-numbers a; room = ltb-true (s .free) (total (areaOf s)) b }
 
   pub setup-good : GoodSetup G s cut words places → goodSetup G s cut words places ≡ true
   unfolding goodSetup
-  setup-good S = simp (numbers-good (S .numbers), lt-ltb _ _ (S .room))
+  setup-good S = simp (eq-eqb _ _ (S .granule-is), numbers-good (S .numbers), lt-ltb _ _ (S .room))
 
   pub setup-bad : (GoodSetup G s cut words places → ⊥) → goodSetup G s cut words places ≡ false
   setup-bad f = untrue _ (λ e. f (good-setup e))
@@ -441,6 +524,9 @@ module _ (G : Granule) (base n b size : ℕ) where
 
   pub no-byte : ((x : ℕ) → b ≤ x → x < b + size → InRegion G base n x → ⊥) → meetsRegion G base n b size ≡ false
   no-byte f = untrue _ (λ e. let (x, s, t, i) = meets-byte e in f x s t i)
+
+  pub no-tables : n ≡ 0 → meetsRegion G base n b size ≡ false
+  no-tables z = no-byte (λ x s t i. omega (arith, i .0, i .1, ap (λ (m : ℕ). pageSize G * m) z))
 
 module _ {G : Granule} {area : Area} {b size : ℕ} where
   -- the test is that a byte is shared

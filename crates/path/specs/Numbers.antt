@@ -8,20 +8,20 @@ use Rattle.path.specs.Areas.{Area, areaOf, withSecond, total, GoodArea}
 use Rattle.path.specs.declared.Setup.{Setup}
 
 -- the numbers in the record's order
-abbrev pub setup : ℕ → ℕ → ℕ → ℕ → ℕ → ℕ → Setup
-setup l b n f q m = record { levels = l; base = b; tables = n; free = f; base2 = q; tables2 = m }
+abbrev pub setup : ℕ → ℕ → ℕ → ℕ → ℕ → ℕ → ℕ → Setup
+setup l b n f q m g = record { levels = l; base = b; tables = n; free = f; base2 = q; tables2 = m; granule = g }
 
--- the setup of a tree of so many levels in an area, with so many tables free
-abbrev pub setupOf : ℕ → Area → ℕ → Setup
-setupOf levels area free = setup levels (area .base) (area .tables) free (area .base₂) (area .tables₂)
+-- the setup of a tree of so many levels in an area, with so many tables free; a granule's number is the size of its pages
+abbrev pub setupOf : Granule → ℕ → Area → ℕ → Setup
+setupOf G levels area free = setup levels (area .base) (area .tables) free (area .base₂) (area .tables₂) (pageSize G)
 
 -- no pool: every number is 0
 abbrev pub noSetup : Setup
-noSetup = setup 0 0 0 0 0 0
+noSetup = setup 0 0 0 0 0 0 0
 
 -- the setup numbers with another free count
 abbrev pub withFree : Setup → ℕ → Setup
-withFree s f = setupOf (s .levels) (areaOf s) f
+withFree s f = setup (s .levels) (s .base) (s .tables) f (s .base2) (s .tables2) (s .granule)
 
 -- the most tables that a pool may have
 abbrev pub mostTables : ℕ
@@ -38,6 +38,13 @@ goodArea G area =
     && ((leb (area .base + pageSize G * area .tables) (area .base₂) || leb (area .base₂ + pageSize G * area .tables₂) (area .base))
     && (ltb 0 (area .tables₂) || eqb (area .base₂) 0)))))
 
+-- one region by itself, as code tests one after the other: it has no more tables than a pool may have, its base is a multiple of their size and its end is
+-- at most 2^48, and its run of words is as long as they are
+unfoldable pub goodRegion : Granule → ℕ → ℕ → ℕ → Bool
+goodRegion G base n words =
+    leb n mostTables
+    && (eqb (base % pageSize G) 0 && (leb (base + pageSize G * n) physical && eqb words (entries G * n)))
+
 -- Levels, bases and table counts are good; of the lent words, so many in all, the first `cut`, which are the first run, are as many as the tables of
 -- the first region have, and all of them as many as all tables have; and there are as many free-list places as tables.
 unfoldable pub goodNumbers : Granule → ℕ → Area → ℕ → ℕ → ℕ → Bool
@@ -50,9 +57,11 @@ goodNumbers G levels area cut words places =
     && (eqb words (entries G * total area)
     && eqb places (total area))))))
 
--- and the free count is at most one less than the table count
+-- and the setup's granule is this one, and the free count is at most one less than the table count
 unfoldable pub goodSetup : Granule → Setup → ℕ → ℕ → ℕ → Bool
-goodSetup G s cut words places = goodNumbers G (s .levels) (areaOf s) cut words places && ltb (s .free) (total (areaOf s))
+goodSetup G s cut words places =
+    eqb (s .granule) (pageSize G)
+    && (goodNumbers G (s .levels) (areaOf s) cut words places && ltb (s .free) (total (areaOf s)))
 
 -- A second region, of m tables from q on, may be added: there is none yet, it has a table, and with it all numbers and lengths are good.
 unfoldable pub goodAdding : Granule → ℕ → Area → ℕ → ℕ → ℕ → ℕ → ℕ → Bool
@@ -70,8 +79,9 @@ pub record GoodNumbers (G : Granule) (levels : ℕ) (area : Area) (cut words pla
   pub words-are : words ≡ entries G * total area
   pub places-are : places ≡ total area
 
--- and the free count's
+-- and the granule's and the free count's
 pub record GoodSetup (G : Granule) (s : Setup) (cut words places : ℕ) : Type 0 where
+  pub granule-is : s .granule ≡ pageSize G
   pub numbers : GoodNumbers G (s .levels) (areaOf s) cut words places
   pub room : s .free < total (areaOf s)
 

@@ -1,23 +1,30 @@
-// Setup numbers, sizes, and paths: the indices of an address, and back.
+// Setup numbers, sizes, and paths: the indices of an address, and back. A granule is a number: 16384 is that of 16 KiB pages, and every other number is read as
+// that of 4 KiB pages.
 ghost use mathlib.Core.Path.{_≡_};
-ghost use Prim.Native.Nat.{_+_, _%_};
+ghost use Prim.Native.Nat.{_+_, _*_, _/_, _%_, _≤_};
 ghost use mathlib.Core.Bool.{_&&_};
-ghost use lib.Dec.{ltb, leb};
-ghost use Rattle.path.specs.Geometry.{four, sizeAt, atLevel, goodLevels, spaceOf, heightOf};
+ghost use lib.Dec.{ltb, leb, eqb};
+ghost use Rattle.path.specs.Geometry.{goodGranule, granuleOf, pageSize, entries, sizeAt, atLevel, goodLevels, spaceOf, heightOf};
 ghost use Rattle.path.specs.Areas.{areaAt, areaOf, total, meetsRegion, meetsArea};
-ghost use Rattle.path.specs.Numbers.{noSetup, withFree, goodNumbers, goodSetup, goodAdding};
+ghost use Rattle.path.specs.Numbers.{mostTables, noSetup, withFree, goodRegion, goodNumbers, goodSetup, goodAdding};
 ghost use Rattle.path.specs.Paths.{indexAt, baseAt, pathOf, addressOf};
 
-// The bytes of a page, and of a table.
-pub const PAGE: u64 = 4096;
-// The entries of a table.
-pub const ENTRIES: u64 = 512;
-// The sizes of the regions of heights 1, 2 and 3.
+// The bytes of a page, and of a table, of each granule; and the granule's number.
+pub const KIB4: u64 = 4096;
+
+pub const KIB16: u64 = 16384;
+// The sizes of the regions of heights 1, 2 and 3, with 4 KiB pages.
 pub const MIB2: u64 = 2097152;
 
 pub const GIB: u64 = 1073741824;
 
 pub const GIB512: u64 = 549755813888;
+// The same with 16 KiB pages.
+pub const MIB32: u64 = 33554432;
+
+const GIB64: u64 = 68719476736;
+
+const TIB128: u64 = 140737488355328;
 // No frame and no table ends past this address.
 pub const PHYSICAL: u64 = 281474976710656;
 // The most tables that a pool may have.
@@ -30,6 +37,7 @@ pub struct Setup {
     pub free: u64,
     pub base2: u64,
     pub tables2: u64,
+    pub granule: u64,
 }
 
 // No pool's setup numbers.
@@ -43,6 +51,7 @@ pub fn no_setup() -> Setup
         free: 0,
         base2: 0,
         tables2: 0,
+        granule: 0,
     }
 }
 
@@ -57,11 +66,103 @@ pub fn with_free(s: Setup, free: u64) -> Setup
         free,
         base2: s.base2,
         tables2: s.tables2,
+        granule: s.granule,
     }
 }
 
-// Whether levels, bases, table counts and the three lengths are good, of the first run of words, of the second, and of the free list.
-pub fn good_numbers(
+// Whether a number names a granule.
+pub fn good_granule(granule: u64) -> bool
+    ensures { λ r. ⌜ r ≡ goodGranule granule ⌝ }
+{
+    if granule == KIB4 {
+        return true;
+    }
+    granule == KIB16
+}
+
+// The bytes of a page, and of a table.
+pub fn page_of(granule: u64) -> u64
+    ensures { λ r. ⌜ r ≡ pageSize (granuleOf granule) ⌝ }
+{
+    if granule == KIB16 { KIB16 } else { KIB4 }
+}
+
+// The entries of a table.
+pub fn entries_of(granule: u64) -> u64
+    ensures { λ r. ⌜ r ≡ entries (granuleOf granule) ⌝ }
+{
+    if granule == KIB16 { 2048 } else { 512 }
+}
+
+// The greatest height of a frame.
+pub fn large_of(granule: u64) -> usize
+    ensures { λ r. ⌜ r ≡ granuleOf granule .large ⌝ }
+{
+    if granule == KIB16 { 1 } else { 2 }
+}
+
+// The pages that so many bytes fill.
+pub fn pages_in(granule: u64, bytes: u64) -> u64
+    ensures { λ r. ⌜ r ≡ bytes / pageSize (granuleOf granule) ⌝ }
+{
+    if granule == KIB16 {
+        return bytes / KIB16;
+    }
+    bytes / KIB4
+}
+
+// The table that the word at a place is in.
+pub fn table_of(granule: u64, place: u64) -> u64
+    ensures { λ r. ⌜ r ≡ place / entries (granuleOf granule) ⌝ }
+{
+    if granule == KIB16 {
+        return place / 2048;
+    }
+    place / 512
+}
+
+// The index in that table.
+pub fn index_in(granule: u64, place: u64) -> u16
+    ensures { λ r. ⌜ r ≡ place % entries (granuleOf granule) ⌝ }
+{
+    if granule == KIB16 {
+        return (place % 2048) as u16;
+    }
+    (place % 512) as u16
+}
+
+// Whether a tree may have so many levels.
+pub fn good_levels(granule: u64, levels: u64) -> bool
+    ensures { λ r. ⌜ r ≡ goodLevels (granuleOf granule) levels ⌝ }
+{
+    if levels == 3 {
+        return true;
+    }
+    if levels != 4 {
+        return false;
+    }
+    granule != KIB16
+}
+
+// Whether one region of no more tables than a pool may have is good alone: they stand at multiples of their size and end within 2^48, and its run of words is as
+// long as they are. The number of the granule is the size of a table, and eight bytes of it are a word.
+fn good_region(granule: u64, base: u64, tables: u64, words: usize) -> bool
+    requires { ⌜ (granule ≡ pageSize (granuleOf granule)) × (tables ≤ mostTables) ⌝ }
+    ensures { λ r. ⌜ r ≡ goodRegion (granuleOf granule) base tables words ⌝ }
+{
+    if base & (granule - 1) != 0 {
+        return false;
+    }
+    let bytes = granule * tables;
+    if base > PHYSICAL - bytes {
+        return false;
+    }
+    words as u64 == bytes / 8
+}
+
+// Whether levels, bases, table counts and the three lengths are good, of the first run of words, of the second, and of the free list, by the number of a granule.
+fn numbers_by(
+    granule: u64,
     levels: u64,
     base: u64,
     tables: u64,
@@ -71,12 +172,10 @@ pub fn good_numbers(
     second: usize,
     places: usize,
 ) -> bool
-    ensures { λ r. ⌜ r ≡ goodNumbers four levels (areaAt base tables base2 tables2) words (words + second) places ⌝ }
+    requires { ⌜ granule ≡ pageSize (granuleOf granule) ⌝ }
+    ensures { λ r. ⌜ r ≡ goodNumbers (granuleOf granule) levels (areaAt base tables base2 tables2) words (words + second) places ⌝ }
 {
-    if levels < 3 {
-        return false;
-    }
-    if levels > 4 {
+    if !good_levels(granule, levels) {
         return false;
     }
     if tables < 1 {
@@ -85,13 +184,7 @@ pub fn good_numbers(
     if tables > MOST_TABLES {
         return false;
     }
-    if base % PAGE != 0 {
-        return false;
-    }
-    if base > PHYSICAL - PAGE * tables {
-        return false;
-    }
-    if words as u64 != ENTRIES * tables {
+    if !good_region(granule, base, tables, words) {
         return false;
     }
     if tables2 == 0 {
@@ -106,28 +199,54 @@ pub fn good_numbers(
     if tables2 > MOST_TABLES - tables {
         return false;
     }
-    if base2 % PAGE != 0 {
+    if !good_region(granule, base2, tables2, second) {
         return false;
     }
-    if base2 > PHYSICAL - PAGE * tables2 {
-        return false;
-    }
-    if base2 < base + PAGE * tables {
-        if base < base2 + PAGE * tables2 {
+    if base2 < base + granule * tables {
+        if base < base2 + granule * tables2 {
             return false;
         }
-    }
-    if second as u64 != ENTRIES * tables2 {
-        return false;
     }
     places as u64 == tables + tables2
 }
 
+// The same by any number.
+pub fn good_numbers(
+    granule: u64,
+    levels: u64,
+    base: u64,
+    tables: u64,
+    base2: u64,
+    tables2: u64,
+    words: usize,
+    second: usize,
+    places: usize,
+) -> bool
+    ensures { λ r. ⌜ r ≡ goodNumbers (granuleOf granule) levels (areaAt base tables base2 tables2) words (words + second) places ⌝ }
+{
+    let page = page_of(granule);
+    numbers_by(
+        page,
+        levels,
+        base,
+        tables,
+        base2,
+        tables2,
+        words,
+        second,
+        places,
+    )
+}
+
 // Whether the setup numbers and the three lengths are good.
 pub fn good_setup(s: Setup, words: usize, second: usize, places: usize) -> bool
-    ensures { λ r. ⌜ r ≡ goodSetup four s words (words + second) places ⌝ }
+    ensures { λ r. ⌜ r ≡ goodSetup (granuleOf (s .granule)) s words (words + second) places ⌝ }
 {
-    if good_numbers(
+    if !good_granule(s.granule) {
+        return false;
+    }
+    if numbers_by(
+        s.granule,
         s.levels,
         s.base,
         s.tables,
@@ -152,8 +271,12 @@ pub fn good_adding(
     second: usize,
     places: usize,
 ) -> bool
-    ensures { λ r. ⌜ r ≡ (goodAdding four (s .levels) (areaOf s) base2 tables2 words (words + second) places && ltb (s .free) (total (areaOf s))) ⌝ }
+    ensures { λ r. ⌜ r ≡ (eqb (s .granule) (pageSize (granuleOf (s .granule)))
+        && (goodAdding (granuleOf (s .granule)) (s .levels) (areaOf s) base2 tables2 words (words + second) places && ltb (s .free) (total (areaOf s)))) ⌝ }
 {
+    if !good_granule(s.granule) {
+        return false;
+    }
     if s.base2 != 0 {
         return false;
     }
@@ -166,7 +289,8 @@ pub fn good_adding(
     if s.free >= s.tables {
         return false;
     }
-    good_numbers(
+    numbers_by(
+        s.granule,
         s.levels,
         s.base,
         s.tables,
@@ -178,28 +302,42 @@ pub fn good_adding(
     )
 }
 
-// Whether so many addresses from one on are all in the space of a tree of so many levels.
-pub fn in_space(levels: u64, address: u64, size: u64) -> bool
-    ensures { λ r. ⌜ r ≡ (goodLevels four levels && leb (address + size) (spaceOf four levels)) ⌝ }
+// The addresses of a tree of so many levels are below this; 0 where no tree has so many.
+fn space_of(granule: u64, levels: u64) -> u64
+    ensures { λ r. ⌜ r ≡ spaceOf (granuleOf granule) levels ⌝ }
 {
-    if levels == 3 {
-        if size > GIB512 {
-            return false;
+    if granule == KIB16 {
+        if levels != 3 {
+            return 0;
         }
-        return address <= GIB512 - size;
+        return TIB128;
+    }
+    if levels == 3 {
+        return GIB512;
     }
     if levels == 4 {
-        if size > PHYSICAL {
-            return false;
-        }
-        return address <= PHYSICAL - size;
+        return PHYSICAL;
     }
-    false
+    0
+}
+
+// Whether so many addresses from one on are all in the space of a tree of so many levels.
+pub fn in_space(granule: u64, levels: u64, address: u64, size: u64) -> bool
+    ensures { λ r. ⌜ r ≡ (goodLevels (granuleOf granule) levels && leb (address + size) (spaceOf (granuleOf granule) levels)) ⌝ }
+{
+    let space = space_of(granule, levels);
+    if space == 0 {
+        return false;
+    }
+    if size > space {
+        return false;
+    }
+    address <= space - size
 }
 
 // Whether so many bytes from a frame's base on share one with the tables of one region, so many, from base on. No sum is made that could wrap.
-pub fn meets_region(base: u64, tables: u64, frame: u64, size: u64) -> bool
-    ensures { λ r. ⌜ r ≡ meetsRegion four base tables frame size ⌝ }
+pub fn meets_region(granule: u64, base: u64, tables: u64, frame: u64, size: u64) -> bool
+    ensures { λ r. ⌜ r ≡ meetsRegion (granuleOf granule) base tables frame size ⌝ }
 {
     if frame < base {
         if tables == 0 {
@@ -210,46 +348,44 @@ pub fn meets_region(base: u64, tables: u64, frame: u64, size: u64) -> bool
     if size < 1 {
         return false;
     }
-    (frame - base) / PAGE < tables
+    pages_in(granule, frame - base) < tables
 }
 
 // The same of both regions.
-pub fn meets_area(base: u64, tables: u64, base2: u64, tables2: u64, frame: u64, size: u64) -> bool
-    ensures { λ r. ⌜ r ≡ meetsArea four (areaAt base tables base2 tables2) frame size ⌝ }
+pub fn meets_area(
+    granule: u64,
+    base: u64,
+    tables: u64,
+    base2: u64,
+    tables2: u64,
+    frame: u64,
+    size: u64,
+) -> bool
+    ensures { λ r. ⌜ r ≡ meetsArea (granuleOf granule) (areaAt base tables base2 tables2) frame size ⌝ }
 {
-    if meets_region(base, tables, frame, size) {
+    if meets_region(granule, base, tables, frame, size) {
         return true;
     }
     if tables2 == 0 {
         return false;
     }
-    meets_region(base2, tables2, frame, size)
+    meets_region(granule, base2, tables2, frame, size)
 }
 
-// The bytes that an entry of a height stands for; 0 where no level has it.
-pub fn size_at(height: usize) -> u64
-    ensures { λ r. ⌜ r ≡ atLevel four height (sizeAt four height) ⌝ }
+// The height of the frames of a size; one more than the greatest where no frame has it.
+pub fn height_of(granule: u64, size: u64) -> usize
+    ensures { λ r. ⌜ r ≡ heightOf (granuleOf granule) size ⌝ }
 {
-    if height == 0 {
-        return PAGE;
+    if granule == KIB16 {
+        if size == KIB16 {
+            return 0;
+        }
+        if size == MIB32 {
+            return 1;
+        }
+        return 2;
     }
-    if height == 1 {
-        return MIB2;
-    }
-    if height == 2 {
-        return GIB;
-    }
-    if height == 3 {
-        return GIB512;
-    }
-    0
-}
-
-// The height of the frames of a size, or 3 where no frame has it.
-pub fn height_of(size: u64) -> usize
-    ensures { λ r. ⌜ r ≡ heightOf four size ⌝ }
-{
-    if size == PAGE {
+    if size == KIB4 {
         return 0;
     }
     if size == MIB2 {
@@ -261,65 +397,97 @@ pub fn height_of(size: u64) -> usize
     3
 }
 
-// The index of an address among the entries of a height; 0 where no level has it.
-pub fn index_at(address: u64, height: usize) -> u16
-    ensures { λ r. ⌜ r ≡ atLevel four height (indexAt four address height) ⌝ }
+// The bits of an address within a region of a height; 0 where no level has it.
+fn bits_at(granule: u64, height: usize) -> u64
+    ensures { λ r. ⌜ r ≡ atLevel (granuleOf granule) height (granuleOf granule .page + granuleOf granule .index * height) ⌝ }
 {
-    let bytes = size_at(height);
-    if bytes == 0 {
+    if granule == KIB16 {
+        if height > 2 {
+            return 0;
+        }
+        return 14 + 11 * (height as u64);
+    }
+    if height > 3 {
         return 0;
     }
-    (address / bytes % ENTRIES) as u16
+    12 + 9 * (height as u64)
 }
 
-// How far an address is past the start of its region of a height; 0 where no level has it.
-pub fn rest_at(address: u64, height: usize) -> u64
-    ensures { λ r. ⌜ r ≡ atLevel four height (address % sizeAt four height) ⌝ }
+// The bytes that an entry of a height stands for; 0 where no level has it.
+pub fn size_at(granule: u64, height: usize) -> u64
+    ensures { λ r. ⌜ r ≡ atLevel (granuleOf granule) height (sizeAt (granuleOf granule) height) ⌝ }
 {
-    if height == 0 {
-        return address % PAGE;
+    let bits = bits_at(granule, height);
+    if bits == 0 {
+        return 0;
     }
-    if height == 1 {
-        return address % MIB2;
+    1 << bits
+}
+
+// The index of an address among the entries of a height; 0 where no level has it.
+pub fn index_at(granule: u64, address: u64, height: usize) -> u16
+    ensures { λ r. ⌜ r ≡ atLevel (granuleOf granule) height (indexAt (granuleOf granule) address height) ⌝ }
+{
+    let below = bits_at(granule, height);
+    if below == 0 {
+        return 0;
     }
-    if height == 2 {
-        return address % GIB;
-    }
-    if height == 3 {
-        return address % GIB512;
-    }
-    0
+    index_in(granule, address >> below)
 }
 
 // The first address of the region of a height that holds an address; 0 where no level has it.
-pub fn base_at(address: u64, height: usize) -> u64
-    ensures { λ r. ⌜ r ≡ atLevel four height (baseAt four address height) ⌝ }
+pub fn base_at(granule: u64, address: u64, height: usize) -> u64
+    ensures { λ r. ⌜ r ≡ atLevel (granuleOf granule) height (baseAt (granuleOf granule) address height) ⌝ }
 {
-    let region = size_at(height);
-    if region == 0 {
+    let low = bits_at(granule, height);
+    if low == 0 {
         return 0;
     }
-    address - address % region
+    address >> low << low
 }
 
-// The nine-bit indices of an address, top first.
-pub fn path_of(address: u64) -> [u16; 4]
-    ensures { λ r. ⌜ r ≡ pathOf four address ⌝ }
+// How far an address is past the start of its region of a height; 0 where no level has it.
+pub fn rest_at(granule: u64, address: u64, height: usize) -> u64
+    ensures { λ r. ⌜ r ≡ atLevel (granuleOf granule) height (address % sizeAt (granuleOf granule) height) ⌝ }
 {
+    if bits_at(granule, height) == 0 {
+        return 0;
+    }
+    address - base_at(granule, address, height)
+}
+
+// The indices of an address, top first: nine bits each, or eleven with 16 KiB pages. These are taken from the last one up, which keeps the compiler from making one
+// computation of the two, by numbers that it would have to pick at run time.
+pub fn path_of(granule: u64, address: u64) -> [u16; 4]
+    ensures { λ r. ⌜ r ≡ pathOf (granuleOf granule) address ⌝ }
+{
+    if granule == KIB16 {
+        let page = (address / KIB16 % 2048) as u16;
+        let large = (address / MIB32 % 2048) as u16;
+        let table = (address / GIB64 % 2048) as u16;
+        let top = (address / TIB128 % 2048) as u16;
+        return [top, table, large, page];
+    }
     [
-        (address / GIB512 % ENTRIES) as u16,
-        (address / GIB % ENTRIES) as u16,
-        (address / MIB2 % ENTRIES) as u16,
-        (address / PAGE % ENTRIES) as u16,
+        (address / GIB512 % 512) as u16,
+        (address / GIB % 512) as u16,
+        (address / MIB2 % 512) as u16,
+        (address / KIB4 % 512) as u16,
     ]
 }
 
 // The address whose indices a path holds.
-pub fn address_of(path: [u16; 4]) -> u64
-    ensures { λ r. ⌜ r ≡ addressOf four path ⌝ }
+pub fn address_of(granule: u64, path: [u16; 4]) -> u64
+    ensures { λ r. ⌜ r ≡ addressOf (granuleOf granule) path ⌝ }
 {
+    if granule == KIB16 {
+        return (path[0] as u64) * TIB128
+            + (path[1] as u64) * GIB64
+            + (path[2] as u64) * MIB32
+            + (path[3] as u64) * KIB16;
+    }
     (path[0] as u64) * GIB512
         + (path[1] as u64) * GIB
         + (path[2] as u64) * MIB2
-        + (path[3] as u64) * PAGE
+        + (path[3] as u64) * KIB4
 }

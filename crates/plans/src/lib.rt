@@ -3,8 +3,7 @@ ghost use mathlib.Core.Path.{_≡_};
 ghost use mathlib.Core.List.{List, _++_};
 ghost use Prim.Native.Nat.{ℕ, _*_};
 ghost use lib.ListN.{length};
-ghost use Rattle.path.specs.Geometry.{four, entries};
-ghost use Rattle.model.specs.Walk.{slot};
+ghost use Rattle.path.specs.Geometry.{Granule, granuleOf, entries};
 ghost use Rattle.model.specs.Writes.{memory, performAll};
 ghost use Rattle.plans.specs.Plan.{writes, planned};
 
@@ -19,21 +18,14 @@ pub enum Step {
     Give { place: usize, table: u32 },
 }
 
-// The place of entry i of table t among the words.
-pub fn entry_place(t: u32, i: u16) -> usize
-    ensures { λ r. ⌜ r ≡ slot four t i ⌝ }
-{
-    (path::ENTRIES as usize) * (t as usize) + (i as usize)
-}
-
 // A step's write to the words, of two runs of which the first is of whole tables.
-fn step_words(words: &mut [u64], second: &mut [u64], s: Step)
-    ensures { λ _. ⌜ ((k : ℕ) → length (now (words .entry)) ≡ entries four * k → (l : List ℕ)
-        → now (words .exit) ++ now (second .exit) ≡ performAll four (writes s) (memory (now (words .entry) ++ now (second .entry)) l) .words) ⌝ }
+fn step_words(granule: u64, words: &mut [u64], second: &mut [u64], s: Step)
+    ensures { λ _. ⌜ ((k : ℕ) → length (now (words .entry)) ≡ entries (granuleOf granule) * k → (l : List ℕ)
+        → now (words .exit) ++ now (second .exit) ≡ performAll (granuleOf granule) (writes s) (memory (now (words .entry) ++ now (second .entry)) l) .words) ⌝ }
 {
     match s {
         Step::Store { place, value } => pool::put(words, second, place, value),
-        Step::Wipe { table } => pool::wipe(words, second, table),
+        Step::Wipe { table } => pool::wipe(granule, words, second, table),
         Step::Give { .. } => {}
         Step::Nothing => {}
     }
@@ -41,7 +33,7 @@ fn step_words(words: &mut [u64], second: &mut [u64], s: Step)
 
 // A step's write to the free list.
 fn step_list(list: &mut [u32], s: Step)
-    ensures { λ _. ⌜ ((w : List ℕ) → now (list .exit) ≡ performAll four (writes s) (memory w (now (list .entry))) .list) ⌝ }
+    ensures { λ _. ⌜ ((G : Granule) (w : List ℕ) → now (list .exit) ≡ performAll G (writes s) (memory w (now (list .entry))) .list) ⌝ }
 {
     match s {
         Step::Give { place, table } => pool::give(list, place, table),
@@ -52,28 +44,34 @@ fn step_list(list: &mut [u32], s: Step)
 }
 
 // The writes of a plan to the words.
-pub fn write_words(words: &mut [u64], second: &mut [u64], plan: [Step; STEPS])
-    ensures { λ _. ⌜ ((k : ℕ) → length (now (words .entry)) ≡ entries four * k → (l : List ℕ)
-        → now (words .exit) ++ now (second .exit) ≡ performAll four (planned plan) (memory (now (words .entry) ++ now (second .entry)) l) .words) ⌝ }
+pub fn write_words(granule: u64, words: &mut [u64], second: &mut [u64], plan: [Step; STEPS])
+    ensures { λ _. ⌜ ((k : ℕ) → length (now (words .entry)) ≡ entries (granuleOf granule) * k → (l : List ℕ)
+        → now (words .exit) ++ now (second .exit) ≡ performAll (granuleOf granule) (planned plan) (memory (now (words .entry) ++ now (second .entry)) l) .words) ⌝ }
 {
     let mut i = 0;
     while i < STEPS {
         let s = plan[i];
-        step_words(words, second, s);
+        step_words(granule, words, second, s);
         i += 1;
     }
 }
 
 // The writes of a plan to the words and to the free list.
-pub fn write_all(words: &mut [u64], second: &mut [u64], list: &mut [u32], plan: [Step; STEPS])
-    ensures { λ _. ⌜ ((k : ℕ) → length (now (words .entry)) ≡ entries four * k
+pub fn write_all(
+    granule: u64,
+    words: &mut [u64],
+    second: &mut [u64],
+    list: &mut [u32],
+    plan: [Step; STEPS],
+)
+    ensures { λ _. ⌜ ((k : ℕ) → length (now (words .entry)) ≡ entries (granuleOf granule) * k
         → memory (now (words .exit) ++ now (second .exit)) (now (list .exit))
-        ≡ performAll four (planned plan) (memory (now (words .entry) ++ now (second .entry)) (now (list .entry)))) ⌝ }
+        ≡ performAll (granuleOf granule) (planned plan) (memory (now (words .entry) ++ now (second .entry)) (now (list .entry)))) ⌝ }
 {
     let mut i = 0;
     while i < STEPS {
         let s = plan[i];
-        step_words(words, second, s);
+        step_words(granule, words, second, s);
         step_list(list, s);
         i += 1;
     }

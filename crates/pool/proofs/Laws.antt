@@ -1,9 +1,10 @@
 -- What zeroing a part does, and tests for zeros, step by step and word by word.
-use Prim.Native.Nat.{ℕ, zero, suc, _+_, _-_, _*_, _≤_, _<_}
+use Prim.Native.Nat.{ℕ, zero, suc, _+_, _-_, _*_, _%_, _≤_, _<_}
 use mathlib.Core.Path.{_≡_, refl, sym, ap, _∙_}
 use mathlib.Core.Bool.{Bool, true, false, not}
 use mathlib.Core.List.{List, [], _++_}
 use native.Mathlib.Decide.{ℕ-discrete, decLt}
+use native.Mathlib.Nat.{mul-le-mul-left}
 use native.Mathlib.Omega.{arith}
 use lib.Bits.{bitOr, or-add-and, and-le-l, and-le-r}
 use lib.Dec.{eqb}
@@ -11,7 +12,9 @@ use lib.ListN.{length, getD, set, take, drop, replicate, drop-of-length-le, leng
 use lib.Seq.{set-out, getD-set-same, getD-set-other, take-all}
 use borrow.Author.Tests.{eq-eqb, eqb-true, eqb-false, not-true, not-false}
 use Rattle.laws.specs.Lists.{part, zeroed, allZero}
-use Rattle.laws.specs.ListLaws.{part-first, part-later, zeroed-first, zeroed-later, length-part, length-part-le, zeroed-is, allZero-of, allZero-not, allZero-part-at, allZero-part-of, allZero-part-not, allZero-part-some}
+use Rattle.laws.specs.ListLaws.{getD-part, part-first, part-later, zeroed-first, zeroed-later, length-part, length-part-le, zeroed-is, allZero-of, allZero-not, allZero-part-at, allZero-part-of, allZero-part-not, allZero-part-some}
+use Rattle.path.specs.Geometry.{granuleOf, entries}
+use Rattle.path.specs.Laws.{granule-either, table-ends}
 
 span : (at k : ℕ) → at + k - at ≡ k
 span at k = omega arith
@@ -150,22 +153,46 @@ part-none ws at k l =
 
 -- ---- a table of the first run, which is of whole tables, and one of the second
 
-module _ (a b : List ℕ) (t : ℕ) where
-  at-start : 512 * t ≡ 512 * t + 0
-  at-start = omega arith
+-- the places of tables of K entries: one that starts within whole tables ends within them
+whole-table : (K t k n : ℕ) → n ≡ K * k → K * t + 0 < n → K * t + 0 + K ≤ n
+whole-table K t k n e l = go (decLt t k)
+  where
+    go : Dec (t < k) → K * t + 0 + K ≤ n
+    go (yes h) = omega (arith, table-ends K h)
+    go (no h) = let m : k ≤ t = omega arith in absurd (omega (arith, mul-le-mul-left K m))
 
-  pub table-first : (k : ℕ) → length a ≡ 512 * k → 512 * t < length a → part a (512 * t) 512 ≡ part (a ++ b) (512 * t + 0) 512
-  table-first k e l = ap (λ (n : ℕ). part a n 512) at-start ∙ sym (part-first a b (512 * t + 0) 512 (omega arith))
+-- table t by its start and the number of its entries, as the code has them
+module _ (K : ℕ) (a b : List ℕ) (t : ℕ) {start count : ℕ} (p : start ≡ K * t + 0) (q : count ≡ K) where
+  pub table-first : (k : ℕ) → length a ≡ K * k → start < length a → part a start count ≡ part (a ++ b) (K * t + 0) K
+  table-first k e l = rw (p, q) (sym (part-first a b (K * t + 0) K (whole-table K t k (length a) e (omega arith))))
 
-  pub table-later : length a ≤ 512 * t → part b (512 * t - length a) 512 ≡ part (a ++ b) (512 * t + 0) 512
-  table-later l = ap (λ (n : ℕ). part b (n - length a) 512) at-start ∙ sym (part-later a b (512 * t + 0) 512 (omega arith))
+  pub table-later : length a ≤ start → part b (start - length a) count ≡ part (a ++ b) (K * t + 0) K
+  table-later l = rw (p, q) (sym (part-later a b (K * t + 0) K (omega arith)))
 
-  pub wipe-first : (k : ℕ) → length a ≡ 512 * k → 512 * t < length a → zeroed a (512 * t) 512 ++ b ≡ zeroed (a ++ b) (512 * t + 0) 512
-  wipe-first k e l = ap (λ (n : ℕ). zeroed a n 512 ++ b) at-start ∙ sym (zeroed-first a b (512 * t + 0) 512 (omega arith))
+  pub wipe-first : (k : ℕ) → length a ≡ K * k → start < length a → zeroed a start count ++ b ≡ zeroed (a ++ b) (K * t + 0) K
+  wipe-first k e l = rw (p, q) (sym (zeroed-first a b (K * t + 0) K (whole-table K t k (length a) e (omega arith))))
 
-  pub wipe-later : length a ≤ 512 * t → a ++ zeroed b (512 * t - length a) 512 ≡ zeroed (a ++ b) (512 * t + 0) 512
-  wipe-later l = ap (λ (n : ℕ). a ++ zeroed b (n - length a) 512) at-start ∙ sym (zeroed-later a b (512 * t + 0) 512 (omega arith))
+  pub wipe-later : length a ≤ start → a ++ zeroed b (start - length a) count ≡ zeroed (a ++ b) (K * t + 0) K
+  wipe-later l = rw (p, q) (sym (zeroed-later a b (K * t + 0) K (omega arith)))
 
 -- no word is left out where the place is past the end
-pub none-out : (ws xs : List ℕ) (at k : ℕ) → xs ≡ part ws at k → allZero (set xs k 0) ≡ allZero (part ws at k)
-none-out ws xs at k e = ap allZero (ap (λ (l : List ℕ). set l k 0) e ∙ set-out (part ws at k) k 0 (length-part-le ws at k))
+pub none-out : (ws xs : List ℕ) (at k : ℕ) {past : ℕ} → past ≡ k → xs ≡ part ws at k → allZero (set xs past 0) ≡ allZero (part ws at k)
+none-out ws xs at k q e = ap allZero (rw (q, e) (set-out (part ws at k) k 0 (length-part-le ws at k)))
+
+-- a table with an entry in use, whose word stands at a place, has that one besides any other
+pub entry-stays :
+    (K : ℕ) (ws : List ℕ) (t i j : ℕ) {place : ℕ} → place ≡ K * t + j → j < K → (j ≡ i → ⊥) → (getD ws place 0 ≡ 0 → ⊥)
+    → allZero (set (part ws (K * t + 0) K) i 0) ≡ false
+entry-stays K ws t i j {place} p l n d =
+    let z : place ≡ K * t + 0 + j = omega arith in
+    allZero-not _ j
+    (λ e. d (ap (λ (k : ℕ). getD ws k 0) z ∙ sym (getD-part ws (K * t + 0) K j l) ∙ sym (kept-in (part ws (K * t + 0) K) i n) ∙ e))
+
+-- ---- the granule
+
+-- a table's entries are even in number, so that the one beside another is not that one
+pub beside-even : (number i : ℕ) → i % 2 ≡ 0 → (i + 1) % entries (granuleOf number) ≡ i → ⊥
+beside-even number i h = granule-either (λ G. (i + 1) % entries G ≡ i → ⊥) (λ e. omega arith) (λ e. omega arith) number
+
+pub beside-odd : (number i : ℕ) → 1 ≤ i → (i - 1) % entries (granuleOf number) ≡ i → ⊥
+beside-odd number i h = granule-either (λ G. (i - 1) % entries G ≡ i → ⊥) (λ e. omega arith) (λ e. omega arith) number

@@ -1,5 +1,5 @@
 // The lent memory: the words of the tables, in two runs, and the places of the free list. What is past the end reads as 0 and is not written. Contracts
-// speak of the two runs put together, in which table t's words stand from place 512 t on; that a table is in one of the runs is known where the first is of whole tables.
+// speak of the two runs put together, in which the tables stand one after the other; that a table is in one of the runs is known where the first is of whole tables.
 ghost use mathlib.Core.Path.{_≡_};
 ghost use mathlib.Core.Bool.{false, not};
 ghost use mathlib.Core.List.{_++_};
@@ -7,14 +7,19 @@ ghost use Prim.Native.Nat.{ℕ, _+_, _-_, _*_, _≤_, _<_};
 ghost use lib.Dec.{eqb};
 ghost use lib.ListN.{length, getD, set, replicate};
 ghost use Rattle.laws.specs.Lists.{part, zeroed, allZero, among};
-ghost use Rattle.path.specs.Geometry.{four, entries};
+ghost use Rattle.path.specs.Geometry.{granuleOf, entries};
 ghost use Rattle.model.specs.Walk.{slot};
 ghost use Rattle.model.specs.Writes.{onlyEntry};
 
-// The entries of a table.
-const ENTRIES: usize = path::ENTRIES as usize;
 // The words that the empty test reads at a step; a table has a multiple of them.
 const STEP: usize = 8;
+
+// The place of entry i of table t among the words.
+pub fn entry_place(granule: u64, t: u32, i: u16) -> usize
+    ensures { λ r. ⌜ r ≡ slot (granuleOf granule) t i ⌝ }
+{
+    (path::entries_of(granule) as usize) * (t as usize) + (i as usize)
+}
 
 // The word at a place of the two runs put together.
 pub fn word(words: &[u64], second: &[u64], i: usize) -> u64
@@ -70,61 +75,63 @@ pub fn clear(words: &mut [u64])
     }
 }
 
-// A table's worth of words from a place of one run on becomes 0, where there are so many.
-fn wipe_from(words: &mut [u64], start: usize)
-    ensures { λ _. ⌜ now (words .exit) ≡ zeroed (now (words .entry)) start (entries four) ⌝ }
+// So many words from a place of one run on become 0, where there are so many.
+fn wipe_from(words: &mut [u64], start: usize, count: usize)
+    ensures { λ _. ⌜ now (words .exit) ≡ zeroed (now (words .entry)) start count ⌝ }
 {
     let n = words.len();
-    if start < n {
-        if n - start >= ENTRIES {
-            let end = start + ENTRIES;
+    if start <= n {
+        if n - start >= count {
+            let end = start + count;
             clear(&mut words[start..end]);
         }
     }
 }
 
 // All words of table t become 0, in the run that holds it.
-pub fn wipe(words: &mut [u64], second: &mut [u64], t: u32)
-    ensures { λ _. ⌜ ((k : ℕ) → length (now (words .entry)) ≡ entries four * k
-        → now (words .exit) ++ now (second .exit) ≡ zeroed (now (words .entry) ++ now (second .entry)) (slot four t 0) (entries four)) ⌝ }
+pub fn wipe(granule: u64, words: &mut [u64], second: &mut [u64], t: u32)
+    ensures { λ _. ⌜ ((k : ℕ) → length (now (words .entry)) ≡ entries (granuleOf granule) * k
+        → now (words .exit) ++ now (second .exit) ≡ zeroed (now (words .entry) ++ now (second .entry)) (slot (granuleOf granule) t 0) (entries (granuleOf granule))) ⌝ }
 {
     let n = words.len();
-    let start = ENTRIES * (t as usize);
+    let start = entry_place(granule, t, 0);
+    let count = path::entries_of(granule) as usize;
     if start < n {
-        wipe_from(words, start);
+        wipe_from(words, start, count);
         return;
     }
     let at = start - n;
-    wipe_from(second, at);
+    wipe_from(second, at, count);
 }
 
-// A table's worth of words from a place of one run on, as far as there are such.
-fn words_from(words: &[u64], start: usize) -> &[u64]
-    ensures { λ r. ⌜ now r ≡ part (now (words .entry)) start (entries four) ⌝ }
+// So many words from a place of one run on, as far as there are such.
+fn words_from(words: &[u64], start: usize, count: usize) -> &[u64]
+    ensures { λ r. ⌜ now r ≡ part (now (words .entry)) start count ⌝ }
 {
     let n = words.len();
     if start >= n {
         return &words[n..n];
     }
-    if n - start < ENTRIES {
+    if n - start < count {
         return &words[start..n];
     }
-    let past = start + ENTRIES;
+    let past = start + count;
     &words[start..past]
 }
 
 // The words of table t: the part of whichever run holds it, as far as there are such.
-pub fn table_part<'a>(words: &'a [u64], second: &'a [u64], t: u32) -> &'a [u64]
-    ensures { λ r. ⌜ ((k : ℕ) → length (now (words .entry)) ≡ entries four * k
-        → now r ≡ part (now (words .entry) ++ now (second .entry)) (slot four t 0) (entries four)) ⌝ }
+pub fn table_part<'a>(granule: u64, words: &'a [u64], second: &'a [u64], t: u32) -> &'a [u64]
+    ensures { λ r. ⌜ ((k : ℕ) → length (now (words .entry)) ≡ entries (granuleOf granule) * k
+        → now r ≡ part (now (words .entry) ++ now (second .entry)) (slot (granuleOf granule) t 0) (entries (granuleOf granule))) ⌝ }
 {
     let n = words.len();
-    let start = ENTRIES * (t as usize);
+    let start = entry_place(granule, t, 0);
+    let count = path::entries_of(granule) as usize;
     if start < n {
-        return words_from(words, start);
+        return words_from(words, start, count);
     }
     let at = start - n;
-    words_from(second, at)
+    words_from(second, at, count)
 }
 
 // Whether any of the words of a step is in use.
@@ -190,18 +197,39 @@ fn zeros_but(w: &[u64], but: usize) -> bool
 }
 
 // Whether all words of table t are 0.
-pub fn is_table_empty<'a>(words: &'a [u64], second: &'a [u64], t: u32) -> bool
-    ensures { λ r. ⌜ ((k : ℕ) → length (now (words .entry)) ≡ entries four * k
-        → r ≡ allZero (part (now (words .entry) ++ now (second .entry)) (slot four t 0) (entries four))) ⌝ }
+pub fn is_table_empty<'a>(granule: u64, words: &'a [u64], second: &'a [u64], t: u32) -> bool
+    ensures { λ r. ⌜ ((k : ℕ) → length (now (words .entry)) ≡ entries (granuleOf granule) * k
+        → r ≡ allZero (part (now (words .entry) ++ now (second .entry)) (slot (granuleOf granule) t 0) (entries (granuleOf granule)))) ⌝ }
 {
-    zeros_but(table_part(words, second, t), ENTRIES)
+    let none = path::entries_of(granule) as usize;
+    zeros_but(table_part(granule, words, second, t), none)
 }
 
-// Whether table t has no entry but entry i.
-pub fn only_entry<'a>(words: &'a [u64], second: &'a [u64], t: u32, i: u16) -> bool
-    ensures { λ r. ⌜ ((k : ℕ) → length (now (words .entry)) ≡ entries four * k → r ≡ onlyEntry four (now (words .entry) ++ now (second .entry)) t i) ⌝ }
+// The entry that stands beside entry i in memory.
+fn beside(granule: u64, i: u16) -> u16
+    ensures { λ r. ⌜ (r < entries (granuleOf granule)) × (r ≡ i → ⊥) ⌝ }
 {
-    zeros_but(table_part(words, second, t), i as usize)
+    let k = i as u64;
+    if k % 2 == 0 {
+        return path::index_in(granule, k + 1);
+    }
+    path::index_in(granule, k - 1)
+}
+
+// Whether table t has no entry but entry i. Where it has another, that is mostly the one beside or the first, so these two are read before the steps.
+pub fn only_entry<'a>(granule: u64, words: &'a [u64], second: &'a [u64], t: u32, i: u16) -> bool
+    ensures { λ r. ⌜ ((k : ℕ) → length (now (words .entry)) ≡ entries (granuleOf granule) * k
+        → r ≡ onlyEntry (granuleOf granule) (now (words .entry) ++ now (second .entry)) t i) ⌝ }
+{
+    if word(words, second, entry_place(granule, t, beside(granule, i))) != 0 {
+        return false;
+    }
+    if i > 0 {
+        if word(words, second, entry_place(granule, t, 0)) != 0 {
+            return false;
+        }
+    }
+    zeros_but(table_part(granule, words, second, t), i as usize)
 }
 
 // Whether c is among four tables.

@@ -1,18 +1,20 @@
 -- What unmap does, by what its tests and its walk found.
-use Prim.Native.Nat.{ℕ, _+_, _-_, _/_, _%_, _≤_, _<_}
+use Prim.Native.Nat.{ℕ, _+_, _-_, _*_, _/_, _%_, _≤_, _<_}
 use mathlib.Core.Path.{_≡_, refl, sym, ap, _∙_}
 use mathlib.Core.Logic.{_≢_}
 use mathlib.Core.Bool.{Bool, true, false, not, _||_, false≢true}
 use mathlib.Core.List.{List}
+use native.Mathlib.Nat.{mul-comm, div-lt-iff-lt-mul}
 use native.Mathlib.Omega.{arith}
 use borrow.Author.Tests.{not-true, not-false, lt-ltb, le-ltb, leb-true, leb-false, eq-eqb, ne-eqb}
+use lib.Arith.{digits-div, digits-mod}
 use lib.Dec.{leb}
 use lib.ListN.{length, getD, set}
-use Rattle.path.specs.Geometry.{Granule, Sane, four, sizeAt, atLevel}
+use Rattle.path.specs.Geometry.{Granule, Sane, entries, sizeAt, atLevel}
 use Rattle.path.specs.Areas.{areaOf, total}
 use Rattle.path.specs.Numbers.{withFree, GoodSetup}
 use Rattle.path.specs.Paths.{pathOf}
-use Rattle.path.specs.Laws.{level-some}
+use Rattle.path.specs.Laws.{entries-pos, level-some}
 use Rattle.path.specs.PathLaws.{path-of-path}
 use Rattle.path.specs.declared.Setup.{Setup}
 use Rattle.entry.specs.Words.{entryAt}
@@ -73,11 +75,16 @@ module _ {G : Granule} {s : Setup} {cut w l left : ℕ} (S : Sane G) (g : GoodSe
 
 -- the table and the index of an entry, by its place
 pub place-parts :
-    (way : List ℕ) (a left : ℕ) {place : ℕ} → place ≡ slot four (atHeight way left) (atHeight (pathOf four a) left)
-    → (place / 512 ≡ atHeight way left) × (place % 512 ≡ atHeight (pathOf four a) left)
-place-parts way a left e =
-    let l = path-of-path four a .below (3 - left) (omega arith) in
-    (omega arith, omega arith)
+    (G : Granule) (way : List ℕ) (a left : ℕ) {place : ℕ} → place ≡ slot G (atHeight way left) (atHeight (pathOf G a) left)
+    → (place / entries G ≡ atHeight way left) × (place % entries G ≡ atHeight (pathOf G a) left)
+place-parts G way a left e =
+    let l = path-of-path G a .below (3 - left) (omega arith) in
+    let d = mul-comm (entries G) (atHeight way left) in
+    (rw (e, d) (digits-div (atHeight way left) l), rw (e, d) (digits-mod (atHeight way left) l))
+
+-- a place among the words of n tables is in one of them
+pub place-table : (G : Granule) (n : ℕ) {words place : ℕ} → words ≡ entries G * n → place < words → place / entries G < n
+place-table G n e l = div-lt-iff-lt-mul (entries-pos G) .1 (omega (arith, mul-comm n (entries G)))
 
 -- a table that stays gives none back
 pub stays-none :

@@ -10,7 +10,7 @@ ghost use mathlib.Core.List.{_++_};
 ghost use Prim.Native.Nat.{ℕ, _+_, _-_, _*_, _/_, _%_, _^_, _≤_, _<_};
 ghost use lib.Dec.{leb};
 ghost use lib.ListN.{length};
-ghost use Rattle.path.specs.Geometry.{four, entries, sizeAt};
+ghost use Rattle.path.specs.Geometry.{granuleOf, entries, sizeAt};
 ghost use Rattle.path.specs.Paths.{baseAt, pathOf};
 ghost use Rattle.path.specs.Numbers.{mostTables, goodSetup};
 ghost use Rattle.entry.specs.declared.Entry.the-variants.{Frame};
@@ -21,13 +21,13 @@ ghost use Rattle.model.specs.Calls.{unmapTests, unmapAt, unmapW};
 ghost use Rattle.plans.specs.Plan.{planned};
 
 // Unmap's tests 4 and 5, or 0.
-fn unmap_tests(levels: u64, address: u64) -> u64
-    ensures { λ r. ⌜ r ≡ unmapTests four levels address ⌝ }
+fn unmap_tests(granule: u64, levels: u64, address: u64) -> u64
+    ensures { λ r. ⌜ r ≡ unmapTests (granuleOf granule) levels address ⌝ }
 {
-    if !path::in_space(levels, address, 1) {
+    if !path::in_space(granule, levels, address, 1) {
         return 4;
     }
-    if address % path::PAGE != 0 {
+    if path::rest_at(granule, address, 0) != 0 {
         return 5;
     }
     0
@@ -36,6 +36,7 @@ fn unmap_tests(levels: u64, address: u64) -> u64
 // Of the tables on the way, from the one with entries of height `left` upward, the root excepted: how many come free, one after the other, once the
 // path's entry in each is cleared.
 fn count_freed<'a>(
+    granule: u64,
     words: &'a [u64],
     second: &'a [u64],
     way: [u32; 4],
@@ -44,15 +45,15 @@ fn count_freed<'a>(
     top: usize,
 ) -> usize
     requires { ⌜ (left ≤ top) × (top ≤ 3) ⌝ }
-    ensures { λ r. ⌜ ((k : ℕ) → length (now (words .entry)) ≡ entries four * k
-        → r ≡ freed four (now (words .entry) ++ now (second .entry)) way path left (top - left)) ⌝ }
+    ensures { λ r. ⌜ ((k : ℕ) → length (now (words .entry)) ≡ entries (granuleOf granule) * k
+        → r ≡ freed (granuleOf granule) (now (words .entry) ++ now (second .entry)) way path left (top - left)) ⌝ }
 {
     let mut h = left;
     while h < top {
         let at = 3 - h;
         let t = way[at];
         let i = path[at];
-        if !pool::only_entry(words, second, t, i) {
+        if !pool::only_entry(granule, words, second, t, i) {
             return h - left;
         }
         h += 1;
@@ -63,6 +64,7 @@ fn count_freed<'a>(
 // The writes of an unmap: the frame's word becomes 0; then, for each table that comes free, its parent's entry becomes 0, and after that the table goes
 // on the free list.
 fn unmap_plan(
+    granule: u64,
     way: [u32; 4],
     path: [u16; 4],
     left: usize,
@@ -70,18 +72,18 @@ fn unmap_plan(
     given: usize,
 ) -> [Step; plans::STEPS]
     requires { ⌜ (left + given ≤ 3) × (free ≤ mostTables) ⌝ }
-    ensures { λ r. ⌜ planned r ≡ unmapWrites four way path left free given ⌝ }
+    ensures { λ r. ⌜ planned r ≡ unmapWrites (granuleOf granule) way path left free given ⌝ }
 {
     let mut plan = [Step::Nothing; plans::STEPS];
     let at = 3 - left;
-    let place = plans::entry_place(way[at], path[at]);
+    let place = pool::entry_place(granule, way[at], path[at]);
     plan[0] = Step::Store { place, value: 0 };
     let mut k = 0;
     while k < given {
         let at = 3 - (left + k);
         let table = way[at];
         let up = at - 1;
-        let place = plans::entry_place(way[up], path[up]);
+        let place = pool::entry_place(granule, way[up], path[up]);
         let next = free + k;
         plan[2 * k + 1] = Step::Store { place, value: 0 };
         plan[2 * k + 2] = Step::Give { place: next, table };
@@ -102,11 +104,11 @@ fn unmap_refused(no: u64, s: Setup) -> Unmapped
 
 // An unmap that is refused at an empty entry of this height: 9, and the hole around the address.
 fn unmap_hole(s: Setup, address: u64, height: usize) -> Unmapped
-    requires { ⌜ height ≤ 3 ⌝ }
-    ensures { λ r. ⌜ (saysUnmap (r .answer) ≡ hole (baseAt four address height) (sizeAt four height)) × (r .setup ≡ s) ⌝ }
+    requires { ⌜ height < granuleOf (s .granule) .most ⌝ }
+    ensures { λ r. ⌜ (saysUnmap (r .answer) ≡ hole (baseAt (granuleOf (s .granule)) address height) (sizeAt (granuleOf (s .granule)) height)) × (r .setup ≡ s) ⌝ }
 {
-    let base = path::base_at(address, height);
-    let size = path::size_at(height);
+    let base = path::base_at(s.granule, address, height);
+    let size = path::size_at(s.granule, height);
     Unmapped {
         answer: UnmapAnswer::Hole { base, size },
         setup: s,
@@ -125,21 +127,21 @@ fn unmap_more(
     way: [u32; 4],
     left: usize,
 ) -> Unmapped
-    requires { ⌜ (goodSetup four s (length (now words)) (length (now words ++ now second)) (length (now list)) ≡ true) × ((left < s .levels - 1) × ((address % sizeAt four left ≡ 0) × (onlyEntry four (now words ++ now second) (atHeight way left) (atHeight (pathOf four address) left) ≡ true))) ⌝ }
+    requires { ⌜ (goodSetup (granuleOf (s .granule)) s (length (now words)) (length (now words ++ now second)) (length (now list)) ≡ true) × ((left < s .levels - 1) × ((address % sizeAt (granuleOf (s .granule)) left ≡ 0) × (onlyEntry (granuleOf (s .granule)) (now words ++ now second) (atHeight way left) (atHeight (pathOf (granuleOf (s .granule)) address) left) ≡ true))) ⌝ }
     ensures { λ r. ⌜ unmapDid r (now (words .exit)) (now (second .exit)) (now (list .exit))
-        ≡ unmapAt four (pool s (now (words .entry) ++ now (second .entry)) (length (now (words .entry))) (now (list .entry))) address (stop (Frame frame attributes) left way) (Frame frame attributes) ⌝ }
+        ≡ unmapAt (granuleOf (s .granule)) (pool s (now (words .entry) ++ now (second .entry)) (length (now (words .entry))) (now (list .entry))) address (stop (Frame frame attributes) left way) (Frame frame attributes) ⌝ }
 {
-    let size = path::size_at(left);
-    let path = path::path_of(address);
+    let size = path::size_at(s.granule, left);
+    let path = path::path_of(s.granule, address);
     let top = (s.levels - 1) as usize;
-    let given = count_freed(&words[..], &second[..], way, path, left + 1, top) + 1;
+    let given = count_freed(s.granule, &words[..], &second[..], way, path, left + 1, top) + 1;
     let free = s.free + given as u64;
     let most = s.tables + s.tables2 - 1;
     if free > most {
         return unmap_refused(8, s);
     }
-    let plan = unmap_plan(way, path, left, s.free as usize, given);
-    plans::write_all(words, second, list, plan);
+    let plan = unmap_plan(s.granule, way, path, left, s.free as usize, given);
+    plans::write_all(s.granule, words, second, list, plan);
     Unmapped {
         answer: UnmapAnswer::Given {
             frame,
@@ -152,17 +154,24 @@ fn unmap_more(
 }
 
 // Whether the table of an entry of height `left`, by the entry's place, stays once the entry is cleared: it is the root, or it has another entry.
-fn stays<'a>(words: &'a [u64], second: &'a [u64], place: usize, left: usize, top: usize) -> bool
-    requires { ⌜ place / 512 < 2 ^ 32 ⌝ }
-    ensures { λ r. ⌜ ((k : ℕ) → length (now (words .entry)) ≡ entries four * k
-        → r ≡ (leb top left || not (onlyEntry four (now (words .entry) ++ now (second .entry)) (place / 512) (place % 512)))) ⌝ }
+fn stays<'a>(
+    granule: u64,
+    words: &'a [u64],
+    second: &'a [u64],
+    place: usize,
+    left: usize,
+    top: usize,
+) -> bool
+    requires { ⌜ place / entries (granuleOf granule) < 2 ^ 32 ⌝ }
+    ensures { λ r. ⌜ ((k : ℕ) → length (now (words .entry)) ≡ entries (granuleOf granule) * k
+        → r ≡ (leb top left || not (onlyEntry (granuleOf granule) (now (words .entry) ++ now (second .entry)) (place / entries (granuleOf granule)) (place % entries (granuleOf granule))))) ⌝ }
 {
     if left >= top {
         return true;
     }
-    let t = (place / 512) as u32;
-    let i = (place % 512) as u16;
-    !pool::only_entry(words, second, t, i)
+    let t = path::table_of(granule, place as u64) as u32;
+    let i = path::index_in(granule, place as u64);
+    !pool::only_entry(granule, words, second, t, i)
 }
 
 // Unmap, where the walk ended at a frame, at this place. A frame whose table stays is a single write.
@@ -178,15 +187,15 @@ fn unmap_frame(
     left: usize,
     place: usize,
 ) -> Unmapped
-    requires { ⌜ (goodSetup four s (length (now words)) (length (now words ++ now second)) (length (now list)) ≡ true) × ((left ≤ s .levels - 1) × ((place < length (now words ++ now second)) × (place ≡ slot four (atHeight way left) (atHeight (pathOf four address) left)))) ⌝ }
+    requires { ⌜ (goodSetup (granuleOf (s .granule)) s (length (now words)) (length (now words ++ now second)) (length (now list)) ≡ true) × ((left ≤ s .levels - 1) × ((place < length (now words ++ now second)) × (place ≡ slot (granuleOf (s .granule)) (atHeight way left) (atHeight (pathOf (granuleOf (s .granule)) address) left)))) ⌝ }
     ensures { λ r. ⌜ unmapDid r (now (words .exit)) (now (second .exit)) (now (list .exit))
-        ≡ unmapAt four (pool s (now (words .entry) ++ now (second .entry)) (length (now (words .entry))) (now (list .entry))) address (stop (Frame frame attributes) left way) (Frame frame attributes) ⌝ }
+        ≡ unmapAt (granuleOf (s .granule)) (pool s (now (words .entry) ++ now (second .entry)) (length (now (words .entry))) (now (list .entry))) address (stop (Frame frame attributes) left way) (Frame frame attributes) ⌝ }
 {
-    if path::rest_at(address, left) != 0 {
+    if path::rest_at(s.granule, address, left) != 0 {
         return unmap_refused(10, s);
     }
     let top = (s.levels - 1) as usize;
-    if !stays(&words[..], &second[..], place, left, top) {
+    if !stays(s.granule, &words[..], &second[..], place, left, top) {
         return unmap_more(
             s,
             words,
@@ -203,7 +212,7 @@ fn unmap_frame(
     Unmapped {
         answer: UnmapAnswer::Given {
             frame,
-            size: path::size_at(left),
+            size: path::size_at(s.granule, left),
             attributes,
             tables: 0,
         },
@@ -221,12 +230,12 @@ pub fn unmap(
     address: u64,
 ) -> Unmapped
     ensures { λ r. ⌜ unmapDid r (now (words .exit)) (now (second .exit)) (now (list .exit))
-        ≡ unmapW four (pool s (now (words .entry) ++ now (second .entry)) (length (now (words .entry))) (now (list .entry))) address ⌝ }
+        ≡ unmapW (granuleOf (s .granule)) (pool s (now (words .entry) ++ now (second .entry)) (length (now (words .entry))) (now (list .entry))) address ⌝ }
 {
     if !path::good_setup(s, words.len(), second.len(), list.len()) {
         return unmap_refused(1, s);
     }
-    let no = unmap_tests(s.levels, address);
+    let no = unmap_tests(s.granule, s.levels, address);
     if no != 0 {
         return unmap_refused(no, s);
     }
@@ -238,7 +247,9 @@ pub fn unmap(
         return unmap_refused(8, s);
     }
     let w = pool::word(&words[..], &second[..], place);
-    let e = entry::read_word(w, left, s.base, s.tables as u16, s.base2, s.tables2 as u16);
+    let tables = s.tables as u16;
+    let tables2 = s.tables2 as u16;
+    let e = entry::read_word(s.granule, w, left, s.base, tables, s.base2, tables2);
     match e {
         Entry::Frame { base, attributes } => unmap_frame(
             s,

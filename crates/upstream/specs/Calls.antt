@@ -244,7 +244,7 @@ unfolding formatW
 format-refused G levels area ws cut list n = go (goodNumbers G levels area cut (length ws) (length list))
   where
     left : Bool → Done
-    left y = cond y (done formatted (pool (setupOf levels area (total area - 1)) (replicate (length ws) 0) cut (down (total area)))) (refuse 1 (pool noSetup ws cut list))
+    left y = cond y (done formatted (pool (setupOf G levels area (total area - 1)) (replicate (length ws) 0) cut (down (total area)))) (refuse 1 (pool noSetup ws cut list))
 
     go : (y : Bool) → left y .answer ≡ refused n → (left y .after .words ≡ ws) × (left y .after .list ≡ list)
     go true e = let z : _≡_ {A = ℕ} 0 1 = cc in absurd (omega arith)

@@ -185,6 +185,7 @@ module _ (G : Granule) (Z : Sane G) where
       cleared-tree : SimIf G Z ⊥ ⊥ (removed G p g a) (withLive (own G Z J) (map (shown G Z) (without h r (J .L))))
       cleared-tree = record {
         good = record {
+          granule-is = J .good .granule-is;
           numbers = record {
             enough = J .good .numbers .enough;
             not-more = J .good .numbers .not-more;
@@ -368,6 +369,7 @@ module _ (G : Granule) (Z : Sane G) where
       pruned-tree : SimIf G Z ⊥ ⊥ (prunedBy G p a Empty) (own G Z K)
       pruned-tree = record {
         good = record {
+          granule-is = K .good .granule-is;
           numbers = record {
             enough = K .good .numbers .enough;
             not-more = K .good .numbers .not-more;

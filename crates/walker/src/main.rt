@@ -12,7 +12,12 @@ const MIB2: u64 = 0x20_0000;
 
 const GIB: u64 = 0x4000_0000;
 
-type Words = [u64; 2048];
+const MIB32: u64 = 0x200_0000;
+
+// The numbers of the granules.
+const KIB4: u64 = 4096;
+
+const KIB16: u64 = 16384;
 
 type List = [u32; 4];
 
@@ -24,7 +29,7 @@ const BLOCK: u64 = 0x8000_07FD;
 
 const ACCESS_FLAG: u64 = 0x400;
 
-// The addresses that are asked for with three levels, and with four.
+// The addresses that are asked for with three levels, with four, and with 16 KiB.
 const THREE: [u64; 11] = [
     0,
     0xFFF,
@@ -48,18 +53,33 @@ const FOUR: [u64; 6] = [
     0x1_0000_0000_0000,
 ];
 
+const SIXTEEN: [u64; 12] = [
+    0,
+    0x3FFF,
+    0x5ABC,
+    0x8000,
+    0xC008,
+    0x200_0000,
+    0x201_2345,
+    0x3FF_FFFF,
+    0x400_0000,
+    0x10_0000_0000,
+    0x7FFF_FFFF_C123,
+    0x8000_0000_0000,
+];
+
 // What an address is translated to.
-fn walk(words: &[u64], levels: u64, address: u64) -> Seen {
-    armwalk::stage2(words, &NO_WORDS, BASE, 0, levels, address)
+fn walk(granule: u64, words: &[u64], levels: u64, address: u64) -> Seen {
+    armwalk::stage2(granule, words, &NO_WORDS, BASE, 0, levels, address)
 }
 
 // What each address of a list is translated to.
-fn lines(title: &[u8], addresses: &[u64], words: &[u64], levels: u64) {
+fn lines(title: &[u8], addresses: &[u64], granule: u64, words: &[u64], levels: u64) {
     show::title(title);
     let mut i = 0;
     while i < addresses.len() {
         let a = addresses[i];
-        show::line(a, walk(words, levels, a));
+        show::line(a, walk(granule, words, levels, a));
         i += 1;
     }
 }
@@ -67,7 +87,7 @@ fn lines(title: &[u8], addresses: &[u64], words: &[u64], levels: u64) {
 // A map, of which the setup goes on.
 fn map(
     s: Setup,
-    words: &mut Words,
+    words: &mut [u64],
     list: &List,
     address: u64,
     frame: u64,
@@ -89,91 +109,153 @@ fn map(
 }
 
 // An unmap, of which the setup goes on.
-fn unmap(s: Setup, words: &mut Words, list: &mut List, address: u64) -> Setup {
+fn unmap(s: Setup, words: &mut [u64], list: &mut List, address: u64) -> Setup {
     let mut second = NO_WORDS;
     let d = pagetable::unmap(s, words, &mut second, list, address);
     d.setup
 }
 
-fn fresh(words: &mut Words, list: &mut List, levels: u64) -> Setup {
+fn fresh(granule: u64, words: &mut [u64], list: &mut List, levels: u64) -> Setup {
     let mut second = NO_WORDS;
-    let d = pagetable::format(levels, BASE, 4, 0, 0, words, &mut second, list);
+    let d = pagetable::format(levels, BASE, 4, 0, 0, granule, words, &mut second, list);
     d.setup
 }
 
 // Document 01's cases 10 and 11.
-fn last_page(s: Setup, words: &mut Words, list: &mut List) {
+fn last_page(s: Setup, words: &mut [u64], list: &mut List) {
     let s = unmap(s, words, list, MIB2);
-    map(s, words, list, 0x7F_FFFF_F000, FRAME, 4096, 3);
-    lines(b"case 11, the last page of the space:", &THREE, words, 3);
+    map(s, words, list, 0x7F_FFFF_F000, FRAME, KIB4, 3);
+    lines(
+        b"case 11, the last page of the space:",
+        &THREE,
+        KIB4,
+        words,
+        3,
+    );
 }
 
 // Case 9, after which the device page goes too.
-fn pages_go(s: Setup, words: &mut Words, list: &mut List) {
+fn pages_go(s: Setup, words: &mut [u64], list: &mut List) {
     let s = unmap(s, words, list, 0);
     let s = unmap(s, words, list, 0x1000);
     let s = unmap(s, words, list, 0x3000);
-    lines(b"case 9, the block alone:", &THREE, words, 3);
+    lines(b"case 9, the block alone:", &THREE, KIB4, words, 3);
     last_page(s, words, list);
 }
 
 // Case 4, and a device page.
-fn block(s: Setup, words: &mut Words, list: &mut List) {
+fn block(s: Setup, words: &mut [u64], list: &mut List) {
     let s = map(s, words, list, MIB2, FRAME + MIB2, MIB2, 3);
-    let s = map(s, words, list, 0x3000, 0x900_0000, 4096, 11);
+    let s = map(s, words, list, 0x3000, 0x900_0000, KIB4, 11);
     lines(
         b"case 4, two pages and a block, with a device page:",
         &THREE,
+        KIB4,
         words,
         3,
     );
     pages_go(s, words, list);
 }
 
-// Cases 1 to 3.
-fn two_pages(words: &mut Words, list: &mut List) {
-    let s = fresh(words, list, 3);
-    lines(b"case 1, a fresh format:", &THREE, words, 3);
-    let s = map(s, words, list, 0, FRAME, 4096, 3);
-    let s = map(s, words, list, 0x1000, FRAME + 0x1000, 4096, 5);
+// Cases 2 and 3.
+fn two_pages(s: Setup, words: &mut [u64], list: &mut List) {
+    let s = map(s, words, list, 0, FRAME, KIB4, 3);
+    let s = map(s, words, list, 0x1000, FRAME + 0x1000, KIB4, 5);
     block(s, words, list);
 }
 
+// Case 1, and those after it.
+fn first_cases(words: &mut [u64], list: &mut List) {
+    let s = fresh(KIB4, words, list, 3);
+    lines(b"case 1, a fresh format:", &THREE, KIB4, words, 3);
+    two_pages(s, words, list);
+}
+
 // Four levels with a block of 1 GiB, and with the last block of 2 MiB.
-fn four_levels(words: &mut Words, list: &mut List) {
-    let s = fresh(words, list, 4);
+fn four_levels(words: &mut [u64], list: &mut List) {
+    let s = fresh(KIB4, words, list, 4);
     let s = map(s, words, list, GIB, FRAME, GIB, 7);
     map(s, words, list, 0xFFFF_FFE0_0000, FRAME, MIB2, 1);
     lines(
         b"four levels, a block of 1 GiB and the last of 2 MiB:",
         &FOUR,
+        KIB4,
         words,
         4,
     );
 }
 
+// With 16 KiB the last page of the space.
+fn large_last(s: Setup, words: &mut [u64], list: &mut List) {
+    let s = unmap(s, words, list, MIB32);
+    map(s, words, list, 0x7FFF_FFFF_C000, FRAME, KIB16, 3);
+    lines(
+        b"16 KiB, the last page of the space:",
+        &SIXTEEN,
+        KIB16,
+        words,
+        3,
+    );
+}
+
+// With 16 KiB the block of 32 MiB alone.
+fn large_block(s: Setup, words: &mut [u64], list: &mut List) {
+    let s = unmap(s, words, list, 0);
+    let s = unmap(s, words, list, 0x4000);
+    let s = unmap(s, words, list, 0xC000);
+    lines(b"16 KiB, the block alone:", &SIXTEEN, KIB16, words, 3);
+    large_last(s, words, list);
+}
+
+// With 16 KiB a block of 32 MiB beside the pages, and a device page.
+fn large_pages(s: Setup, words: &mut [u64], list: &mut List) {
+    let s = map(s, words, list, MIB32, FRAME + MIB32, MIB32, 3);
+    let s = map(s, words, list, 0xC000, 0x900_0000, KIB16, 11);
+    lines(
+        b"16 KiB, two pages and a block, with a device page:",
+        &SIXTEEN,
+        KIB16,
+        words,
+        3,
+    );
+    large_block(s, words, list);
+}
+
+// The cases in large: pages of 16 KiB.
+fn larger_granule(words: &mut [u64], list: &mut List) {
+    let s = fresh(KIB16, words, list, 3);
+    let s = map(s, words, list, 0, FRAME, KIB16, 3);
+    let s = map(s, words, list, 0x4000, FRAME + 0x4000, KIB16, 5);
+    large_pages(s, words, list);
+}
+
 // With one word that the page table never writes.
-fn strange(title: &[u8], words: &mut Words, i: usize, w: u64) {
+fn strange(
+    title: &[u8],
+    addresses: &[u64],
+    granule: u64,
+    words: &mut [u64],
+    levels: u64,
+    i: usize,
+    w: u64,
+) {
     let mut second = NO_WORDS;
     pool::put(words, &mut second, i, w);
-    lines(title, &FOUR, words, 4);
+    lines(title, addresses, granule, words, levels);
 }
 
 fn main() {
     let mut words = [0u64; 2048];
+    let mut large = [0u64; 8192];
     let mut list = [0u32; 4];
-    two_pages(&mut words, &mut list);
+    first_cases(&mut words, &mut list);
     four_levels(&mut words, &mut list);
-    strange(
-        b"the first without its access flag:",
-        &mut words,
-        513,
-        BLOCK - ACCESS_FLAG,
-    );
-    strange(
-        b"a block of 512 GiB, which there is not:",
-        &mut words,
-        0,
-        BLOCK,
-    );
+    let flag = b"the first without its access flag:";
+    let word = BLOCK - ACCESS_FLAG;
+    strange(flag, &FOUR, KIB4, &mut words, 4, 513, word);
+    larger_granule(&mut large, &mut list);
+    let small_root = b"a block of 512 GiB, which there is not:";
+    strange(small_root, &FOUR, KIB4, &mut words, 4, 0, BLOCK);
+    let large_root = b"a block of 64 GiB, which there is not:";
+    strange(large_root, &SIXTEEN, KIB16, &mut large, 3, 1, BLOCK);
 }

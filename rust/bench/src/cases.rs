@@ -1,7 +1,7 @@
 //! What is measured.
 
-use judge::Random;
-use oakabut::{BLOCK_1G, BLOCK_2M, PAGE};
+use judge::{Random, Shape};
+use oakabut::{GRANULE_16K, GRANULE_4K};
 
 use crate::pool::{Kept, Note, Pool};
 use crate::sides::Side;
@@ -9,10 +9,48 @@ use crate::sides::Side;
 const FRAME: u64 = 0x80_0000_0000;
 const ATTRIBUTES: u64 = 3;
 
+/// The levels and the granule of a tree.
+#[derive(Clone, Copy)]
+struct Tree {
+    levels: u64,
+    granule: u64,
+}
+
+const THREE: Tree = Tree { levels: 3, granule: GRANULE_4K };
+const FOUR: Tree = Tree { levels: 4, granule: GRANULE_4K };
+const LARGE: Tree = Tree { levels: 3, granule: GRANULE_16K };
+
+impl Tree {
+    /// What an entry stands for, in a table with so many levels left.
+    fn region(self, left: u64) -> u64 {
+        Shape::of(self.granule).region(left)
+    }
+
+    fn page(self) -> u64 {
+        self.region(1)
+    }
+
+    fn block(self) -> u64 {
+        self.region(2)
+    }
+
+    fn entries(self) -> u64 {
+        self.granule / 8
+    }
+
+    fn name(self) -> &'static str {
+        match (self.granule, self.levels) {
+            (GRANULE_16K, _) => "16 KiB",
+            (_, 3) => "3 levels",
+            _ => "4 levels",
+        }
+    }
+}
+
 /// A case: a pool, and work on it that leaves it as it was.
 pub struct Case {
     pub name: String,
-    levels: u64,
+    tree: Tree,
     tables: u64,
     second_tables: u64,
     /// The address and the size of each mapping of the pool.
@@ -32,8 +70,12 @@ enum Work {
 }
 
 impl Case {
+    fn new(name: String, tree: Tree, tables: u64, mappings: Vec<(u64, u64)>, work: Work, rounds: usize) -> Case {
+        Case { name, tree, tables, second_tables: 0, mappings, work, rounds }
+    }
+
     pub fn pool(&self, side: Side) -> Pool {
-        let mut pool = Pool::new(side, self.levels, self.tables, self.second_tables);
+        let mut pool = Pool::new(side, self.tree.levels, self.tree.granule, self.tables, self.second_tables);
         for &(address, size) in &self.mappings {
             let mut answer = Kept::default();
             pool.map(address, FRAME + address, size, ATTRIBUTES, &mut answer);
@@ -54,17 +96,18 @@ impl Case {
     /// Makes the calls of a repetition.
     #[inline(never)]
     pub fn run(&self, pool: &mut Pool, note: &mut impl Note) {
+        let Tree { levels, granule } = self.tree;
         for _ in 0..self.rounds {
             match &self.work {
                 Work::Query(addresses) => addresses.iter().for_each(|&address| pool.query(address, note)),
                 Work::MapUnmap(addresses) => {
                     for &address in addresses {
-                        pool.map(address, FRAME + address, PAGE, ATTRIBUTES, note);
+                        pool.map(address, FRAME + address, granule, ATTRIBUTES, note);
                         pool.unmap(address, note);
                     }
                 }
                 Work::Audit => pool.audit(note),
-                Work::Format => pool.format(self.levels, self.tables, self.second_tables, note),
+                Work::Format => pool.format(levels, granule, self.tables, self.second_tables, note),
             }
         }
     }
@@ -74,75 +117,93 @@ impl Case {
 pub fn all(smoke: bool) -> Vec<Case> {
     let share = |calls: usize| if smoke { calls.div_ceil(100) } else { calls };
     let mut cases = vec![
-        query("the customer's case: a million addresses in the tables", 3, Where::Tables, share(1_000_000)),
-        query("the customer's case: a million addresses anywhere", 3, Where::Anywhere, share(1_000_000)),
+        query("the customer's case: a million addresses in the tables", THREE, Where::Tables, share(1_000_000)),
+        query("the customer's case: a million addresses anywhere", THREE, Where::Anywhere, share(1_000_000)),
     ];
-    for levels in [3, 4] {
-        let places =
-            [("mapped", Where::Mapped), ("in holes", Where::Holes), ("in the tables", Where::Tables), ("anywhere", Where::Anywhere)];
+    for tree in [THREE, FOUR, LARGE] {
+        let places = [
+            ("mapped", Where::Mapped),
+            ("in holes", Where::Holes),
+            ("in the tables", Where::Tables),
+            ("anywhere", Where::Anywhere),
+        ];
         for (place, at) in places {
-            cases.push(query(&format!("query, {levels} levels, {place}"), levels, at, share(200_000)));
+            cases.push(query(&format!("query, {}, {place}", tree.name()), tree, at, share(200_000)));
         }
     }
     // the same tables, all in one region or half of them in a second: every path comes to tables of both
-    for levels in [3, 4] {
-        cases.push(query(&format!("query, {levels} levels, in the tables, one region"), levels, Where::Tables, share(200_000)));
-        cases.push(in_two_regions(query(&format!("query, {levels} levels, in the tables, two regions"), levels, Where::Tables, share(200_000))));
+    for tree in [THREE, FOUR, LARGE] {
+        let name = format!("query, {}, in the tables", tree.name());
+        cases.push(query(&format!("{name}, one region"), tree, Where::Tables, share(200_000)));
+        cases.push(in_two_regions(query(&format!("{name}, two regions"), tree, Where::Tables, share(200_000))));
     }
-    for levels in [3, 4] {
-        cases.push(map_unmap(levels, 0, share(64)));
-    }
+    cases.extend([map_unmap(THREE, 0, share(64)), map_unmap(FOUR, 0, share(64)), map_unmap(LARGE, 0, share(16))]);
     cases.extend([beside("two entries", 1, share(16_000)), beside("a full table", 511, share(16_000))]);
-    cases.extend([map_unmap(3, 1, share(800)), map_unmap(3, 2, share(400)), map_unmap(4, 3, share(400))]);
+    cases.extend([map_unmap(THREE, 1, share(800)), map_unmap(THREE, 2, share(400)), map_unmap(FOUR, 3, share(400))]);
+    cases.extend([map_unmap(LARGE, 1, share(200)), map_unmap(LARGE, 2, share(100))]);
     for tables in [64, 512] {
         cases.push(full_pool(tables, share(400)));
     }
-    cases.extend([audit(16, share(400)), audit(64, share(100)), audit_full(64, share(100)), audit_full(512, share(16)), audit_free(share(1000))]);
+    cases.extend([
+        audit(16, share(400)),
+        audit(64, share(100)),
+        audit_full(64, share(100)),
+        audit_full(512, share(16)),
+        audit_free(share(1000)),
+    ]);
+    cases.push(audit_of("audit, 16 tables of 16 KiB in use", LARGE, 16, 2, share(100)));
     cases.extend([format(16, share(2000)), format(64, share(500)), format(512, share(80))]);
+    cases.push(Case::new("format, 16 tables of 16 KiB".to_string(), LARGE, 16, vec![], Work::Format, share(500)));
     cases
 }
 
-/// The tables of pages of a half-full pool, in which every second page is mapped. They lie in one region of 1 GiB.
-fn page_tables(levels: u64) -> u64 {
-    8 - (levels - 1)
+/// The tables of pages of a half-full pool, in which every second page is mapped. They lie in one region of the entries above.
+fn page_tables(tree: Tree) -> u64 {
+    8 - (tree.levels - 1)
+}
+
+/// The pages of those tables.
+fn pages(tree: Tree) -> u64 {
+    page_tables(tree) * tree.entries()
 }
 
 /// The mappings of the half-full pool of 16 tables: 8 tables are in use, every second page of the tables of pages is mapped, and
-/// so are eight blocks of 2 MiB and one of 1 GiB.
-fn half_full(levels: u64) -> Vec<(u64, u64)> {
-    let pages = (0..page_tables(levels) * 256).map(|i| (2 * i * PAGE, PAGE));
-    let blocks = (0..8).map(|i| ((100 + i) * BLOCK_2M, BLOCK_2M));
-    pages.chain(blocks).chain([(BLOCK_1G, BLOCK_1G)]).collect()
+/// so are eight blocks, and with the smaller granule one of 1 GiB.
+fn half_full(tree: Tree) -> Vec<(u64, u64)> {
+    let pages = (0..pages(tree) / 2).map(|i| (2 * i * tree.page(), tree.page()));
+    let blocks = (0..8).map(|i| ((100 + i) * tree.block(), tree.block()));
+    let large = (tree.granule == GRANULE_4K).then(|| (tree.region(3), tree.region(3)));
+    pages.chain(blocks).chain(large).collect()
 }
 
 #[derive(Clone, Copy)]
 enum Where {
     /// In a mapping picked at random.
     Mapped,
-    /// In a hole of a page between the mapped ones, or of 2 MiB beside the blocks.
+    /// In a hole of a page between the mapped ones, or of a block's size beside the blocks.
     Holes,
     /// In the regions of the tables of pages, where half is mapped.
     Tables,
     Anywhere,
 }
 
-fn query(name: &str, levels: u64, at: Where, calls: usize) -> Case {
-    let random = Random::new(levels);
-    let mappings = half_full(levels);
+fn query(name: &str, tree: Tree, at: Where, calls: usize) -> Case {
+    let random = Random::new(tree.levels);
+    let mappings = half_full(tree);
     let address = |_| match at {
         Where::Mapped => {
             let (address, size) = random.pick(&mappings);
             address + random.below(size)
         }
         Where::Holes => match random.below(2) {
-            0 => (2 * random.below(page_tables(levels) * 256) + 1) * PAGE + random.below(PAGE),
-            _ => (200 + random.below(64)) * BLOCK_2M + random.below(BLOCK_2M),
+            0 => (2 * random.below(pages(tree) / 2) + 1) * tree.page() + random.below(tree.page()),
+            _ => (200 + random.below(64)) * tree.block() + random.below(tree.block()),
         },
-        Where::Tables => random.below(page_tables(levels) * BLOCK_2M),
-        Where::Anywhere => random.below(PAGE << (9 * levels)),
+        Where::Tables => random.below(page_tables(tree) * tree.block()),
+        Where::Anywhere => random.below(tree.region(tree.levels + 1)),
     };
     let work = Work::Query((0..calls).map(address).collect());
-    Case { name: name.to_string(), levels, tables: 16, second_tables: 0, mappings, work, rounds: 1 }
+    Case::new(name.to_string(), tree, 16, mappings, work, 1)
 }
 
 /// The same case with three of the tables in the first region, and the others in a second.
@@ -151,54 +212,62 @@ fn in_two_regions(case: Case) -> Case {
 }
 
 /// Map and unmap of a page, which take so many tables and give them back.
-fn map_unmap(levels: u64, taken: u64, rounds: usize) -> Case {
+fn map_unmap(tree: Tree, taken: u64, rounds: usize) -> Case {
     let moved = ["no table moves", "1 table", "2 tables", "3 tables"][taken as usize];
-    let name = format!("map + unmap of a page, {levels} levels, {moved}");
-    let (mappings, pages): (_, Vec<u64>) = match taken {
+    let name = format!("map + unmap of a page, {}, {moved}", tree.name());
+    let addresses: Vec<u64> = match taken {
         // between the pages of the half-full pool
-        0 => (half_full(levels), (0..page_tables(levels) * 256).map(|i| (2 * i + 1) * PAGE).collect()),
+        0 => (0..pages(tree) / 2).map(|i| (2 * i + 1) * tree.page()).collect(),
         // each page in a region of its own that has no table
-        _ => (half_full(levels), (0..16).map(|i| (i + 2) * (PAGE << (9 * taken))).collect()),
+        1 => (0..16).map(|i| (i + 202) * tree.block()).collect(),
+        _ => (0..16).map(|i| (i + 2) * tree.region(taken + 1)).collect(),
     };
-    let pages = match taken {
-        1 => pages.iter().map(|page| page + 200 * BLOCK_2M).collect(),
-        _ => pages,
-    };
-    Case { name, levels, tables: 16, second_tables: 0, mappings, work: Work::MapUnmap(pages), rounds }
+    Case::new(name, tree, 16, half_full(tree), Work::MapUnmap(addresses), rounds)
 }
 
 /// Map and unmap of one page, which has so many others in its table: of what unmap's empty test reads.
 fn beside(what: &str, others: u64, rounds: usize) -> Case {
-    let mappings = (0..=others).filter(|&i| i != 5).take(others as usize).map(|i| (i * PAGE, PAGE)).collect();
-    Case { name: format!("map + unmap of a page, {what}"), levels: 3, tables: 16, second_tables: 0, mappings, work: Work::MapUnmap(vec![5 * PAGE]), rounds }
+    let page = THREE.page();
+    let mappings = (0..=others).filter(|&i| i != 5).take(others as usize).map(|i| (i * page, page)).collect();
+    Case::new(format!("map + unmap of a page, {what}"), THREE, 16, mappings, Work::MapUnmap(vec![5 * page]), rounds)
 }
 
 /// Map and unmap of a page in each region of 2 MiB of a pool all of whose tables are in use.
 fn full_pool(tables: u64, rounds: usize) -> Case {
-    let regions = tables - 2;
-    let mappings = (0..regions).map(|i| (i * BLOCK_2M, PAGE)).collect();
-    let pages = (0..regions).map(|i| i * BLOCK_2M + (1 + i % 511) * PAGE).collect();
-    Case { name: format!("map + unmap of a page, all {tables} tables in use"), levels: 3, tables, second_tables: 0, mappings, work: Work::MapUnmap(pages), rounds }
+    let (page, block, regions) = (THREE.page(), THREE.block(), tables - 2);
+    let mappings = (0..regions).map(|i| (i * block, page)).collect();
+    let pages = (0..regions).map(|i| i * block + (1 + i % 511) * page).collect();
+    Case::new(
+        format!("map + unmap of a page, all {tables} tables in use"),
+        THREE,
+        tables,
+        mappings,
+        Work::MapUnmap(pages),
+        rounds,
+    )
 }
 
 fn format(tables: u64, rounds: usize) -> Case {
-    Case { name: format!("format, {tables} tables"), levels: 3, tables, second_tables: 0, mappings: vec![], work: Work::Format, rounds }
+    Case::new(format!("format, {tables} tables"), THREE, tables, vec![], Work::Format, rounds)
 }
 
-/// All tables are in use: the root, one below it, and tables of pages with every second page.
+/// All tables are in use: the root, one below it, and tables of pages with every so many-th page.
+fn audit_of(name: &str, tree: Tree, tables: u64, every: u64, rounds: usize) -> Case {
+    let mappings = (0..(tables - 2) * tree.entries() / every).map(|i| (every * i * tree.page(), tree.page())).collect();
+    Case::new(name.to_string(), tree, tables, mappings, Work::Audit, rounds)
+}
+
 fn audit(tables: u64, rounds: usize) -> Case {
-    let mappings = (0..(tables - 2) * 256).map(|i| (2 * i * PAGE, PAGE)).collect();
-    Case { name: format!("audit, {tables} tables in use"), levels: 3, tables, second_tables: 0, mappings, work: Work::Audit, rounds }
+    audit_of(&format!("audit, {tables} tables in use"), THREE, tables, 2, rounds)
 }
 
-/// All tables are in use, and every page of the tables of pages is mapped: with 512 tables 261,120 of them.
+/// Every page of the tables of pages is mapped: with 512 tables 261,120 of them.
 fn audit_full(tables: u64, rounds: usize) -> Case {
-    let mappings = (0..(tables - 2) * 512).map(|i| (i * PAGE, PAGE)).collect();
-    Case { name: format!("audit, all pages of {tables} tables"), levels: 3, tables, second_tables: 0, mappings, work: Work::Audit, rounds }
+    audit_of(&format!("audit, all pages of {tables} tables"), THREE, tables, 1, rounds)
 }
 
 /// Four of 64 tables are in use, and 60 are free.
 fn audit_free(rounds: usize) -> Case {
-    let mappings = vec![(0, PAGE), (BLOCK_2M, PAGE)];
-    Case { name: "audit, 60 of 64 tables free".to_string(), levels: 3, tables: 64, second_tables: 0, mappings, work: Work::Audit, rounds }
+    let mappings = vec![(0, THREE.page()), (THREE.block(), THREE.page())];
+    Case::new("audit, 60 of 64 tables free".to_string(), THREE, 64, mappings, Work::Audit, rounds)
 }

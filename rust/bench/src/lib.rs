@@ -8,13 +8,13 @@ use oakabut::{Audit, Hole, Mapping, Setup};
 use plain::Refusal;
 
 fn to_plain(s: &Setup) -> plain::Setup {
-    let Setup { levels, base, tables, free, second_base, second_tables } = *s;
-    plain::Setup { levels, base, tables, free, second_base, second_tables }
+    let Setup { levels, base, tables, free, second_base, second_tables, granule } = *s;
+    plain::Setup { levels, base, tables, free, second_base, second_tables, granule }
 }
 
 fn from_plain(s: plain::Setup) -> Setup {
-    let plain::Setup { levels, base, tables, free, second_base, second_tables } = s;
-    Setup { levels, base, tables, free, second_base, second_tables }
+    let plain::Setup { levels, base, tables, free, second_base, second_tables, granule } = s;
+    Setup { levels, base, tables, free, second_base, second_tables, granule }
 }
 
 const NO_HOLE: Hole = Hole { base: 0, size: 0 };
@@ -50,12 +50,12 @@ pub extern "C" fn word_meaning(word: u64, size: u64) -> u64 {
 /// As for `oak_format`; here and below the function of the same name.
 #[inline(never)]
 pub unsafe extern "C" fn format(
-    levels: u64, base: u64, tables: u64, second_base: u64, second_tables: u64, words: *mut u64, words_len: usize, second: *mut u64,
-    second_len: usize, list: *mut u32, list_len: usize, answer: *mut Setup,
+    levels: u64, base: u64, tables: u64, second_base: u64, second_tables: u64, granule: u64, words: *mut u64, words_len: usize,
+    second: *mut u64, second_len: usize, list: *mut u32, list_len: usize, answer: *mut Setup,
 ) -> u64 {
     let (words, second) = (from_raw_parts_mut(words, words_len), from_raw_parts_mut(second, second_len));
     let list = from_raw_parts_mut(list, list_len);
-    let (setup, result) = plain::format(levels, base, tables, second_base, second_tables, words, second, list);
+    let (setup, result) = plain::format(levels, base, tables, second_base, second_tables, granule, words, second, list);
     *answer = from_plain(setup);
     result.map_or_else(|refusal| refusal.number(), |()| 0)
 }
@@ -64,8 +64,8 @@ pub unsafe extern "C" fn format(
 /// As for `oak_map`.
 #[inline(never)]
 pub unsafe extern "C" fn map(
-    setup: *const Setup, words: *mut u64, words_len: usize, second: *mut u64, second_len: usize, list: *const u32, list_len: usize,
-    address: u64, frame: u64, size: u64, attributes: u64, answer: *mut Mapped,
+    setup: *const Setup, words: *mut u64, words_len: usize, second: *mut u64, second_len: usize, list: *const u32,
+    list_len: usize, address: u64, frame: u64, size: u64, attributes: u64, answer: *mut Mapped,
 ) -> u64 {
     let (words, second) = (from_raw_parts_mut(words, words_len), from_raw_parts_mut(second, second_len));
     let list = from_raw_parts(list, list_len);
@@ -105,9 +105,10 @@ pub unsafe extern "C" fn query(
 ) -> u64 {
     let (words, second) = (from_raw_parts(words, words_len), from_raw_parts(second, second_len));
     let list = from_raw_parts(list, list_len);
-    let found = plain::query(to_plain(&*setup), words, second, list, address).map(|plain::Found { base, frame, size, attributes }| {
-        Found { mapping: Mapping { base, frame, size, attributes }, hole: NO_HOLE }
-    });
+    let found =
+        plain::query(to_plain(&*setup), words, second, list, address).map(|plain::Found { base, frame, size, attributes }| {
+            Found { mapping: Mapping { base, frame, size, attributes }, hole: NO_HOLE }
+        });
     hand_over(found, |hole| Found { mapping: Mapping { base: 0, frame: 0, size: 0, attributes: 0 }, hole }, answer)
 }
 
@@ -129,8 +130,8 @@ pub unsafe extern "C" fn audit(
 /// As for `oak_add`.
 #[inline(never)]
 pub unsafe extern "C" fn add(
-    setup: *const Setup, words: *const u64, words_len: usize, second: *mut u64, second_len: usize, list: *mut u32, list_len: usize,
-    second_base: u64, second_tables: u64, answer: *mut Setup,
+    setup: *const Setup, words: *const u64, words_len: usize, second: *mut u64, second_len: usize, list: *mut u32,
+    list_len: usize, second_base: u64, second_tables: u64, answer: *mut Setup,
 ) -> u64 {
     let (words, second) = (from_raw_parts(words, words_len), from_raw_parts_mut(second, second_len));
     let list = from_raw_parts_mut(list, list_len);

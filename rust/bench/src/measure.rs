@@ -68,7 +68,10 @@ fn processor_time() -> f64 {
 
 fn same(pools: &[Pool]) -> Result<(), String> {
     for (pool, side) in pools.iter().zip(SIDES) {
-        if (pool.setup, &pool.list) != (pools[0].setup, &pools[0].list) || pool.tables != pools[0].tables || pool.second != pools[0].second {
+        if (pool.setup, &pool.list) != (pools[0].setup, &pools[0].list)
+            || pool.tables != pools[0].tables
+            || pool.second != pools[0].second
+        {
             return Err(format!("the memory of {} differs", side.name));
         }
     }

@@ -37,51 +37,63 @@ impl Note for Kept {
     }
 }
 
-/// A table, which stands where a machine wants it.
+/// Memory that stands where a machine wants a table of either granule: one table of the larger, or four of the smaller.
 #[derive(Clone, PartialEq, Eq)]
-#[repr(align(4096))]
-pub struct Table([u64; 512]);
+#[repr(align(16384))]
+struct Tables([u64; 2048]);
+
+/// The words of so many tables.
+#[derive(PartialEq, Eq)]
+pub struct Words {
+    memory: Vec<Tables>,
+    count: usize,
+}
+
+impl Words {
+    fn new(count: usize) -> Words {
+        Words { memory: vec![Tables([0; 2048]); count.div_ceil(2048)], count }
+    }
+
+    #[inline(always)]
+    fn all(&mut self) -> &mut [u64] {
+        // SAFETY: there are at least so many words, and no gap between them.
+        unsafe { from_raw_parts_mut(self.memory.as_mut_ptr().cast(), self.count) }
+    }
+}
 
 pub struct Pool {
     side: Side,
     pub setup: Setup,
-    pub tables: Vec<Table>,
-    pub second: Vec<Table>,
+    pub tables: Words,
+    pub second: Words,
     pub list: Vec<u32>,
-}
-
-/// The words of tables.
-#[inline(always)]
-fn words(tables: &mut [Table]) -> &mut [u64] {
-    // SAFETY: a table is 512 words, and there is no gap between two.
-    unsafe { from_raw_parts_mut(tables.as_mut_ptr().cast(), 512 * tables.len()) }
 }
 
 impl Pool {
     /// A pool of so many tables in the first region and in the second.
-    pub fn new(side: Side, levels: u64, tables: u64, second_tables: u64) -> Pool {
-        let room = |tables: u64| vec![Table([0; 512]); tables as usize];
+    pub fn new(side: Side, levels: u64, granule: u64, tables: u64, second_tables: u64) -> Pool {
+        let room = |tables: u64| Words::new((granule / 8 * tables) as usize);
         let list = vec![0; (tables + second_tables) as usize];
         let mut pool = Pool { side, setup: NO_SETUP, tables: room(tables), second: room(second_tables), list };
-        pool.format(levels, tables, second_tables, &mut Timed);
+        pool.format(levels, granule, tables, second_tables, &mut Timed);
         pool
     }
 
     #[inline(always)]
-    pub fn format(&mut self, levels: u64, tables: u64, second_tables: u64, note: &mut impl Note) {
-        let (w, v, l) = (words(&mut self.tables), words(&mut self.second), &mut self.list);
+    pub fn format(&mut self, levels: u64, granule: u64, tables: u64, second_tables: u64, note: &mut impl Note) {
+        let (w, v, l) = (self.tables.all(), self.second.all(), &mut self.list);
         let (wp, wl, vp, vl, lp, ll) = (w.as_mut_ptr(), w.len(), v.as_mut_ptr(), v.len(), l.as_mut_ptr(), l.len());
         let second_base = if second_tables == 0 { 0 } else { SECOND_BASE };
         // SAFETY: the slices and the answer are this pool's own, here and below.
         let refusal = unsafe {
-            (self.side.format)(levels, BASE, tables, second_base, second_tables, wp, wl, vp, vl, lp, ll, &mut self.setup)
+            (self.side.format)(levels, BASE, tables, second_base, second_tables, granule, wp, wl, vp, vl, lp, ll, &mut self.setup)
         };
         note.note(refusal, numbers(&self.setup));
     }
 
     #[inline(always)]
     pub fn map(&mut self, address: u64, frame: u64, size: u64, attributes: u64, note: &mut impl Note) {
-        let (w, v, l) = (words(&mut self.tables), words(&mut self.second), &self.list);
+        let (w, v, l) = (self.tables.all(), self.second.all(), &self.list);
         let (wp, wl, vp, vl, lp, ll) = (w.as_mut_ptr(), w.len(), v.as_mut_ptr(), v.len(), l.as_ptr(), l.len());
         let mut answer = NOT_MAPPED;
         let refusal =
@@ -92,7 +104,7 @@ impl Pool {
 
     #[inline(always)]
     pub fn unmap(&mut self, address: u64, note: &mut impl Note) {
-        let (w, v, l) = (words(&mut self.tables), words(&mut self.second), &mut self.list);
+        let (w, v, l) = (self.tables.all(), self.second.all(), &mut self.list);
         let (wp, wl, vp, vl, lp, ll) = (w.as_mut_ptr(), w.len(), v.as_mut_ptr(), v.len(), l.as_mut_ptr(), l.len());
         let mut answer = NOT_UNMAPPED;
         let refusal = unsafe { (self.side.unmap)(&self.setup, wp, wl, vp, vl, lp, ll, address, &mut answer) };
@@ -102,7 +114,7 @@ impl Pool {
 
     #[inline(always)]
     pub fn query(&mut self, address: u64, note: &mut impl Note) {
-        let (w, v, l) = (words(&mut self.tables), words(&mut self.second), &self.list);
+        let (w, v, l) = (self.tables.all(), self.second.all(), &self.list);
         let (wp, wl, vp, vl, lp, ll) = (w.as_ptr(), w.len(), v.as_ptr(), v.len(), l.as_ptr(), l.len());
         let mut answer = NOT_FOUND;
         let refusal = unsafe { (self.side.query)(&self.setup, wp, wl, vp, vl, lp, ll, address, &mut answer) };
@@ -111,7 +123,7 @@ impl Pool {
 
     #[inline(always)]
     pub fn audit(&mut self, note: &mut impl Note) {
-        let (w, v, l) = (words(&mut self.tables), words(&mut self.second), &self.list);
+        let (w, v, l) = (self.tables.all(), self.second.all(), &self.list);
         let (wp, wl, vp, vl, lp, ll) = (w.as_ptr(), w.len(), v.as_ptr(), v.len(), l.as_ptr(), l.len());
         let mut answer = NOT_AUDITED;
         let refusal = unsafe { (self.side.audit)(&self.setup, wp, wl, vp, vl, lp, ll, &mut answer) };

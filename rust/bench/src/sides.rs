@@ -10,9 +10,20 @@ use oakabut::{Audit, Hole, Mapping, Setup};
 type FrameWord = unsafe extern "C" fn(u64, u64, u64) -> u64;
 type WordMeaning = unsafe extern "C" fn(u64, u64) -> u64;
 type Format =
-    unsafe extern "C" fn(u64, u64, u64, u64, u64, *mut u64, usize, *mut u64, usize, *mut u32, usize, *mut Setup) -> u64;
+    unsafe extern "C" fn(u64, u64, u64, u64, u64, u64, *mut u64, usize, *mut u64, usize, *mut u32, usize, *mut Setup) -> u64;
 type Map = unsafe extern "C" fn(
-    *const Setup, *mut u64, usize, *mut u64, usize, *const u32, usize, u64, u64, u64, u64, *mut Mapped,
+    *const Setup,
+    *mut u64,
+    usize,
+    *mut u64,
+    usize,
+    *const u32,
+    usize,
+    u64,
+    u64,
+    u64,
+    u64,
+    *mut Mapped,
 ) -> u64;
 type Unmap = unsafe extern "C" fn(*const Setup, *mut u64, usize, *mut u64, usize, *mut u32, usize, u64, *mut Unmapped) -> u64;
 type Query = unsafe extern "C" fn(*const Setup, *const u64, usize, *const u64, usize, *const u32, usize, u64, *mut Found) -> u64;
@@ -41,8 +52,8 @@ mod c {
         pub fn plain_frame_word(base: u64, size: u64, attributes: u64) -> u64;
         pub fn plain_word_meaning(word: u64, size: u64) -> u64;
         pub fn plain_format(
-            levels: u64, base: u64, tables: u64, second_base: u64, second_tables: u64, words: *mut u64, words_len: usize,
-            second: *mut u64, second_len: usize, list: *mut u32, list_len: usize, answer: *mut Setup,
+            levels: u64, base: u64, tables: u64, second_base: u64, second_tables: u64, granule: u64, words: *mut u64,
+            words_len: usize, second: *mut u64, second_len: usize, list: *mut u32, list_len: usize, answer: *mut Setup,
         ) -> u64;
         pub fn plain_map(
             s: *const Setup, words: *mut u64, words_len: usize, second: *mut u64, second_len: usize, list: *const u32,
@@ -104,7 +115,7 @@ pub const SIDES: [Side; 3] = [
     },
 ];
 
-pub const NO_SETUP: Setup = Setup { levels: 0, base: 0, tables: 0, free: 0, second_base: 0, second_tables: 0 };
+pub const NO_SETUP: Setup = Setup { levels: 0, base: 0, tables: 0, free: 0, second_base: 0, second_tables: 0, granule: 0 };
 pub const NOT_MAPPED: Mapped = Mapped { setup: NO_SETUP, taken: 0 };
 pub const NO_HOLE: Hole = Hole { base: 0, size: 0 };
 pub const NOT_UNMAPPED: Unmapped = Unmapped { setup: NO_SETUP, frame: 0, size: 0, attributes: 0, given: 0, hole: NO_HOLE };
@@ -122,28 +133,29 @@ impl Engine for Side {
     fn call(&mut self, call: &Call, words: &mut [u64], second: &mut [u64], list: &mut [u32]) -> Answer {
         let (w, wl, l, ll) = (words.as_mut_ptr(), words.len(), list.as_mut_ptr(), list.len());
         let (v, vl) = (second.as_mut_ptr(), second.len());
-        let [levels, base, tables, free, second_base, second_tables] = of_setup(call.setup().unwrap_or_default());
-        let s = Setup { levels, base, tables, free, second_base, second_tables };
+        let [levels, base, tables, free, second_base, second_tables, granule] = of_setup(call.setup().unwrap_or_default());
+        let s = Setup { levels, base, tables, free, second_base, second_tables, granule };
         // the room of each answer has something in it that must go
-        let junk = Setup { levels: 1, base: 2, tables: 3, free: 4, second_base: 5, second_tables: 6 };
+        let junk = Setup { levels: 1, base: 2, tables: 3, free: 4, second_base: 5, second_tables: 6, granule: 7 };
         // SAFETY: the pointers and lengths are those of the three slices, which nothing else uses.
         unsafe {
             match *call {
                 Call::FrameWord { base, size, attributes } => Answer::of_host((self.frame_word)(base, size, attributes)),
                 Call::WordMeaning { word, size } => Answer::of_host((self.word_meaning)(word, size)),
-                Call::Format { levels, base, tables, second_base, second_tables } => {
+                Call::Format { levels, base, tables, second_base, second_tables, granule } => {
                     let mut a = junk;
-                    let refusal = (self.format)(levels, base, tables, second_base, second_tables, w, wl, v, vl, l, ll, &mut a);
+                    let refusal =
+                        (self.format)(levels, base, tables, second_base, second_tables, granule, w, wl, v, vl, l, ll, &mut a);
                     Answer::new(refusal, numbers(&a))
                 }
                 Call::Map { address, frame, size, attributes, .. } => {
-                    let mut a = Mapped { setup: junk, taken: 7 };
+                    let mut a = Mapped { setup: junk, taken: 8 };
                     let refusal = (self.map)(&s, w, wl, v, vl, l, ll, address, frame, size, attributes, &mut a);
                     Answer::new(refusal, numbers(&a))
                 }
                 Call::Unmap { address, .. } => {
-                    let hole = Hole { base: 11, size: 12 };
-                    let mut a = Unmapped { setup: junk, frame: 7, size: 8, attributes: 9, given: 10, hole };
+                    let hole = Hole { base: 12, size: 13 };
+                    let mut a = Unmapped { setup: junk, frame: 8, size: 9, attributes: 10, given: 11, hole };
                     Answer::new((self.unmap)(&s, w, wl, v, vl, l, ll, address, &mut a), numbers(&a))
                 }
                 Call::Query { address, .. } => {

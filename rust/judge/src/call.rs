@@ -5,15 +5,47 @@ use plain::{Refusal, Setup};
 /// A call with its numbers; the memory comes beside it.
 #[derive(Clone, Copy, Debug, PartialEq, Eq)]
 pub enum Call {
-    FrameWord { base: u64, size: u64, attributes: u64 },
-    WordMeaning { word: u64, size: u64 },
-    Format { levels: u64, base: u64, tables: u64, second_base: u64, second_tables: u64 },
-    Map { setup: Setup, address: u64, frame: u64, size: u64, attributes: u64 },
-    Unmap { setup: Setup, address: u64 },
-    Query { setup: Setup, address: u64 },
-    Audit { setup: Setup },
+    FrameWord {
+        base: u64,
+        size: u64,
+        attributes: u64,
+    },
+    WordMeaning {
+        word: u64,
+        size: u64,
+    },
+    Format {
+        levels: u64,
+        base: u64,
+        tables: u64,
+        second_base: u64,
+        second_tables: u64,
+        granule: u64,
+    },
+    Map {
+        setup: Setup,
+        address: u64,
+        frame: u64,
+        size: u64,
+        attributes: u64,
+    },
+    Unmap {
+        setup: Setup,
+        address: u64,
+    },
+    Query {
+        setup: Setup,
+        address: u64,
+    },
+    Audit {
+        setup: Setup,
+    },
     /// The second region, of so many tables from a base on.
-    Add { setup: Setup, base: u64, tables: u64 },
+    Add {
+        setup: Setup,
+        base: u64,
+        tables: u64,
+    },
 }
 
 impl Call {
@@ -72,20 +104,21 @@ impl Call {
 #[derive(Clone, Copy, Debug, PartialEq, Eq)]
 pub struct Answer {
     pub refusal: u64,
-    pub numbers: [u64; 12],
+    pub numbers: [u64; SETUP + 6],
 }
 
 /// How many numbers a setup has. Those of an answer that go with a setup follow them.
-pub const SETUP: usize = 6;
+pub const SETUP: usize = 7;
 
 /// The numbers of a setup, in the order of the C header.
 pub fn numbers(setup: Setup) -> [u64; SETUP] {
-    [setup.levels, setup.base, setup.tables, setup.free, setup.second_base, setup.second_tables]
+    let Setup { levels, base, tables, free, second_base, second_tables, granule } = setup;
+    [levels, base, tables, free, second_base, second_tables, granule]
 }
 
 impl Answer {
     pub fn new(refusal: u64, numbers: &[u64]) -> Answer {
-        let mut answer = Answer { refusal, numbers: [0; 12] };
+        let mut answer = Answer { refusal, numbers: [0; SETUP + 6] };
         answer.numbers[..numbers.len()].copy_from_slice(numbers);
         answer
     }
@@ -108,8 +141,8 @@ impl Answer {
 
     /// The setup in the answer of a call that hands one back.
     pub fn setup(&self) -> Setup {
-        let [levels, base, tables, free, second_base, second_tables, ..] = self.numbers;
-        Setup { levels, base, tables, free, second_base, second_tables }
+        let [levels, base, tables, free, second_base, second_tables, granule, ..] = self.numbers;
+        Setup { levels, base, tables, free, second_base, second_tables, granule }
     }
 }
 
@@ -126,8 +159,9 @@ impl Engine for Plain {
         match *call {
             Call::FrameWord { base, size, attributes } => Answer::of_host(plain::frame_word(base, size, attributes)),
             Call::WordMeaning { word, size } => Answer::of_host(plain::word_meaning(word, size)),
-            Call::Format { levels, base, tables, second_base, second_tables } => {
-                let (setup, result) = plain::format(levels, base, tables, second_base, second_tables, words, second, list);
+            Call::Format { levels, base, tables, second_base, second_tables, granule } => {
+                let (setup, result) =
+                    plain::format(levels, base, tables, second_base, second_tables, granule, words, second, list);
                 with_setup(setup, result.map(|()| []))
             }
             Call::Map { setup, address, frame, size, attributes } => {

@@ -1,25 +1,55 @@
 //! The document's cases as steps.
 
-use plain::Setup;
+use plain::{Setup, GRANULES};
 
-use crate::{Call, Step, World};
+use crate::{Call, Shape, Step, World};
 
 /// The tables of the second region that some histories add.
 const MORE: usize = 2;
 
-/// The steps of the eleven cases and of the further ones. Each call goes in with the setup that the last one handed back.
+/// The steps of the eleven cases and of the further ones, and of the same cases with the larger granule. Each call goes in with the setup that
+/// the last one handed back.
 pub fn cases() -> Vec<Step> {
-    let setup = Setup::default();
-    let map = |address, frame, size, attributes| Call::Map { setup, address, frame, size, attributes };
-    let unmap = |address| Call::Unmap { setup, address };
-    let eleven = [
+    let [four, sixteen] = GRANULES;
+    let (eleven, in_large) = (eleven(), in_large());
+    let device = [map(0, 0x8000_0000, 4096, 11)];
+    let mut steps = Vec::new();
+    for (granule, levels, tables, calls) in [
+        (four, 3, 4, &eleven[..]),
+        (four, 3, 2, &eleven[..1]),
+        (four, 4, 4, &eleven[..]),
+        (four, 3, 4, &device[..]),
+        (four, 3, 4, &story(&eleven)[..]),
+        (sixteen, 3, 4, &in_large[..]),
+        (sixteen, 3, 2, &in_large[..1]),
+        (sixteen, 3, 4, &story(&in_large)[..]),
+    ] {
+        add_history(&mut steps, granule, levels, tables, calls);
+    }
+    steps
+}
+
+fn map(address: u64, frame: u64, size: u64, attributes: u64) -> Call {
+    Call::Map { setup: Setup::default(), address, frame, size, attributes }
+}
+
+fn unmap(address: u64) -> Call {
+    Call::Unmap { setup: Setup::default(), address }
+}
+
+fn query(address: u64) -> Call {
+    Call::Query { setup: Setup::default(), address }
+}
+
+fn eleven() -> Vec<Call> {
+    vec![
         map(0, 0x8000_0000, 4096, 3),
         map(0x1000, 0x8000_1000, 4096, 5),
         map(0x20_0000, 0x8020_0000, 1 << 21, 3),
         map(0x20_1000, 0x8000_0000, 4096, 3),
         map(0, 0x8000_0000, 1 << 21, 3),
         map(0x4000_0000, 0x8000_0000, 4096, 3),
-        Call::Query { setup, address: 0x20_1234 },
+        query(0x20_1234),
         unmap(0x20_1000),
         unmap(0x3000),
         unmap(0),
@@ -27,37 +57,64 @@ pub fn cases() -> Vec<Step> {
         unmap(0x20_0000),
         map(0x7F_FFFF_F000, 0x8000_0000, 4096, 3),
         map(0x80_0000_0000, 0x8000_0000, 4096, 3),
-    ];
-    let device = [map(0, 0x8000_0000, 4096, 11)];
-    // a map gets 7, spare memory is found, and the same map is accepted
+    ]
+}
+
+/// The same with pages of 16 KiB and a block of 32 MiB. The sizes of the smaller granule are refused.
+fn in_large() -> Vec<Call> {
+    vec![
+        map(0, 0x8000_0000, 1 << 14, 3),
+        map(0x4000, 0x8000_4000, 1 << 14, 5),
+        map(0x200_0000, 0x8200_0000, 1 << 25, 3),
+        map(0x10_0000_0000, 0x8000_0000, 1 << 14, 3),
+        map(0x200_4000, 0x8000_0000, 1 << 14, 3),
+        map(0, 0x8000_0000, 1 << 25, 3),
+        map(0x8000, 0x8000_0000, 4096, 3),
+        map(0x400_0000, 0x8000_0000, 1 << 21, 3),
+        map(0x10_0000_0000, 0x8000_0000, 1 << 30, 3),
+        map(0x9000, 0x8000_0000, 1 << 14, 3),
+        map(0x8000, 0x4000_C000, 1 << 14, 3),
+        query(0x201_2345),
+        query(0x10_0000_0001),
+        unmap(0x200_4000),
+        unmap(0x1000),
+        unmap(0xC000),
+        unmap(0x400_0000),
+        unmap(0),
+        unmap(0x4000),
+        unmap(0x200_0000),
+        map(0x7FFF_FFFF_C000, 0x8000_0000, 1 << 14, 3),
+        map(0x8000_0000_0000, 0x8000_0000, 1 << 14, 3),
+    ]
+}
+
+/// The first three maps; then a map gets 7, spare memory is found, and the same map is accepted.
+fn story(calls: &[Call]) -> Vec<Call> {
+    let setup = Setup::default();
     let add = Call::Add { setup, base: 0x5000_0000, tables: MORE as u64 };
-    let seven = map(0x4000_0000, 0x8000_0000, 4096, 3);
-    let story = [&eleven[..3], &[seven, add, seven, add, unmap(0), unmap(0x1000), map(0x40_0000, 0x8000_0000, 4096, 3)]].concat();
-    let mut steps = Vec::new();
-    for (levels, tables, calls) in
-        [(3, 4, &eleven[..]), (3, 2, &eleven[..1]), (4, 4, &eleven[..]), (3, 4, &device[..]), (3, 4, &story[..])]
-    {
-        add_history(&mut steps, levels, tables, calls);
-    }
-    steps
+    let Call::Map { address: page, size, .. } = calls[1] else { unreachable!("the second call is a map") };
+    let (far, near) = (Shape::of(size).region(3), 2 * Shape::of(size).region(2));
+    let seven = map(far, 0x8000_0000, size, 3);
+    [&calls[..3], &[seven, add, seven, add, unmap(0), unmap(page), map(near, 0x8000_0000, size, 3)]].concat()
 }
 
 /// Adds the steps of a history from a fresh format of one region, with an audit after each call.
-fn add_history(steps: &mut Vec<Step>, levels: u64, tables: usize, calls: &[Call]) {
+fn add_history(steps: &mut Vec<Step>, granule: u64, levels: u64, tables: usize, calls: &[Call]) {
     let mut world = World::default();
     let mut add = |world: &mut World, step: Step| {
         world.apply(&step).expect("plain agrees with the ledger");
         steps.push(step);
     };
-    let (words, second, places) = (512 * tables, 512 * MORE, tables + MORE);
+    let entries = granule as usize / 8;
+    let (words, second, places) = (entries * tables, entries * MORE, tables + MORE);
     add(&mut world, Step::Memory { words, second, places });
-    let format = Call::Format { levels, base: 0x4000_0000, tables: tables as u64, second_base: 0, second_tables: 0 };
+    let format = Call::Format { levels, base: 0x4000_0000, tables: tables as u64, second_base: 0, second_tables: 0, granule };
     add(&mut world, Step::Call { call: format, words, second: 0, places: tables });
     for call in calls {
         for call in [*call, Call::Audit { setup: Setup::default() }] {
             let call = call.with_setup(world.setup);
             let more = if matches!(call, Call::Add { .. }) { MORE } else { world.setup.second_tables as usize };
-            add(&mut world, Step::Call { call, words, second: 512 * more, places: tables + more });
+            add(&mut world, Step::Call { call, words, second: entries * more, places: tables + more });
         }
     }
 }

@@ -3,15 +3,15 @@
 use std::collections::BTreeMap;
 use std::fmt;
 
-use plain::Setup;
+use plain::{Setup, GRANULES};
 
-use crate::{Answer, Call, Damage, Memory, Step, SETUP};
+use crate::{Answer, Call, Damage, Memory, Shape, Step, SETUP};
 
 /// The refusals that each call can give, in the order of [`Call::NAMES`].
 const POSSIBLE: [&[usize]; 8] =
     [&[2, 3, 4, 5], &[2, 8], &[1], &[1, 2, 3, 4, 5, 6, 7, 8, 11], &[1, 4, 5, 8, 9, 10], &[1, 4, 8, 9], &[1, 8], &[1, 8, 11]];
 
-/// The reasons for refusal 8 of map, unmap and query, and for 1 and 8 of add.
+/// The reasons for refusal 8 of map, unmap and query, and for 1 and 8 of add. Each must be met with both granules.
 const CAUSES: [&str; 18] = [
     "map: a damaged word",
     "map: a table twice",
@@ -33,6 +33,28 @@ const CAUSES: [&str; 18] = [
     "add: a damaged word or a table twice",
 ];
 
+/// What must be met of the granule. The first four are refused with 1, by a format and by another call.
+const GRANULE: [&str; 7] = [
+    "a number that is no granule's",
+    "four levels of 16 KiB",
+    "a base of 16 KiB tables that is a multiple of 4096",
+    "words of the one granule and the number of the other",
+    "a size of the other granule",
+    "a word at a size of the other granule",
+    "a pool read with the other granule",
+];
+
+/// The levels and the granule of a tree.
+const TREES: [(u64, u64, &str); 3] = [(3, GRANULES[0], "3 levels"), (4, GRANULES[0], "4 levels"), (3, GRANULES[1], "16 KiB")];
+
+/// The place among the trees of the tree of a good setup.
+fn tree(setup: Setup) -> usize {
+    TREES
+        .iter()
+        .position(|&(levels, granule, _)| (levels, granule) == (setup.levels, setup.granule))
+        .expect("its numbers are good")
+}
+
 /// The regions of the tables that a map took, or that an unmap gave back.
 const REGIONS: [&str; 3] = ["the first", "the second", "both"];
 
@@ -41,19 +63,25 @@ const REGIONS: [&str; 3] = ["the first", "the second", "both"];
 pub struct Coverage {
     /// For each call, how often each refusal came, and 0 for none.
     answers: [[u64; 16]; 8],
-    /// How many maps took 0 to 3 tables, with three and with four levels.
-    taken: [[u64; 4]; 2],
+    /// The same of the calls with the larger granule.
+    answers_16: [[u64; 16]; 8],
+    /// How many maps took 0 to 3 tables, by the trees.
+    taken: [[u64; 4]; 3],
     /// How many unmaps gave back 0 to 3 tables.
-    given: [[u64; 4]; 2],
+    given: [[u64; 4]; 3],
     /// How many holes of query and of unmap had the size of an entry's region at the last level, the one above it and so on.
-    holes: [[[u64; 4]; 2]; 2],
+    holes: [[[u64; 4]; 3]; 2],
     /// How many maps took tables of the first region, of the second and of both, in pools that have two; and the same of unmaps.
     regions: [[u64; 3]; 2],
     /// How many maps were accepted in a pool with a region that was added, and could not have been without it.
     thanks_to_add: u64,
     /// How many tables an add has given to the pool.
     added: Option<u64>,
-    causes: BTreeMap<&'static str, u64>,
+    /// The granule of the last format.
+    formatted: u64,
+    /// By the granule's number.
+    causes: BTreeMap<(u64, &'static str), u64>,
+    granule: BTreeMap<&'static str, [u64; 2]>,
     /// For each damage, how often the audit that came next accepted and refused.
     damages: BTreeMap<Damage, [u64; 2]>,
     last_damage: Option<Damage>,
@@ -78,20 +106,24 @@ impl Coverage {
                 self.calls += 1;
                 self.with_ledger += u64::from(with_ledger);
                 self.answers[call.kind()][answer.refusal as usize] += 1;
-                let setup = call.setup().unwrap_or_default();
+                let setup = setup_of(call);
+                if setup.granule == GRANULES[1] {
+                    self.answers_16[call.kind()][answer.refusal as usize] += 1;
+                }
+                self.count_granule(call, setup, answer, words);
                 match (call, answer.refusal, last_damage) {
                     (Call::Format { .. }, 0, _) => self.added = None,
                     (Call::Add { tables, .. }, 0, _) => self.added = Some(*tables),
                     (Call::Map { .. }, 0, _) => {
                         let taken = answer.numbers[SETUP];
-                        self.taken[setup.levels as usize - 3][taken as usize] += 1;
+                        self.taken[tree(setup)][taken as usize] += 1;
                         self.count_regions(0, setup, &memory.list[(setup.free - taken) as usize..setup.free as usize]);
                         let needed = self.added.is_some_and(|tables| taken > 0 && taken + tables > setup.free);
                         self.thanks_to_add += u64::from(needed);
                     }
                     (Call::Unmap { .. }, 0, _) => {
                         let given = answer.numbers[SETUP + 3];
-                        self.given[setup.levels as usize - 3][given as usize] += 1;
+                        self.given[tree(setup)][given as usize] += 1;
                         self.count_regions(1, setup, &memory.list[setup.free as usize..(setup.free + given) as usize]);
                     }
                     (Call::Audit { .. }, 0 | 8, Some(damage)) => {
@@ -99,23 +131,56 @@ impl Coverage {
                     }
                     (Call::Query { .. } | Call::Unmap { .. }, 9, _) => {
                         let [_, size, ..] = answer.rest(call);
-                        let height = (size.trailing_zeros() as usize - 12) / 9;
-                        self.holes[usize::from(matches!(call, Call::Unmap { .. }))][setup.levels as usize - 3][height] += 1;
+                        let shape = Shape::of(setup.granule);
+                        let height =
+                            (0..4).find(|&height| shape.region(height + 1) == size).expect("a hole is the region of an entry");
+                        self.holes[usize::from(matches!(call, Call::Unmap { .. }))][tree(setup)][height as usize] += 1;
                     }
                     (Call::Add { .. }, 1, _) => {
                         if let Some(cause) = cause_of_1(call, words, second, places) {
-                            *self.causes.entry(cause).or_default() += 1;
+                            *self.causes.entry((setup.granule, cause)).or_default() += 1;
                         }
                     }
                     (_, 8, _) => {
                         let (words, second) = (&memory.words[..words], &memory.second[..second]);
                         if let Some(cause) = cause(call, words, second, &memory.list[..places]) {
-                            *self.causes.entry(cause).or_default() += 1;
+                            *self.causes.entry((setup.granule, cause)).or_default() += 1;
                         }
                     }
                     _ => {}
                 }
             }
+        }
+    }
+
+    /// Counts what is special of the granule: of the first four by a format and by another call, and of a size by the granule of the pool.
+    fn count_granule(&mut self, call: &Call, setup: Setup, answer: &Answer, words: usize) {
+        let (good, shape) = (GRANULES.contains(&setup.granule), Shape::of(setup.granule));
+        let larger = setup.granule == GRANULES[1];
+        let mut met = |is: bool, what: usize, column: bool| {
+            self.granule.entry(GRANULE[what]).or_default()[usize::from(column)] += u64::from(is)
+        };
+        let format = matches!(call, Call::Format { .. });
+        let lent = |shape: Shape| words as u64 == shape.entries().saturating_mul(setup.tables);
+        match *call {
+            Call::WordMeaning { word, size } => {
+                let other = |shape: Shape| shape.sizes().iter().any(|&size| plain::word_meaning(word, size) >= 16);
+                let of_larger = Shape::of(GRANULES[1]).sizes().contains(&size);
+                met(answer.refusal == 8 && other(Shape::of(GRANULES[usize::from(!of_larger)])), 5, of_larger);
+            }
+            Call::FrameWord { .. } => {}
+            _ if answer.refusal == 1 => {
+                met(!good, 0, format);
+                met(larger && setup.levels == 4 && lent(shape), 1, format);
+                met(larger && setup.levels == 3 && setup.base % 16384 != 0 && setup.base % 4096 == 0 && lent(shape), 2, format);
+                met(good && !lent(shape) && lent(shape.other()), 3, format);
+            }
+            Call::Map { size, .. } => met(answer.refusal == 2 && shape.other().sizes().contains(&size), 4, larger),
+            _ => {}
+        }
+        met(!format && self.formatted != 0 && good && answer.refusal != 1 && setup.granule != self.formatted, 6, larger);
+        if format && answer.refusal == 0 {
+            self.formatted = setup.granule;
         }
     }
 
@@ -139,18 +204,15 @@ impl Coverage {
         for (kind, possible) in POSSIBLE.iter().enumerate() {
             for &number in [0].iter().chain(possible.iter()) {
                 need(self.answers[kind][number] > 0, format!("{} with {number}", Call::NAMES[kind]));
+                need(kind < 2 || self.answers_16[kind][number] > 0, format!("{} with {number}, 16 KiB", Call::NAMES[kind]));
             }
         }
-        for levels in [3, 4] {
-            for count in 0..levels {
-                need(self.taken[levels - 3][count] > 0, format!("{levels} levels, {count} tables taken"));
-                need(self.given[levels - 3][count] > 0, format!("{levels} levels, {count} tables given back"));
-            }
-        }
-        for (holes, call) in self.holes.iter().zip(["query", "unmap"]) {
-            for levels in [3, 4] {
-                for height in 0..levels {
-                    need(holes[levels - 3][height] > 0, format!("{call}, {levels} levels, a hole at height {height}"));
+        for (tree, (levels, _, name)) in TREES.iter().enumerate() {
+            for count in 0..*levels as usize {
+                need(self.taken[tree][count] > 0, format!("{name}, {count} tables taken"));
+                need(self.given[tree][count] > 0, format!("{name}, {count} tables given back"));
+                for (holes, call) in self.holes.iter().zip(["query", "unmap"]) {
+                    need(holes[tree][count] > 0, format!("{call}, {name}, a hole at height {count}"));
                 }
             }
         }
@@ -161,7 +223,13 @@ impl Coverage {
         }
         need(self.thanks_to_add > 0, "a map that an add made possible".to_string());
         for cause in CAUSES {
-            need(self.causes.contains_key(cause), cause.to_string());
+            for granule in GRANULES {
+                need(self.causes.contains_key(&(granule, cause)), format!("{cause}, with the granule {granule}"));
+            }
+        }
+        for what in GRANULE {
+            let met = self.granule.get(what).copied().unwrap_or_default();
+            need(met.iter().all(|&count| count > 0), format!("{what}, {met:?}"));
         }
         for damage in Damage::ALL {
             let [accepted, refused] = self.damages.get(&damage).copied().unwrap_or_default();
@@ -172,16 +240,28 @@ impl Coverage {
     }
 }
 
+/// The setup of a call, or what a format is to make; zeros for the host's calls.
+fn setup_of(call: &Call) -> Setup {
+    match *call {
+        Call::Format { levels, base, tables, second_base, second_tables, granule } => {
+            Setup { levels, base, tables, free: 0, second_base, second_tables, granule }
+        }
+        _ => call.setup().unwrap_or_default(),
+    }
+}
+
 /// Why add gave 1, where that is one thing alone.
 fn cause_of_1(call: &Call, words: usize, second: usize, places: usize) -> Option<&'static str> {
     let &Call::Add { setup, base, tables } = call else { return None };
-    let good = |at: u64, tables: u64| at % 4096 == 0 && tables <= 512 && at <= plain::LIMIT - 4096 * tables;
-    if !good(setup.base, setup.tables) || setup.tables == 0 || !(3..=4).contains(&setup.levels) {
+    let (page, entries) = (Shape::of(setup.granule).page(), Shape::of(setup.granule).entries());
+    let good = |at: u64, tables: u64| at % page == 0 && tables <= 512 && at <= plain::LIMIT - page * tables;
+    let is_tree = TREES.iter().any(|&(levels, granule, _)| (levels, granule) == (setup.levels, setup.granule));
+    if !good(setup.base, setup.tables) || setup.tables == 0 || !is_tree {
         return None;
     }
     let total = setup.tables.saturating_add(tables);
-    let lengths = (512 * setup.tables, tables.saturating_mul(512), total);
-    let overlap = good(base, tables) && base < setup.base + 4096 * setup.tables && setup.base < base + 4096 * tables;
+    let lengths = (entries * setup.tables, tables.saturating_mul(entries), total);
+    let overlap = good(base, tables) && base < setup.base + page * setup.tables && setup.base < base + page * tables;
     let causes = [
         (setup.second_base != 0 || setup.second_tables != 0, "add: a region is there"),
         (tables == 0, "add: no table"),
@@ -204,8 +284,8 @@ fn cause_of_1(call: &Call, words: usize, second: usize, places: usize) -> Option
 fn cause(call: &Call, words: &[u64], second: &[u64], list: &[u32]) -> Option<&'static str> {
     let (first, setup, address, size) = match *call {
         Call::Map { setup, address, size, .. } => (0, setup, address, size),
-        Call::Unmap { setup, address } => (5, setup, address, 4096),
-        Call::Query { setup, address } => (8, setup, address, 4096),
+        Call::Unmap { setup, address } => (5, setup, address, setup.granule),
+        Call::Query { setup, address } => (8, setup, address, setup.granule),
         Call::Add { .. } => return Some("add: a damaged word or a table twice"),
         _ => return None,
     };
@@ -235,28 +315,32 @@ fn cause(call: &Call, words: &[u64], second: &[u64], list: &[u32]) -> Option<&'s
 impl fmt::Display for Coverage {
     fn fmt(&self, f: &mut fmt::Formatter<'_>) -> fmt::Result {
         writeln!(f, "{} calls, {} of them compared with the ledger too", self.calls, self.with_ledger)?;
-        for (name, answers) in Call::NAMES.iter().zip(&self.answers) {
-            write!(f, "{name:>12}: accepted {}", answers[0])?;
-            for (number, &count) in answers.iter().enumerate().skip(1).filter(|&(_, &count)| count > 0) {
-                write!(f, ", {number}: {count}")?;
+        for (of, answers) in [("", &self.answers), (", 16 KiB", &self.answers_16)] {
+            for (name, answers) in Call::NAMES.iter().zip(answers).skip(if of.is_empty() { 0 } else { 2 }) {
+                write!(f, "{name:>12}{of}: accepted {}", answers[0])?;
+                for (number, &count) in answers.iter().enumerate().skip(1).filter(|&(_, &count)| count > 0) {
+                    write!(f, ", {number}: {count}")?;
+                }
+                writeln!(f)?;
             }
-            writeln!(f)?;
         }
-        for levels in [3, 4] {
-            let counts = |counts: &[u64; 4]| counts[..levels].iter().map(u64::to_string).collect::<Vec<_>>().join(", ");
-            let (taken, given) = (counts(&self.taken[levels - 3]), counts(&self.given[levels - 3]));
-            writeln!(f, "{levels} levels: maps that took 0, 1 .. tables: {taken}; unmaps that gave back 0, 1 ..: {given}")?;
-        }
-        for (holes, call) in self.holes.iter().zip(["query", "unmap"]) {
-            writeln!(f, "{call}: holes by height with three levels {:?}, with four {:?}", &holes[0][..3], holes[1])?;
+        for (tree, (levels, _, name)) in TREES.iter().enumerate() {
+            let counts = |counts: &[u64; 4]| counts[..*levels as usize].iter().map(u64::to_string).collect::<Vec<_>>().join(", ");
+            let (taken, given) = (counts(&self.taken[tree]), counts(&self.given[tree]));
+            let (query, unmap) = (counts(&self.holes[0][tree]), counts(&self.holes[1][tree]));
+            writeln!(f, "{name}: maps that took 0, 1 .. tables: {taken}; unmaps that gave back 0, 1 ..: {given}")?;
+            writeln!(f, "{name}: holes by height of query: {query}; of unmap: {unmap}")?;
         }
         for (counts, call) in self.regions.iter().zip(["maps that took", "unmaps that gave back"]) {
             let [first, second, both] = counts;
             writeln!(f, "{call} tables of the first region: {first}, of the second: {second}, of both: {both}")?;
         }
         writeln!(f, "maps that an add made possible: {}", self.thanks_to_add)?;
-        for (cause, count) in &self.causes {
-            writeln!(f, "{cause}: {count}")?;
+        for ((granule, cause), count) in &self.causes {
+            writeln!(f, "{cause}, with the granule {granule}: {count}")?;
+        }
+        for (what, [one, other]) in &self.granule {
+            writeln!(f, "{what}: {one} and {other}")?;
         }
         for (damage, [accepted, refused]) in &self.damages {
             writeln!(f, "audit after {damage:?}: accepted {accepted}, 8: {refused}")?;

@@ -1,8 +1,8 @@
 //! Damage done to a pool from outside, one word or one place at a time.
 
-use plain::{Setup, LIMIT, SIZES};
+use plain::{Setup, LIMIT};
 
-use crate::{Memory, Random, Step};
+use crate::{Memory, Random, Shape, Step};
 
 /// A kind of damage.
 #[derive(Clone, Copy, Debug, PartialEq, Eq, PartialOrd, Ord)]
@@ -73,12 +73,14 @@ impl Damage {
     pub fn step(self, random: &Random, setup: Setup, memory: &Memory, address: u64) -> Option<Step> {
         let (tables, more, free) = (setup.tables as usize, setup.second_tables as usize, setup.free as usize);
         let total = setup.total();
-        let (words, second) = (&memory.words[..512 * tables], &memory.second[..512 * more]);
-        let walk = plain::walk(setup, words, second, &memory.list[..tables + more], address, 4096).ok()?;
+        let shape = Shape::of(setup.granule);
+        let entries = shape.entries() as usize;
+        let (words, second) = (memory.words.get(..entries * tables)?, memory.second.get(..entries * more)?);
+        let walk = plain::walk(setup, words, second, memory.list.get(..tables + more)?, address, shape.page()).ok()?;
         // an entry of the path and the levels left there
         let depth = random.below(walk.tables().len() as u64) as usize;
         let left = setup.levels - depth as u64;
-        let entry = memory.place(setup, walk.tables()[depth], (address >> (12 + 9 * (left - 1))) as usize % 512);
+        let entry = memory.place(setup, walk.tables()[depth], shape.index(address, left));
         let to_word = |at: usize, word: u64| Some(Step::Word { at, word, damage: Some(self) });
         let to_place = |at: usize, number: u64| Some(Step::Place { at, number: number as u32, damage: Some(self) });
         let table = |number: u64| link(setup, number);
@@ -89,27 +91,35 @@ impl Damage {
             Damage::Garbage => to_word(entry, random.number() >> random.below(64)),
             Damage::TableOutside => {
                 // the root, past either region and before it, and far away
-                let past = |number: u64| setup.base.wrapping_add(number.wrapping_mul(4096)).wrapping_add(3);
-                let before = setup.second_base.wrapping_sub(4093);
-                let near = [table(0), table(total), table(total + 1), past(setup.tables), past(setup.tables + 1), past(u64::MAX), before];
+                let past = |number: u64| setup.base.wrapping_add(number.wrapping_mul(shape.page())).wrapping_add(3);
+                let before = setup.second_base.wrapping_sub(shape.page() - 3);
+                let near = [
+                    table(0),
+                    table(total),
+                    table(total + 1),
+                    past(setup.tables),
+                    past(setup.tables + 1),
+                    past(u64::MAX),
+                    before,
+                ];
                 to_word(entry, random.pick(&[random.pick(&near), random.pick(&near), past(1 << 36), past(1 << 51)]))
             }
             Damage::TableOff => {
-                let off = random.pick(&[1, 2, 4, 8, 1 << 10, 1 << 11, 1 << 48, 1 << 54, 1 << 59, 1 << 63]);
+                let off = random.pick(&[1, 2, 4, 8, 1 << 10, 1 << 11, shape.page() / 2, 1 << 48, 1 << 54, 1 << 59, 1 << 63]);
                 to_word(entry, table(random.below(total)) ^ off)
             }
             Damage::Cycle => to_word(entry, table(random.pick(walk.tables().get(1..=depth).filter(|t| !t.is_empty())?) as u64)),
             Damage::Alias => to_word(entry, table(1 + random.below(total))),
             Damage::LinkFree => to_word(entry, table(u64::from(memory.list[free.checked_sub(1)?]))),
-            Damage::FrameLevel => to_word(entry, frame(random, random_size(random))),
+            Damage::FrameLevel => to_word(entry, frame(random, random_size(random, random.pick(&[shape, shape, shape.other()])))),
             Damage::FrameOff => {
+                let low = [1, 2, 4, 8, 1 << 8, 1 << 9, 1 << 10, 1 << 11, 1 << 12, 1 << 13, shape.page() / 2];
                 let off =
-                    random.pick(&[1, 2, 4, 8, 1 << 8, 1 << 9, 1 << 10, 1 << 11, 1 << 12, 1 << 48, 1 << 53, 1 << 55, 1 << 63]);
-                let size = SIZES[left.min(3) as usize - 1];
-                to_word(entry, frame(random, size) ^ off)
+                    random.pick(&[random.pick(&low), random.pick(&low), random.pick(&[1 << 48, 1 << 53, 1 << 55, 1 << 63])]);
+                to_word(entry, frame(random, shape.size(left)) ^ off)
             }
             Damage::FrameInPool => {
-                let size = SIZES[left.min(3) as usize - 1];
+                let size = shape.size(left);
                 let byte = link(setup, random.below(total)) - 3;
                 to_word(entry, plain::frame_word(byte & !(size - 1), size, random.below(16)))
             }
@@ -122,14 +132,14 @@ impl Damage {
             Damage::FreeReached => to_place(place?, random.pick(walk.tables()) as u64),
             Damage::FreeDirty => {
                 let number = memory.list[place?] as usize;
-                let at = memory.place(setup, number.min(total as usize - 1), random.pick(&[0, 1, 255, 511]));
+                let at = memory.place(setup, number.min(total as usize - 1), random.pick(&[0, 1, 511, entries - 1]));
                 to_word(at, random.number() >> random.below(64))
             }
             Damage::PastTheFree => to_place(free + random.below((memory.list.len() - free) as u64) as usize, random.number()),
             Damage::PastThePool => {
                 let (from, to) = random.pick(&[
-                    (512 * tables, memory.words.len()),
-                    (memory.words.len() + 512 * more, memory.words.len() + memory.second.len()),
+                    (entries * tables, memory.words.len()),
+                    (memory.words.len() + entries * more, memory.words.len() + memory.second.len()),
                 ]);
                 if from == to {
                     return None;
@@ -140,9 +150,13 @@ impl Damage {
     }
 }
 
-/// One of the three frame sizes.
-pub fn random_size(random: &Random) -> u64 {
-    random.pick(&[SIZES[0], SIZES[0], SIZES[0], SIZES[1], SIZES[1], SIZES[2]])
+/// One of the frame sizes of a granule, small ones more often.
+pub fn random_size(random: &Random, shape: Shape) -> u64 {
+    match random.below(6) {
+        0..=2 => shape.size(1),
+        3..=4 => shape.size(2),
+        _ => shape.size(3),
+    }
 }
 
 /// The word that names a table, of either region.
@@ -151,22 +165,16 @@ pub fn link(setup: Setup, number: u64) -> u64 {
         Some(number) if setup.second_tables > 0 => (setup.second_base, number),
         _ => (setup.base, number),
     };
-    base.wrapping_add(number.wrapping_mul(4096)).wrapping_add(3)
+    base.wrapping_add(number.wrapping_mul(Shape::of(setup.granule).page())).wrapping_add(3)
 }
 
 /// A base of a frame at the borders of a region of a pool, in it, or just beside it.
 pub fn base_near(random: &Random, setup: Setup, size: u64) -> u64 {
     let regions = [(setup.base, setup.tables), (setup.second_base, setup.second_tables)];
     let (base, tables) = if setup.second_tables > 0 { random.pick(&regions) } else { regions[0] };
-    let end = base.wrapping_add(tables.wrapping_mul(4096));
-    let near = [
-        base,
-        base.wrapping_sub(size),
-        base.wrapping_sub(4096),
-        end.wrapping_sub(4096),
-        end,
-        end.wrapping_add(4096),
-    ];
+    let page = Shape::of(setup.granule).page();
+    let end = base.wrapping_add(tables.wrapping_mul(page));
+    let near = [base, base.wrapping_sub(size), base.wrapping_sub(page), end.wrapping_sub(page), end, end.wrapping_add(page)];
     random.pick(&near) & !(size - 1)
 }
 

@@ -11,6 +11,7 @@ mod damage;
 mod judge;
 pub mod lines;
 mod random;
+mod shape;
 mod source;
 mod world;
 
@@ -20,5 +21,6 @@ pub use coverage::Coverage;
 pub use damage::Damage;
 pub use judge::Judge;
 pub use random::Random;
+pub use shape::Shape;
 pub use source::Source;
 pub use world::{Memory, Step, World};

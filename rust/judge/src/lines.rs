@@ -9,12 +9,12 @@
 //! Place I becomes V
 //! Entry base size attributes 0       the host's call for the entry word of a frame
 //! Decode word size 0 0               the host's call for the meaning of a word
-//! Format w v l levels base tables second_base second_tables 0  0 0 0 0
-//! Map    w v l levels base tables free second_base second_tables  address frame size attributes
-//! Unmap  w v l levels base tables free second_base second_tables  address 0 0 0
-//! Query  w v l levels base tables free second_base second_tables  address 0 0 0
-//! Audit  w v l levels base tables free second_base second_tables  0 0 0 0
-//! Grow   w v l levels base tables free second_base second_tables  base tables 0 0
+//! Format w v l levels base tables second_base second_tables granule 0  0 0 0 0
+//! Map    w v l levels base tables free second_base second_tables granule  address frame size attributes
+//! Unmap  w v l levels base tables free second_base second_tables granule  address 0 0 0
+//! Query  w v l levels base tables free second_base second_tables granule  address 0 0 0
+//! Audit  w v l levels base tables free second_base second_tables granule  0 0 0 0
+//! Grow   w v l levels base tables free second_base second_tables granule  base tables 0 0
 //! total N lines                      the end: so many steps came before
 //! ```
 //!
@@ -86,8 +86,8 @@ fn text(step: &Step, answer: Option<&Answer>, memory: &Memory) -> String {
     let (name, setup, rest) = match call {
         Call::FrameWord { base, size, attributes } => return row("Entry", &[base, size, attributes, 0], &answer.numbers[..1]),
         Call::WordMeaning { word, size } => return row("Decode", &[word, size, 0, 0], &answer.numbers[..1]),
-        Call::Format { levels, base, tables, second_base, second_tables } => {
-            ("Format", [levels, base, tables, second_base, second_tables, 0], [0; 4])
+        Call::Format { levels, base, tables, second_base, second_tables, granule } => {
+            ("Format", [levels, base, tables, second_base, second_tables, granule, 0], [0; 4])
         }
         Call::Map { setup, address, frame, size, attributes } => ("Map", numbers(setup), [address, frame, size, attributes]),
         Call::Unmap { setup, address } => ("Unmap", numbers(setup), [address, 0, 0, 0]),

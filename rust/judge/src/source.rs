@@ -6,14 +6,15 @@
 //! - damaged ones change a word or a place of a good pool between the calls;
 //! - wild ones fill the tables with entries of every kind, so that walks run into cycles and bad free lists.
 //!
-//! The tables of some pools stand in two regions from the start; the others have memory for a second one, which may be added.
+//! The tables of some pools stand in two regions from the start; the others have memory for a second one, which may be added. Some pools have the
+//! larger granule. Now and then a pool of one granule is lent under the number of the other, with the count of tables that its words are then.
 
 use std::collections::VecDeque;
 
-use plain::{Setup, LIMIT, MAX_TABLES, SIZES};
+use plain::{Setup, GRANULES, LIMIT, MAX_TABLES};
 
 use crate::damage::{base_near, frame, link, random_size};
-use crate::{Call, Damage, Random, Step, World};
+use crate::{Call, Damage, Random, Shape, Step, World};
 
 #[derive(Clone, Copy, PartialEq, Eq)]
 enum Kind {
@@ -24,8 +25,13 @@ enum Kind {
 
 /// The most tables of the first region of nearly all pools, and of the second. All memory is compared after each call, which takes
 /// long for larger ones.
-const USUAL_TABLES: u64 = 64;
-const USUAL_SECOND: u64 = 15;
+fn usual(shape: Shape) -> (u64, u64) {
+    if shape == Shape::of(GRANULES[0]) {
+        (64, 15)
+    } else {
+        (15, 3)
+    }
+}
 
 /// A stream of steps.
 pub struct Source {
@@ -52,7 +58,7 @@ impl Source {
         Source { large: 1, ..Source::small(seed) }
     }
 
-    /// A stream in which no pool has more than 64 tables in its first region, or 15 in its second.
+    /// A stream in which no pool has more than 64 tables in its first region, or 15 in its second; with the larger granule 15 and 3.
     pub fn small(seed: u64) -> Source {
         Source {
             random: Random::new(seed),
@@ -96,18 +102,22 @@ impl Source {
     fn begin(&mut self) {
         let random = &self.random;
         self.kind = random.pick(&[Kind::Fresh, Kind::Fresh, Kind::Fresh, Kind::Damaged, Kind::Damaged, Kind::Wild]);
-        let levels = 3 + random.below(2);
+        let larger = random.percent(if self.kind == Kind::Wild { 50 } else { 30 });
+        let shape = Shape::of(GRANULES[usize::from(larger)]);
+        let levels = if larger { 3 } else { 3 + random.below(2) };
+        let (usual_tables, usual_second) = usual(shape);
         let most = match self.kind {
             Kind::Wild => 8,
             _ if self.large > 0 && random.percent(self.large) => MAX_TABLES,
-            _ => USUAL_TABLES,
+            _ => usual_tables,
         };
         let tables = random.pick(&[1, 2, 3, 4, 5, 6, 8, 1 + random.below(12), 1 + random.below(most), most]);
-        let base = random.pick(&[0, 0x4000_0000, LIMIT - 4096 * tables, random.below(LIMIT / 2) & !4095]);
+        let page = shape.page();
+        let base = random.pick(&[0, 0x4000_0000, LIMIT - page * tables, random.below(LIMIT / 2) & !(page - 1)]);
         // the second region has so many tables, or memory for so many
-        let most = if most == MAX_TABLES { MAX_TABLES - tables } else { USUAL_SECOND };
+        let most = if most == MAX_TABLES { MAX_TABLES - tables } else { usual_second };
         let more = random.pick(&[1, 1, 2, 3, 4, 1 + random.below(most.max(1)), most]).min(most);
-        let mut setup = Setup { levels, base, tables, ..Setup::default() };
+        let mut setup = Setup { levels, base, tables, granule: page, ..Setup::default() };
         if more > 0 && random.percent(40) {
             (setup.second_base, setup.second_tables) = (self.second_base(setup, more), more);
         }
@@ -117,86 +127,99 @@ impl Source {
         self.free = None;
 
         let random = &self.random;
-        let (words, second) = (512 * (tables as usize + 1), 512 * (more as usize + 1));
-        let places = (tables + more) as usize + 1;
+        let entries = shape.entries() as usize;
+        let (words, second) = (entries * (tables as usize + 1), entries * (more as usize + 1));
+        // the words of a table of the larger kind are those of four of the smaller
+        let places = (tables + more) as usize * (page / GRANULES[0]) as usize + 1;
         self.queue.push_back(Step::Memory { words, second, places });
         // format has something to clear, and add
-        for at in [0, 511, words - 513, words - 1, words, words + second - 513, words + second - 1] {
+        for at in [0, entries - 1, words - entries - 1, words - 1, words, words + second - entries - 1, words + second - 1] {
             self.queue.push_back(Step::Word { at, word: random.number(), damage: None });
         }
-        let Setup { second_base, second_tables, .. } = setup;
-        self.queue.push_back(lend(Call::Format { levels, base, tables, second_base, second_tables }, setup));
+        let Setup { second_base, second_tables, granule, .. } = setup;
+        self.queue.push_back(lend(Call::Format { levels, base, tables, second_base, second_tables, granule }, setup));
         if self.kind == Kind::Wild {
             self.make_wild(setup, words);
         } else {
-            self.make_book(levels);
+            self.make_book(levels, shape);
         }
     }
 
     /// A base for a second region of so many tables, which need not be a good one: touching the first, overlapping it, at a limit or
     /// anywhere.
     fn any_second_base(&self, setup: Setup, tables: u64) -> u64 {
-        let (end, bytes) = (setup.base.wrapping_add(setup.tables.wrapping_mul(4096)), tables.wrapping_mul(4096));
+        let page = Shape::of(setup.granule).page();
+        let (end, bytes) = (setup.base.wrapping_add(setup.tables.wrapping_mul(page)), tables.wrapping_mul(page));
         let below = setup.base.wrapping_sub(bytes);
-        let anywhere = self.random.below(LIMIT / 2) & !4095;
+        let anywhere = self.random.below(LIMIT / 2) & !(page - 1);
         let limit = LIMIT.wrapping_sub(bytes);
-        let odd = [setup.base, end.wrapping_sub(4096), below.wrapping_add(4096), limit.wrapping_add(4096), anywhere + 1, u64::MAX - 4095];
+        let edges = [setup.base, end.wrapping_sub(page), below.wrapping_add(page), limit.wrapping_add(page)];
+        let odd = [
+            self.random.pick(&edges),
+            self.random.pick(&edges),
+            anywhere + 1,
+            anywhere + page / 2,
+            end.wrapping_add(4096),
+            u64::MAX - 4095,
+        ];
         self.random.pick(&[end, below, 0, limit, anywhere, anywhere, anywhere, self.random.pick(&odd)])
     }
 
     /// A good one.
     fn second_base(&self, setup: Setup, tables: u64) -> u64 {
-        let (bytes, end) = (4096 * tables, setup.base + 4096 * setup.tables);
+        let page = Shape::of(setup.granule).page();
+        let (bytes, end) = (page * tables, setup.base + page * setup.tables);
         loop {
             let base = self.any_second_base(setup, tables);
-            if base % 4096 == 0 && base <= LIMIT - bytes && (end <= base || base + bytes <= setup.base) {
+            if base % page == 0 && base <= LIMIT - bytes && (end <= base || base + bytes <= setup.base) {
                 return base;
             }
         }
     }
 
     /// The book of a fresh or damaged history.
-    fn make_book(&mut self, levels: u64) {
+    fn make_book(&mut self, levels: u64, shape: Shape) {
         let random = &self.random;
-        let space = 4096 << (9 * levels);
+        let space = shape.space(levels);
+        let [page, block, large] = [1, 2, 3].map(|left| shape.region(left));
         let count = 1 + random.below(24);
-        let near = random.below(space) & !(SIZES[1] - 1);
+        let near = random.below(space) & !(block - 1);
         self.book = match random.below(8) {
-            // pages of one table, or a whole table and some more in order
-            0 => (0..count).map(|i| near + 4096 * i).collect(),
+            // pages of one table, or the last 512 of a table and some more in order
+            0 => (0..count).map(|i| near + page * i).collect(),
             1 => {
                 self.sweep = Some(0);
                 self.left *= 4;
-                (0..516).map(|i| (near + 4096 * i) % space).collect()
+                (0..516).map(|i| (near + block - 512 * page + page * i) % space).collect()
             }
-            // pages of a few tables of one 1 GiB region, and of a few such regions
-            2 => (0..count).map(|_| (near & !(SIZES[2] - 1)) + random.below(6) * SIZES[1] + random.below(4) * 4096).collect(),
-            3 | 4 => {
-                (0..count).map(|_| random.below(3) * SIZES[2] + random.below(3) * SIZES[1] + random.below(3) * 4096).collect()
-            }
+            // pages of a few tables of one region above, and of a few such regions
+            2 => (0..count).map(|_| (near & !(large - 1)) + random.below(6) * block + random.below(4) * page).collect(),
+            3 | 4 => (0..count).map(|_| random.below(3) * large + random.below(3) * block + random.below(3) * page).collect(),
             // the two sides of the borders of regions
             5 => {
-                let borders = [SIZES[1], SIZES[2], 2 * SIZES[2], (1 << 39) % space, space - SIZES[2], space - SIZES[1], 0];
-                (0..count).map(|_| (random.pick(&borders) + random.pick(&[0, 4096, space - 4096])) % space).collect()
+                let borders = [block, large, 2 * large, (1 << 39) % space, space - large, space - block, 0];
+                (0..count).map(|_| (random.pick(&borders) + random.pick(&[0, page, space - page])) % space).collect()
             }
             // anywhere
-            _ => (0..count).map(|_| random.below(space) & !4095).collect(),
+            _ => (0..count).map(|_| random.below(space) & !(page - 1)).collect(),
         };
     }
 
-    /// Fills the entries 0, 1 and 511 of all tables, and the free list, with what a walk can meet. The memory of the first run has so
-    /// many words.
+    /// Fills the entries 0 and 1 and the last of all tables, and the free list, with what a walk can meet. The memory of the first run has
+    /// so many words.
     fn make_wild(&mut self, setup: Setup, words: usize) {
         let random = &self.random;
-        const INDICES: [u64; 3] = [0, 1, 511];
+        let shape = Shape::of(setup.granule);
+        let entries = shape.entries();
+        let indices = [0, 1, entries - 1];
         self.book = vec![0];
-        for level in 0..setup.levels {
-            self.book = self.book.iter().flat_map(|&a| INDICES.map(|index| a | index << (12 + 9 * level))).collect();
+        for left in 1..=setup.levels {
+            self.book = self.book.iter().flat_map(|&a| indices.map(|index| a + index * shape.region(left))).collect();
         }
         let emptiness = random.pick(&[4, 12]);
         for table in 0..setup.total() {
-            for index in INDICES {
-                let size = random_size(random);
+            for index in indices {
+                let size = random_size(random, shape);
                 let word = match random.below(10 + emptiness) {
                     0..=5 => link(setup, random.below(setup.total() + 1)),
                     6..=7 => frame(random, size),
@@ -205,8 +228,8 @@ impl Source {
                     _ => 0,
                 };
                 let at = match table.checked_sub(setup.tables) {
-                    None => (512 * table + index) as usize,
-                    Some(table) => words + (512 * table + index) as usize,
+                    None => (entries * table + index) as usize,
+                    Some(table) => words + (entries * table + index) as usize,
                 };
                 self.queue.push_back(Step::Word { at, word, damage: None });
             }
@@ -246,11 +269,13 @@ impl Source {
     /// A call on the pool.
     fn call(&mut self, world: &World) -> Call {
         let setup = self.setup(world);
-        let space = 4096 << (9 * setup.levels.min(4));
+        let shape = Shape::of(setup.granule);
+        let page = shape.page();
+        let space = shape.space(setup.levels.min(4));
         let (maps, unmaps) = if self.growing { (55, 15) } else { (15, 55) };
         match self.random.below(100) {
             dice if dice < maps => {
-                let mut size = random_size(&self.random);
+                let mut size = random_size(&self.random, shape);
                 let mut address = self.address() & !(size - 1);
                 let anywhere = self.random.below(LIMIT) & !(size - 1);
                 let mut frame = if self.random.percent(8) { base_near(&self.random, setup, size) } else { anywhere };
@@ -265,23 +290,23 @@ impl Source {
                 }
                 if self.random.percent(2) {
                     (size, attributes) = (self.odd_size(), self.random.below(18));
-                    (address, frame) = (self.odd_address(space, 4096), self.odd_address(LIMIT, 4096));
+                    (address, frame) = (self.odd_address(space, page), self.odd_address(LIMIT, page));
                 }
                 Call::Map { setup, address, frame, size, attributes }
             }
             dice if dice < maps + unmaps => {
                 let address = match self.random.below(20) {
-                    0 => self.odd_address(space, 4096),
+                    0 => self.odd_address(space, page),
                     1..=4 => self.address(),
-                    5 => self.live(world) + 4096 * self.random.below(512),
+                    5 => self.live(world) + page * self.random.below(shape.entries()),
                     _ => self.live(world),
                 };
                 Call::Unmap { setup, address }
             }
             70..=87 => {
-                let offset = self.random.below(1 << self.random.pick(&[1, 12, 21, 30]));
+                let offset = self.random.below(1 << self.random.pick(&[1, 12, 14, 21, 25, 30, 36]));
                 let address = match self.random.below(20) {
-                    0 => self.odd_address(space, 4096),
+                    0 => self.odd_address(space, page),
                     1..=9 => self.address() + offset,
                     _ => self.live(world) + offset,
                 };
@@ -290,20 +315,25 @@ impl Source {
             88..=89 => Call::Audit { setup },
             90 => self.add(setup, world),
             91..=94 => {
-                let size = if self.random.percent(10) { self.odd_size() } else { random_size(&self.random) };
+                let size = if self.random.percent(10) { self.odd_size() } else { self.any_size() };
                 let mut base = self.random.number() >> self.random.below(32);
                 base = if self.random.percent(30) { self.odd_address(LIMIT, size) } else { base & !(size.wrapping_sub(1)) };
                 Call::FrameWord { base, size, attributes: self.random.below(18) }
             }
             95..=98 => {
-                let size = random_size(&self.random);
+                let size = self.any_size();
                 let word = match self.random.below(4) {
                     0 => frame(&self.random, size),
                     1 => frame(&self.random, size) ^ 1 << self.random.below(64),
                     2 => self.random.number() >> self.random.below(64),
                     _ => self.random.pick(&world.memory.words),
                 };
-                let size = if self.random.percent(5) { self.odd_size() } else { size };
+                // a word of one size is asked at another now and then
+                let size = match self.random.below(20) {
+                    0 => self.odd_size(),
+                    1..=4 => self.any_size(),
+                    _ => size,
+                };
                 Call::WordMeaning { word, size }
             }
             _ => self.format(world),
@@ -320,24 +350,34 @@ impl Source {
             return setup;
         }
         let total = setup.total();
-        match self.random.below(6) {
-            0 => setup.levels = self.random.pick(&[0, 1, 2, 5, 1 << 32 | 3, u64::MAX]),
+        let page = Shape::of(setup.granule).page();
+        match self.random.below(7) {
+            0 => setup.levels = self.random.pick(&[0, 1, 2, 4, 5, 1 << 32 | 3, u64::MAX]),
+            6 => setup.granule = self.odd_granule(),
             4 => setup.second_base = self.any_second_base(setup, setup.second_tables),
             5 => {
                 let second = setup.second_tables;
                 let odd = [0, 1, second + 1, second.wrapping_sub(1), MAX_TABLES, 1 << 52, u64::MAX, u64::MAX - setup.tables];
                 setup.second_tables = self.random.pick(&odd)
             }
-            1 => setup.base = self.random.pick(&[1, 4095, LIMIT, LIMIT - 4096 * setup.tables + 4096, u64::MAX, u64::MAX - 4095]),
-            2 => setup.tables = self.random.pick(&[0, setup.tables + 1, setup.tables - 1, MAX_TABLES + 1, (1 << 32) + 1, 1 << 55, u64::MAX]),
+            1 => {
+                let past = LIMIT - page * setup.tables;
+                let odd = [1, 4095, page / 2, setup.base + 4096, LIMIT, past + page, past + 4096, u64::MAX, u64::MAX - 4095];
+                setup.base = self.random.pick(&odd)
+            }
+            2 => {
+                setup.tables =
+                    self.random.pick(&[0, setup.tables + 1, setup.tables - 1, MAX_TABLES + 1, (1 << 32) + 1, 1 << 55, u64::MAX])
+            }
             _ => setup.free = self.random.pick(&[setup.tables, total, total + 1, 1 << 32, u64::MAX]),
         }
         // setups that are right for another pool
         if self.kind != Kind::Fresh && self.random.percent(60) {
             setup = world.setup;
-            match self.random.below(3) {
+            match self.random.below(6) {
                 0 => setup.levels = 7 - setup.levels,
-                1 => setup.base = (setup.base + 4096) % (LIMIT / 2),
+                1 => setup.base = (setup.base + page) % (LIMIT / 2),
+                2 => setup = mixed_up(setup),
                 _ => setup.free = self.random.pick(&[self.random.below(total), total - 1]),
             }
         }
@@ -346,51 +386,108 @@ impl Source {
 
     /// A second region for the pool, at some frame, at the pool, or anywhere.
     fn add(&mut self, setup: Setup, world: &World) -> Call {
-        let room = world.memory.second.len() as u64 / 512 - 1;
+        let page = Shape::of(setup.granule).page();
+        let room = (8 * world.memory.second.len() as u64 / page).saturating_sub(1);
         let tables = match self.random.below(12) {
-            0 => self.random.pick(&[0, room + 1, MAX_TABLES - world.setup.tables + 1, MAX_TABLES, u64::MAX, u64::MAX - setup.tables]),
+            0 => self.random.pick(&[
+                0,
+                room + 1,
+                MAX_TABLES - world.setup.tables + 1,
+                MAX_TABLES,
+                u64::MAX,
+                u64::MAX - setup.tables,
+            ]),
             1 | 2 => 1 + self.random.below(room.max(1)),
             _ => room,
         };
-        let bytes = tables.wrapping_mul(4096);
+        let bytes = tables.wrapping_mul(page);
         let mappings = world.ledger.as_ref().map_or(&[][..], |ledger| ledger.mappings());
         let base = match mappings {
             [_, ..] if self.random.percent(40) => {
                 let mapping = self.random.pick(mappings);
                 let (frame, end) = (mapping.frame, mapping.frame + mapping.size);
-                let near = [frame, end.wrapping_sub(4096), frame.wrapping_sub(bytes).wrapping_add(4096), end, frame.wrapping_sub(bytes)];
+                let near =
+                    [frame, end.wrapping_sub(page), frame.wrapping_sub(bytes).wrapping_add(page), end, frame.wrapping_sub(bytes)];
                 self.random.pick(&near)
             }
             _ => self.any_second_base(setup, tables),
         };
         // the free count is tested against the old limit
-        let free = if self.random.percent(5) { setup.tables + self.random.below(4) } else { setup.free };
+        let free = if self.random.percent(5) { setup.tables.wrapping_add(self.random.below(4)) } else { setup.free };
         Call::Add { setup: Setup { free, ..setup }, base, tables }
     }
 
     /// A format in the middle of a history, mostly one that is refused.
     fn format(&mut self, world: &World) -> Call {
-        let Setup { mut levels, mut base, mut tables, mut second_base, mut second_tables, .. } = world.setup;
-        match self.random.below(7) {
+        let Setup { mut levels, mut base, mut tables, mut second_base, mut second_tables, mut granule, .. } = world.setup;
+        let page = Shape::of(granule).page();
+        match self.random.below(10) {
             0 => levels = self.random.pick(&[0, 2, 3, 4, 5, u64::MAX]),
             1 => {
-                base =
-                    self.random.pick(&[0, 1, 4096, LIMIT - 4096 * tables, LIMIT - 4096 * tables + 4096, LIMIT, u64::MAX - 4095])
+                let past = LIMIT - page * tables;
+                base = self.random.pick(&[0, 1, 4096, 8192, page, past, past + page, past + 4096, LIMIT, u64::MAX - 4095])
             }
-            2 => tables = self.random.pick(&[0, 1, tables - 1, tables + 1, 65, MAX_TABLES, MAX_TABLES + 1, (1 << 32) + 1, 1 << 52, u64::MAX]),
+            2 => {
+                tables = self.random.pick(&[
+                    0,
+                    1,
+                    tables - 1,
+                    tables + 1,
+                    65,
+                    MAX_TABLES,
+                    MAX_TABLES + 1,
+                    (1 << 32) + 1,
+                    1 << 52,
+                    u64::MAX,
+                ])
+            }
             3 => {}
             4 => {
-                let most = world.memory.second.len() as u64 / 512 - 1;
-                second_tables = self.random.pick(&[0, 1, most, most, MAX_TABLES - tables, MAX_TABLES - tables + 1, 1 << 52, u64::MAX]);
+                let most = (8 * world.memory.second.len() as u64 / page).saturating_sub(1);
+                second_tables =
+                    self.random.pick(&[0, 1, most, most, MAX_TABLES - tables, MAX_TABLES - tables + 1, 1 << 52, u64::MAX]);
                 second_base = self.any_second_base(world.setup, second_tables);
             }
             5 => (second_base, second_tables) = self.random.pick(&[(0, 0), (0, second_tables), (second_base, 0), (4096, 0)]),
+            6 => granule = self.odd_granule(),
+            // the other granule, with all that is good for it
+            7 => {
+                let other = mixed_up(world.setup);
+                (levels, base, tables, granule) = (other.levels, other.base, other.tables, other.granule);
+                (second_base, second_tables) = self.random.pick(&[(0, 0), (other.second_base, other.second_tables)]);
+            }
+            8 => (levels, granule) = (self.random.pick(&[3, 4]), self.random.pick(&GRANULES)),
             _ => {
                 (levels, base, tables) = (self.random.number(), self.random.number(), self.random.number());
-                (second_base, second_tables) = (self.random.number(), self.random.number());
+                (second_base, second_tables, granule) = (self.random.number(), self.random.number(), self.random.number());
             }
         }
-        Call::Format { levels, base, tables, second_base, second_tables }
+        Call::Format { levels, base, tables, second_base, second_tables, granule }
+    }
+
+    /// A number that is mostly no granule, or not the pool's.
+    fn odd_granule(&self) -> u64 {
+        self.random.pick(&[
+            0,
+            1,
+            4095,
+            4096,
+            4097,
+            8192,
+            16383,
+            16384,
+            16385,
+            32768,
+            65536,
+            1 << 32 | 4096,
+            1 << 32 | 16384,
+            u64::MAX,
+        ])
+    }
+
+    /// A frame size of either granule.
+    fn any_size(&self) -> u64 {
+        random_size(&self.random, Shape::of(self.random.pick(&GRANULES)))
     }
 
     /// An address of the book.
@@ -414,38 +511,41 @@ impl Source {
 
     /// A number at some limit of a space, for an address with a size.
     fn odd_address(&mut self, space: u64, size: u64) -> u64 {
-        let limits = [0, size, space, LIMIT, 1 << 39, 1 << 63];
-        let near = [0, 1, 4096, size, size / 2, 1 << 21];
+        let limits = [0, size, space, LIMIT, 1 << 39, 1 << 47, 1 << 63];
+        let near = [0, 1, 4096, 1 << 14, size, size / 2, 1 << 21];
         let (limit, offset) = (self.random.pick(&limits), self.random.pick(&near));
         match self.random.below(4) {
             0 => limit.wrapping_sub(offset),
             1 => limit.wrapping_add(offset),
             // a good address with something above the space
             2 => self.address().wrapping_add(limit),
-            _ => self.address() + self.random.pick(&[1, 4096, 1 << 30]),
+            _ => self.address() + self.random.pick(&[1, 4096, 8192, 1 << 30]),
         }
     }
 
-    /// A number that is mostly no frame size.
+    /// A number that is mostly no frame size, or one of the other granule.
     fn odd_size(&mut self) -> u64 {
-        self.random.pick(&[
+        let odd = [
             0,
             1,
             512,
             4095,
             4097,
             8192,
-            1 << 14,
             1 << 20,
             (1 << 21) + 4096,
-            1 << 25,
             1 << 31,
+            1 << 36,
             1 << 39,
+            1 << 47,
             1 << 48,
             1 << 63,
             u64::MAX,
-            4096,
-        ])
+        ];
+        match self.random.below(3) {
+            0 => self.any_size(),
+            _ => self.random.pick(&odd),
+        }
     }
 
     /// Lends too little or too much.
@@ -454,13 +554,27 @@ impl Source {
             let random = &self.random;
             let (most_words, most_places) = (world.memory.words.len(), world.memory.list.len());
             let most_second = world.memory.second.len();
+            let table = random.pick(&[512, 2048]);
             match random.below(4) {
-                3 => *second = random.pick(&[0, 1, second.saturating_sub(1), *second + 1, second.saturating_sub(512), *second + 512]),
-                0 => *words = random.pick(&[0, 1, words.saturating_sub(1), *words + 1, words.saturating_sub(512), most_words]),
-                1 => *places = random.pick(&[0, places.saturating_sub(1), *places + 1]),
+                3 => {
+                    *second =
+                        random.pick(&[0, 1, second.saturating_sub(1), *second + 1, second.saturating_sub(table), *second + table])
+                }
+                0 => {
+                    *words = random.pick(&[
+                        0,
+                        1,
+                        words.saturating_sub(1),
+                        *words + 1,
+                        words.saturating_sub(table),
+                        *words / 4,
+                        most_words,
+                    ])
+                }
+                1 => *places = random.pick(&[0, places.saturating_sub(1), *places + 1, *places * 4]),
                 _ => {
                     (*words, *places) =
-                        random.pick(&[(0, 0), (most_words, most_places), (words.saturating_sub(512), places.saturating_sub(1))])
+                        random.pick(&[(0, 0), (most_words, most_places), (words.saturating_sub(table), places.saturating_sub(1))])
                 }
             }
             *words = (*words).min(most_words);
@@ -470,23 +584,52 @@ impl Source {
     }
 }
 
+/// A setup for the same words under the number of the other granule: of the smaller kind there are four tables where one of the larger is. Its base
+/// is good for both.
+fn mixed_up(setup: Setup) -> Setup {
+    let other = Shape::of(setup.granule).other();
+    let tables = |tables: u64| tables * Shape::of(setup.granule).page() / other.page();
+    let down = |base: u64| base & !(other.page() - 1);
+    let (tables, second_tables) = (tables(setup.tables), tables(setup.second_tables));
+    Setup {
+        levels: 3,
+        base: down(setup.base),
+        tables,
+        free: setup.free.min((tables + second_tables).saturating_sub(1)),
+        second_base: if second_tables == 0 { 0 } else { down(setup.second_base) },
+        second_tables,
+        granule: other.page(),
+    }
+}
+
 /// A call that is lent the memory of a pool.
 fn lend(call: Call, setup: Setup) -> Step {
     let (tables, more) = (setup.tables as usize, setup.second_tables as usize);
-    Step::Call { call, words: 512 * tables, second: 512 * more, places: tables + more }
+    let entries = Shape::of(setup.granule).entries() as usize;
+    Step::Call { call, words: entries * tables, second: entries * more, places: tables + more }
 }
 
-/// A call that is lent the memory of the pool; format and add what they ask for, where there is so much.
+/// A call that is lent the memory of the pool; format, add and a call with the other granule what they ask for, where there is so much.
 fn lend_what_is_asked(call: Call, world: &World) -> Step {
-    let room = |tables: u64, words: &[u64]| tables.min(words.len() as u64 / 512 - 1);
+    let room = |granule: u64, tables: u64, words: &[u64]| {
+        tables.min((words.len() as u64 / Shape::of(granule).entries()).saturating_sub(1))
+    };
     let mut setup = world.setup;
     match call {
-        Call::Format { tables, second_tables, .. } => {
-            setup.tables = room(tables, &world.memory.words);
-            setup.second_tables = room(second_tables, &world.memory.second);
+        Call::Format { tables, second_tables, granule, .. } => {
+            // where nothing but the granule is another one, the words stay those of the pool
+            setup.granule = if tables == world.setup.tables { world.setup.granule } else { granule };
+            let granule = setup.granule;
+            setup.tables = room(granule, tables, &world.memory.words);
+            setup.second_tables = room(granule, second_tables, &world.memory.second);
         }
-        Call::Add { tables, .. } => setup.second_tables = room(tables, &world.memory.second),
+        Call::Add { tables, .. } => setup.second_tables = room(setup.granule, tables, &world.memory.second),
+        _ if call.setup() == Some(mixed_up(world.setup)) => setup = mixed_up(world.setup),
         _ => {}
     }
-    lend(call, setup)
+    let mut step = lend(call, setup);
+    if let Step::Call { places, .. } = &mut step {
+        *places = (*places).min(world.memory.list.len());
+    }
+    step
 }

@@ -4,7 +4,7 @@ use plain::ledger::Ledger;
 use plain::Setup;
 
 use crate::call::{with_setup, without_setup};
-use crate::{Answer, Call, Damage, Engine, Plain};
+use crate::{Answer, Call, Damage, Engine, Plain, Shape};
 
 /// Lent memory. It is longer than the pool in it, so that longer and shorter runs can be lent.
 #[derive(Clone, Debug, Default, PartialEq, Eq)]
@@ -70,9 +70,10 @@ impl Memory {
 
     /// The place of an entry of a table.
     pub fn place(&self, setup: Setup, table: usize, entry: usize) -> usize {
+        let entries = Shape::of(setup.granule).entries() as usize;
         match table.checked_sub(setup.tables as usize) {
-            None => 512 * table + entry,
-            Some(table) => self.words.len() + 512 * table + entry,
+            None => entries * table + entry,
+            Some(table) => self.words.len() + entries * table + entry,
         }
     }
 }
@@ -88,10 +89,12 @@ impl World {
             return Ok((answer, false));
         };
         // the ledger knows nothing of other setups and lengths, but for those of the memory that an add brings
-        let Setup { tables, second_tables, .. } = self.setup;
+        let Setup { tables, second_tables, granule, .. } = self.setup;
+        let entries = Shape::of(granule).entries();
         let brings = matches!(call, Call::Add { .. });
-        let rest = (512 * second_tables as usize, (tables + second_tables) as usize);
-        let known = call.setup() == Some(self.setup) && words == 512 * tables as usize && (brings || (second, places) == rest);
+        let rest = ((entries * second_tables) as usize, (tables + second_tables) as usize);
+        let lent = words == (entries * tables) as usize && (brings || (second, places) == rest);
+        let known = call.setup() == Some(self.setup) && lent;
         let expected = self.ledger.as_mut().filter(|_| known).map(|ledger| ask(ledger, self.setup, call, second, places));
         if expected.is_some_and(|expected| expected != answer) {
             return Err(format!("plain answers {answer:x?}\nand the ledger {expected:x?}"));
@@ -101,13 +104,11 @@ impl World {
         }
         if answer.refusal == 0 {
             match *call {
-                Call::Format { levels, base, tables, second_base, second_tables } => {
-                    let ledger = Ledger::new(levels, base, tables, second_base, second_tables);
+                Call::Format { levels, base, tables, second_base, second_tables, granule } => {
+                    let ledger = Ledger::new(levels, base, tables, second_base, second_tables, granule);
                     (self.ledger, self.sound) = (Some(ledger), true)
                 }
-                Call::Map { .. } | Call::Unmap { .. } | Call::Add { .. } if !known => {
-                    (self.ledger, self.sound) = (None, false)
-                }
+                Call::Map { .. } | Call::Unmap { .. } | Call::Add { .. } if !known => (self.ledger, self.sound) = (None, false),
                 Call::Audit { .. } if known => self.sound = true,
                 _ => {}
             }

@@ -4,7 +4,7 @@
 
 use std::env;
 
-use judge::{cases, lines, numbers as of_setup, Answer, Call, Engine, Judge, Memory, Source, Step, SETUP};
+use judge::{cases, lines, numbers as of_setup, Answer, Call, Engine, Judge, Memory, Shape, Source, Step, SETUP};
 use oakabut::raw::{self, Found, Mapped, Unmapped};
 use oakabut::{Audit, Hole, Mapping, Pool, Refusal, Setup};
 
@@ -45,23 +45,33 @@ fn the_safe_crate() {
 /// frame's, or has its top bit alone.
 #[test]
 fn one_more_word_in_use() {
-    let (words, places, pages) = (4 * 512, 4, 1024);
-    let setup = |free| plain::Setup { levels: 3, base: 0x4000_0000, tables: 4, free, ..plain::Setup::default() };
+    let of_512 = one_more_word_in(4096, &[(2, 0), (2, 511), (2, 200), (1, 0)]);
+    let of_2048 = one_more_word_in(16384, &[(2, 0), (2, 2047), (2, 600), (1, 0)]);
+    // no table where the table of pages has another word, one where that of blocks has, both where there is none
+    assert_eq!(of_512, [3 * 2 * 511, 2 * 511, 4 * 2 * 2]);
+    assert_eq!(of_2048, [3 * 2 * 2047, 2 * 2047, 4 * 2 * 2]);
+}
+
+/// How many unmaps gave back 0, 1 and 2 tables, each with one more word in table 1 or 2, where the unmapped page is the so many-th of table 2.
+fn one_more_word_in(granule: u64, tables: &[(usize, u64)]) -> [usize; 3] {
+    let entries = granule as usize / 8;
+    let (words, places) = (4 * entries, 4);
+    let setup = |free| plain::Setup { levels: 3, base: 0x4000_0000, tables: 4, free, granule, ..plain::Setup::default() };
     let call = |call| Step::Call { call, words, second: 0, places };
     let mut judge = Judge::new(Raw);
     let mut given = [0; 3];
-    for (table, page) in [(pages, 0), (pages, 511), (pages, 200), (512, 0)] {
-        for at in 0..=512 {
+    for &(table, page) in tables {
+        for at in 0..=entries {
             for word in [0x0040_0000_8000_07FF, 1 << 63] {
-                let address = 4096 * page;
-                let free = Call::Map { setup: setup(3), address, frame: 0x8000_0000, size: 4096, attributes: 3 };
+                let address = granule * page;
+                let free = Call::Map { setup: setup(3), address, frame: 0x8000_0000, size: granule, attributes: 3 };
                 let mut steps = vec![
                     Step::Memory { words, second: 0, places },
-                    call(Call::Format { levels: 3, base: 0x4000_0000, tables: 4, second_base: 0, second_tables: 0 }),
+                    call(Call::Format { levels: 3, base: 0x4000_0000, tables: 4, second_base: 0, second_tables: 0, granule }),
                     call(free),
                 ];
-                if at < 512 && at as u64 != if table == pages { page } else { 0 } {
-                    steps.push(Step::Word { at: table + at, word, damage: None });
+                if at < entries && at as u64 != if table == 2 { page } else { 0 } {
+                    steps.push(Step::Word { at: entries * table + at, word, damage: None });
                 }
                 steps.push(call(Call::Audit { setup: setup(1) }));
                 for step in &steps {
@@ -75,17 +85,28 @@ fn one_more_word_in_use() {
             }
         }
     }
-    // no table where the table of pages has another word, one where that of blocks has, both where there is none
-    assert_eq!(given, [3 * 2 * 511, 2 * 511, 4 * 2 * 2]);
+    given
 }
 
 /// Pools of 65, 511 and 512 tables that end at 2^48, in one region and in two, filled to the last table and emptied again, from both ends in turn. The 7 comes
 /// where the ledger has it, and at the end all tables but the root are free.
 #[test]
 fn pools_of_many_tables() {
-    for (levels, first, more) in [(3, 65, 0), (4, 511, 0), (3, 512, 0), (4, 512, 0), (3, 1, 511), (4, 511, 1), (3, 256, 256)] {
-        let tables = first + more;
-        let (words, second, places) = (512 * first as usize, 512 * more as usize, tables as usize);
+    for (granule, levels, first, more) in [
+        (4096, 3, 65, 0),
+        (4096, 4, 511, 0),
+        (4096, 3, 512, 0),
+        (4096, 4, 512, 0),
+        (4096, 3, 1, 511),
+        (4096, 4, 511, 1),
+        (4096, 3, 256, 256),
+        (16384, 3, 65, 0),
+        (16384, 3, 512, 0),
+        (16384, 3, 256, 256),
+    ] {
+        let (tables, shape) = (first + more, Shape::of(granule));
+        let lengths = |tables: u64| (shape.entries() * tables) as usize;
+        let (words, second, places) = (lengths(first), lengths(more), tables as usize);
         let mut judge = Judge::new(Raw);
         let mut step = |step: Step| {
             judge.step(&step).unwrap_or_else(|difference| panic!("{difference}"));
@@ -93,22 +114,22 @@ fn pools_of_many_tables() {
         };
         step(Step::Memory { words, second, places });
         // the second region, where there is one, touches the first from below
-        let base = plain::LIMIT - 4096 * first;
-        let second_base = if more == 0 { 0 } else { base - 4096 * more };
-        let format = Call::Format { levels, base, tables: first, second_base, second_tables: more };
+        let base = plain::LIMIT - granule * first;
+        let second_base = if more == 0 { 0 } else { base - granule * more };
+        let format = Call::Format { levels, base, tables: first, second_base, second_tables: more, granule };
         let mut setup = step(Step::Call { call: format, words, second, places });
-        // a page in each region of 2 MiB; the last two find no table
+        // a page in each region of a block; the last two find no table
         let pages = tables - levels + 1;
+        let address = |i: u64| i * shape.region(2) + i % shape.entries() * granule;
         for i in 0..pages + 2 {
-            let call = Call::Map { setup, address: i << 21 | i % 512 << 12, frame: i << 12, size: 4096, attributes: i % 16 };
+            let call = Call::Map { setup, address: address(i), frame: i * granule, size: granule, attributes: i % 16 };
             setup = step(Step::Call { call, words, second, places });
         }
         assert_eq!((setup.total(), setup.free), (tables, 0));
         step(Step::Call { call: Call::Audit { setup }, words, second, places });
         for i in 0..pages {
             let i = if i % 2 == 0 { i / 2 } else { pages - 1 - i / 2 };
-            let call = Call::Unmap { setup, address: i << 21 | i % 512 << 12 };
-            setup = step(Step::Call { call, words, second, places });
+            setup = step(Step::Call { call: Call::Unmap { setup, address: address(i) }, words, second, places });
         }
         assert_eq!(setup.free, tables - 1);
         step(Step::Call { call: Call::Audit { setup }, words, second, places });
@@ -119,30 +140,42 @@ fn pools_of_many_tables() {
 /// accepted, the new tables come highest number first, and all of them are taken.
 #[test]
 fn a_region_is_added_to_a_full_pool() {
-    for (first, more) in [(1, 511), (511, 1), (256, 256), (2, 3)] {
-        let tables = first + more;
-        let (words, second, places) = (512 * first as usize, 512 * more as usize, tables as usize);
+    for (granule, first, more) in [
+        (4096, 1, 511),
+        (4096, 511, 1),
+        (4096, 256, 256),
+        (4096, 2, 3),
+        (16384, 1, 63),
+        (16384, 63, 1),
+        (16384, 2, 3),
+        (16384, 256, 256),
+    ] {
+        let (tables, shape) = (first + more, Shape::of(granule));
+        let lengths = |tables: u64| (shape.entries() * tables) as usize;
+        let (words, second, places) = (lengths(first), lengths(more), tables as usize);
         let mut judge = Judge::new(Raw);
         judge.step(&Step::Memory { words, second, places }).unwrap();
         let mut step = |call, more: u64| {
-            let (second, places) = (512 * more as usize, (first + more) as usize);
+            let (second, places) = (lengths(more), (first + more) as usize);
             judge.step(&Step::Call { call, words, second, places }).unwrap_or_else(|difference| panic!("{difference}"));
             (judge.setup(), judge.memory().list.clone())
         };
-        let map = |setup, i: u64| Call::Map { setup, address: i << 30, frame: i << 30, size: 1 << 21, attributes: 3 };
+        // a block in a region of the root's entries
+        let map =
+            |setup, i: u64| Call::Map { setup, address: i * shape.region(3), frame: i << 30, size: shape.size(2), attributes: 3 };
         let base = plain::LIMIT / 2;
-        let format = Call::Format { levels: 3, base, tables: first, second_base: 0, second_tables: 0 };
+        let format = Call::Format { levels: 3, base, tables: first, second_base: 0, second_tables: 0, granule };
         let (mut setup, _) = step(format, 0);
-        // a table for each region of 1 GiB; the last finds none
+        // a table for each such region; the last finds none
         for i in 0..first {
             (setup, _) = step(map(setup, i), 0);
         }
         assert_eq!((setup.free, setup.second_tables), (0, 0));
-        let (grown, list) = step(Call::Add { setup, base: base + 4096 * first, tables: more }, more);
+        let (grown, list) = step(Call::Add { setup, base: base + granule * first, tables: more }, more);
         assert_eq!((grown.free, grown.second_tables), (more, more));
         assert!(list[..more as usize].iter().copied().eq((first as u32..tables as u32).rev()));
         setup = grown;
-        for i in first - 1..(tables - 1).min(512) {
+        for i in first - 1..tables - 1 {
             let (after, _) = step(map(setup, i), more);
             assert_eq!(after.free, setup.free - 1, "map {i} takes one");
             setup = after;
@@ -152,27 +185,66 @@ fn a_region_is_added_to_a_full_pool() {
     }
 }
 
+/// The six calls on a pool with these numbers, on which every one of them is refused with 1, with so many words and places lent.
+fn all_refuse_1(judge: &mut Judge<Raw>, setup: plain::Setup, words: usize, places: usize) {
+    let plain::Setup { levels, base, tables, second_base, second_tables, granule, .. } = setup;
+    let calls = [
+        Call::Format { levels, base, tables, second_base, second_tables, granule },
+        Call::Map { setup, address: 0, frame: 0x8000_0000, size: 4096, attributes: 3 },
+        Call::Map { setup, address: 0, frame: 0x8000_0000, size: 16384, attributes: 3 },
+        Call::Unmap { setup, address: 0 },
+        Call::Query { setup, address: 0 },
+        Call::Audit { setup },
+        Call::Add { setup, base: 0, tables: 0 },
+        Call::Add { setup, base: 0, tables: 1 },
+    ];
+    for call in calls {
+        judge.step(&Step::Call { call, words, second: 0, places }).unwrap_or_else(|difference| panic!("{difference}"));
+        let mut memory = judge.memory().clone();
+        assert_eq!(Raw.call(&call, &mut memory.words[..words], &mut [], &mut memory.list[..places]).refusal, 1, "{call:x?}");
+    }
+}
+
 /// 0 tables, 513, 2^32 + 1 and 2^64 - 1 get 1 from every call, with the memory of 513 tables lent or with that of none.
 #[test]
 fn numbers_of_tables_past_the_limit() {
-    let (words, places) = (513 * 512, 513);
+    for (granule, entries) in [(4096, 512), (16384, 2048)] {
+        let mut judge = Judge::new(Raw);
+        judge.step(&Step::Memory { words: 513 * entries, second: 0, places: 513 }).unwrap();
+        for tables in [0, 513, (1 << 32) + 1, u64::MAX] {
+            let setup = plain::Setup { levels: 3, base: 0x4000_0000, tables, granule, ..plain::Setup::default() };
+            all_refuse_1(&mut judge, setup, 513 * entries, 513);
+            all_refuse_1(&mut judge, setup, 0, 0);
+        }
+    }
+}
+
+/// Numbers that are no granule's, four levels of 16 KiB, a base that is a multiple of 4096 alone, and words of the one granule under the number of the other
+/// get 1 from every call.
+#[test]
+fn granules_that_are_none() {
     let mut judge = Judge::new(Raw);
-    judge.step(&Step::Memory { words, second: 0, places }).unwrap();
-    for tables in [0, 513, (1 << 32) + 1, u64::MAX] {
-        let setup = plain::Setup { levels: 3, base: 0x4000_0000, tables, ..plain::Setup::default() };
-        let calls = [
-            Call::Format { levels: 3, base: 0x4000_0000, tables, second_base: 0, second_tables: 0 },
-            Call::Map { setup, address: 0, frame: 0x8000_0000, size: 4096, attributes: 3 },
-            Call::Unmap { setup, address: 0 },
-            Call::Query { setup, address: 0 },
-            Call::Audit { setup },
-            Call::Add { setup, base: 0, tables: 0 },
-        ];
-        for (call, tables) in calls.into_iter().flat_map(|call| [(call, 513), (call, 0)]) {
-            let (words, places) = (512 * tables, tables);
-            judge.step(&Step::Call { call, words, second: 0, places }).unwrap_or_else(|difference| panic!("{difference}"));
-            let mut memory = judge.memory().clone();
-            assert_eq!(Raw.call(&call, &mut memory.words[..words], &mut [], &mut memory.list[..places]).refusal, 1, "{call:x?}");
+    judge.step(&Step::Memory { words: 4 * 2048, second: 0, places: 16 }).unwrap();
+    let good = plain::Setup { levels: 3, base: 0x4000_0000, tables: 4, free: 1, granule: 16384, ..plain::Setup::default() };
+    let lent = [(4 * 512, 4), (4 * 2048, 4), (4 * 1024, 4), (4 * 2048, 16)];
+    for granule in
+        [0, 1, 512, 2048, 4095, 4097, 8192, 16383, 16385, 32768, 65536, 1 << 32 | 4096, 1 << 32 | 16384, 1 << 63, u64::MAX]
+    {
+        for (words, places) in lent {
+            all_refuse_1(&mut judge, plain::Setup { granule, ..good }, words, places);
+            all_refuse_1(&mut judge, plain::Setup { granule, levels: 4, ..good }, words, places);
+        }
+    }
+    for (words, places) in lent {
+        all_refuse_1(&mut judge, plain::Setup { levels: 4, ..good }, words, places);
+        for base in [0x4000_1000, 0x4000_2000, plain::LIMIT - 4 * 16384 + 4096] {
+            all_refuse_1(&mut judge, plain::Setup { base, ..good }, words, places);
+        }
+        if (words, places) != (4 * 2048, 4) {
+            all_refuse_1(&mut judge, good, words, places);
+        }
+        if (words, places) != (4 * 512, 4) {
+            all_refuse_1(&mut judge, plain::Setup { granule: 4096, ..good }, words, places);
         }
     }
 }
@@ -199,8 +271,16 @@ fn the_text_form() {
         let (name, takes) = takes.split_once(' ').unwrap();
         let (takes, told) = (numbers(takes), numbers(told));
         let setup = || {
-            let (second_base, second_tables) = (takes[7], takes[8]);
-            plain::Setup { levels: takes[3], base: takes[4], tables: takes[5], free: takes[6], second_base, second_tables }
+            let (second_base, second_tables, granule) = (takes[7], takes[8], takes[9]);
+            plain::Setup {
+                levels: takes[3],
+                base: takes[4],
+                tables: takes[5],
+                free: takes[6],
+                second_base,
+                second_tables,
+                granule,
+            }
         };
         let call = match (name, &takes[..]) {
             ("Lend", &[words, 0, places, 0, second, 0]) => {
@@ -221,16 +301,16 @@ fn the_text_form() {
             }
             ("Entry", &[base, size, attributes, 0]) => Some(Call::FrameWord { base, size, attributes }),
             ("Decode", &[word, size, 0, 0]) => Some(Call::WordMeaning { word, size }),
-            ("Format", &[_, _, _, levels, base, tables, second_base, second_tables, 0, 0, 0, 0, 0]) => {
-                Some(Call::Format { levels, base, tables, second_base, second_tables })
+            ("Format", &[_, _, _, levels, base, tables, second_base, second_tables, granule, 0, 0, 0, 0, 0]) => {
+                Some(Call::Format { levels, base, tables, second_base, second_tables, granule })
             }
-            ("Map", &[_, _, _, _, _, _, _, _, _, address, frame, size, attributes]) => {
+            ("Map", &[_, _, _, _, _, _, _, _, _, _, address, frame, size, attributes]) => {
                 Some(Call::Map { setup: setup(), address, frame, size, attributes })
             }
-            ("Unmap", &[_, _, _, _, _, _, _, _, _, address, 0, 0, 0]) => Some(Call::Unmap { setup: setup(), address }),
-            ("Query", &[_, _, _, _, _, _, _, _, _, address, 0, 0, 0]) => Some(Call::Query { setup: setup(), address }),
-            ("Audit", &[_, _, _, _, _, _, _, _, _, 0, 0, 0, 0]) => Some(Call::Audit { setup: setup() }),
-            ("Grow", &[_, _, _, _, _, _, _, _, _, base, tables, 0, 0]) => Some(Call::Add { setup: setup(), base, tables }),
+            ("Unmap", &[_, _, _, _, _, _, _, _, _, _, address, 0, 0, 0]) => Some(Call::Unmap { setup: setup(), address }),
+            ("Query", &[_, _, _, _, _, _, _, _, _, _, address, 0, 0, 0]) => Some(Call::Query { setup: setup(), address }),
+            ("Audit", &[_, _, _, _, _, _, _, _, _, _, 0, 0, 0, 0]) => Some(Call::Audit { setup: setup() }),
+            ("Grow", &[_, _, _, _, _, _, _, _, _, _, base, tables, 0, 0]) => Some(Call::Add { setup: setup(), base, tables }),
             ("total", &[count]) => {
                 end = Some(count);
                 continue;
@@ -244,7 +324,7 @@ fn the_text_form() {
             _ => {
                 let (words, second) = (&mut memory.words[..takes[0] as usize], &mut memory.second[..takes[1] as usize]);
                 let answer = Raw.call(&call, words, second, &mut memory.list[..takes[2] as usize]);
-                let handed_back = if call.hands_back() { &answer.numbers[..SETUP] } else { &takes[3..9] };
+                let handed_back = if call.hands_back() { &answer.numbers[..SETUP] } else { &takes[3..10] };
                 [&[answer.refusal], handed_back, &answer.rest(&call), &[lines::sum(&memory)]].concat()
             }
         };
@@ -254,12 +334,13 @@ fn the_text_form() {
 }
 
 fn to_theirs(setup: plain::Setup) -> Setup {
-    let [levels, base, tables, free, second_base, second_tables] = of_setup(setup);
-    Setup { levels, base, tables, free, second_base, second_tables }
+    let [levels, base, tables, free, second_base, second_tables, granule] = of_setup(setup);
+    Setup { levels, base, tables, free, second_base, second_tables, granule }
 }
 
 fn from_theirs(setup: Setup) -> [u64; SETUP] {
-    [setup.levels, setup.base, setup.tables, setup.free, setup.second_base, setup.second_tables]
+    let Setup { levels, base, tables, free, second_base, second_tables, granule } = setup;
+    [levels, base, tables, free, second_base, second_tables, granule]
 }
 
 /// The library as C sees it. Before each call the answer's room is full of junk, all of which must be overwritten.
@@ -272,15 +353,17 @@ impl Engine for Raw {
         let setup = to_theirs(call.setup().unwrap_or_default());
         let (w, wl, l, ll) = (words.as_mut_ptr(), words.len(), list.as_mut_ptr(), list.len());
         let (v, vl) = (second.as_mut_ptr(), second.len());
-        let junk = Setup { levels: JUNK, base: JUNK, tables: JUNK, free: JUNK, second_base: JUNK, second_tables: JUNK };
+        let junk =
+            Setup { levels: JUNK, base: JUNK, tables: JUNK, free: JUNK, second_base: JUNK, second_tables: JUNK, granule: JUNK };
         // SAFETY: the pointers and lengths are those of the three slices, which nothing else uses.
         unsafe {
             match *call {
                 Call::FrameWord { base, size, attributes } => Answer::of_host(raw::oak_frame_word(base, size, attributes)),
                 Call::WordMeaning { word, size } => Answer::of_host(raw::oak_word_meaning(word, size)),
-                Call::Format { levels, base, tables, second_base, second_tables } => {
+                Call::Format { levels, base, tables, second_base, second_tables, granule } => {
                     let mut a = junk;
-                    let refusal = raw::oak_format(levels, base, tables, second_base, second_tables, w, wl, v, vl, l, ll, &mut a);
+                    let refusal =
+                        raw::oak_format(levels, base, tables, second_base, second_tables, granule, w, wl, v, vl, l, ll, &mut a);
                     Answer::new(refusal, &from_theirs(a))
                 }
                 Call::Map { address, frame, size, attributes, .. } => {
@@ -340,8 +423,8 @@ impl Engine for Safe {
                 let meaning = oakabut::word_meaning(word, size).map(|(base, attributes)| base + 16 + attributes);
                 return Answer::of_host(meaning.unwrap_or_else(Refusal::number));
             }
-            Call::Format { levels, base, tables, second_base, second_tables } => {
-                (pool.reformat_two(levels, base, tables, second_base, second_tables).map(|()| vec![]), 0)
+            Call::Format { levels, base, tables, second_base, second_tables, granule } => {
+                (pool.reformat_two(levels, base, tables, second_base, second_tables, granule).map(|()| vec![]), 0)
             }
             Call::Map { address, frame, size, attributes, .. } => {
                 (pool.map(address, frame, size, attributes).map(|taken| vec![taken]), 1)

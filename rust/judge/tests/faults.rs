@@ -3,8 +3,8 @@
 //! They are the plain program but for the fault. Among them are the wrong engines and the tempting mistakes that the document
 //! names.
 
-use judge::{numbers, Answer, Call, Engine, Judge, Plain, Source, SETUP};
-use plain::{End, Setup, LIMIT};
+use judge::{numbers, Answer, Call, Engine, Judge, Plain, Shape, Source, SETUP};
+use plain::{End, Setup, LIMIT, SIZES, SIZES_16};
 
 type Fault = fn(&Call, &mut [u64], &mut [u64], &mut [u32]) -> Answer;
 
@@ -28,21 +28,30 @@ fn right_apart(call: &Call, words: &[u64], second: &[u64], list: &[u32]) -> Answ
 
 /// The words of a table.
 fn table_of<'a>(setup: Setup, words: &'a mut [u64], second: &'a mut [u64], table: usize) -> &'a mut [u64] {
+    let entries = Shape::of(setup.granule).entries() as usize;
     match table.checked_sub(setup.tables as usize) {
-        None => &mut words[512 * table..][..512],
-        Some(table) => &mut second[512 * table..][..512],
+        None => &mut words[entries * table..][..entries],
+        Some(table) => &mut second[entries * table..][..entries],
     }
 }
 
 /// The root entry of an address.
 fn root_entry(setup: Setup, address: u64) -> usize {
-    (address >> (3 + 9 * setup.levels.min(4))) as usize % 512
+    Shape::of(setup.granule).index(address, setup.levels.clamp(1, 4))
+}
+
+/// The bytes of so many tables.
+fn bytes(setup: Setup, tables: u64) -> u64 {
+    Shape::of(setup.granule).page().wrapping_mul(tables)
+}
+
+/// Whether a call is on a pool of the larger granule.
+fn is_16(call: &Call) -> bool {
+    call.setup().is_some_and(|setup| setup.granule == SIZES_16[0])
 }
 
 /// The right answer with another hole, made from the address and the right one.
-fn hole(
-    call: &Call, words: &mut [u64], second: &mut [u64], list: &mut [u32], other: fn(u64, u64, u64) -> (u64, u64),
-) -> Answer {
+fn hole(call: &Call, words: &mut [u64], second: &mut [u64], list: &mut [u32], other: fn(u64, u64, u64) -> (u64, u64)) -> Answer {
     let mut answer = right(call, words, second, list);
     let (address, at) = match *call {
         Call::Unmap { address, .. } => (address, SETUP + 4),
@@ -68,9 +77,15 @@ const FAULTS: &[(&str, Fault)] = &[
     ("the hole of the level above", |call, words, second, list| {
         hole(call, words, second, list, |address, _, size| (address / (size << 9) * (size << 9), size << 9))
     }),
-    ("a hole that is not aligned", |call, words, second, list| hole(call, words, second, list, |address, _, size| (address & !4095, size))),
-    ("the address as the hole's base", |call, words, second, list| hole(call, words, second, list, |address, _, size| (address, size))),
-    ("the last level's size for every hole", |call, words, second, list| hole(call, words, second, list, |_, base, _| (base, 4096))),
+    ("a hole that is not aligned", |call, words, second, list| {
+        hole(call, words, second, list, |address, _, size| (address & !4095, size))
+    }),
+    ("the address as the hole's base", |call, words, second, list| {
+        hole(call, words, second, list, |address, _, size| (address, size))
+    }),
+    ("the last level's size for every hole", |call, words, second, list| {
+        hole(call, words, second, list, |_, base, _| (base, 4096))
+    }),
     ("an unmap whose 9 has zeros", |call, words, second, list| match call {
         Call::Unmap { .. } => hole(call, words, second, list, |_, _, _| (0, 0)),
         _ => right(call, words, second, list),
@@ -90,9 +105,9 @@ const FAULTS: &[(&str, Fault)] = &[
         Call::Unmap { setup, address } => {
             let mut answer = right_apart(call, words, second, list);
             if answer.refusal == 0 {
-                let walk = plain::walk(setup, words, second, list, address, 4096).unwrap();
+                let walk = plain::walk(setup, words, second, list, address, setup.granule).unwrap();
                 let table = *walk.tables().last().unwrap();
-                table_of(setup, words, second, table)[(address >> (3 + 9 * walk.left)) as usize % 512] = 0;
+                table_of(setup, words, second, table)[Shape::of(setup.granule).index(address, walk.left)] = 0;
                 (answer.numbers[3], answer.numbers[SETUP + 3]) = (setup.free, 0);
             }
             answer
@@ -137,7 +152,7 @@ const FAULTS: &[(&str, Fault)] = &[
             let answer = right(call, words, second, list);
             let root = root_entry(setup, address);
             if answer.refusal == 7 && setup.free > 0 && words[root] == 0 {
-                words[root] = setup.base + 4096 * u64::from(list[setup.free as usize - 1]) + 3;
+                words[root] = setup.base + bytes(setup, list[setup.free as usize - 1].into()) + 3;
             }
             answer
         }
@@ -152,7 +167,8 @@ const FAULTS: &[(&str, Fault)] = &[
     }),
     ("an address past the space cut to its low bits", |call, words, second, list| match *call {
         Call::Query { setup, address } if setup.levels == 3 => {
-            right(&Call::Query { setup, address: address & ((1 << 39) - 1) }, words, second, list)
+            let space = Shape::of(setup.granule).space(3);
+            right(&Call::Query { setup, address: address & (space - 1) }, words, second, list)
         }
         _ => right(call, words, second, list),
     }),
@@ -194,8 +210,9 @@ const FAULTS: &[(&str, Fault)] = &[
     ("an audit that does not look into free tables", |call, words, second, list| match *call {
         Call::Audit { setup } => {
             let (mut words, mut second) = (words.to_vec(), second.to_vec());
+            let entries = Shape::of(setup.granule).entries() as usize;
             for &number in list.iter().take(setup.free as usize) {
-                if let Some(table) = words.chunks_mut(512).chain(second.chunks_mut(512)).nth(number as usize) {
+                if let Some(table) = words.chunks_mut(entries).chain(second.chunks_mut(entries)).nth(number as usize) {
                     table.fill(0);
                 }
             }
@@ -224,25 +241,27 @@ const FAULTS: &[(&str, Fault)] = &[
         }
         (_, answer) => answer,
     }),
-    ("a free list that may give a table of the path", |call, words, second, list| match (*call, right(call, words, second, list)) {
-        (Call::Map { setup, address, size, .. }, mut answer) if answer.refusal == 8 => {
-            let walk = plain::walk(setup, words, second, list, address, size).unwrap();
-            let first = list[setup.free.max(1) as usize - 1] as usize;
-            answer.refusal = if walk.end == End::Empty && walk.tables()[1..].contains(&first) { 0 } else { 8 };
-            answer
+    ("a free list that may give a table of the path", |call, words, second, list| {
+        match (*call, right(call, words, second, list)) {
+            (Call::Map { setup, address, size, .. }, mut answer) if answer.refusal == 8 => {
+                let walk = plain::walk(setup, words, second, list, address, size).unwrap();
+                let first = list[setup.free.max(1) as usize - 1] as usize;
+                answer.refusal = if walk.end == End::Empty && walk.tables()[1..].contains(&first) { 0 } else { 8 };
+                answer
+            }
+            (_, answer) => answer,
         }
-        (_, answer) => answer,
     }),
     ("a walk that does not mind a table twice", |call, words, second, list| match (*call, right(call, words, second, list)) {
         (Call::Query { setup, address }, answer) if answer.refusal == 8 => {
-            let walk = plain::walk(setup, words, second, list, address, 4096).unwrap();
+            let walk = plain::walk(setup, words, second, list, address, setup.granule).unwrap();
             Answer::new(if walk.end == End::Again { 9 } else { 8 }, &[])
         }
         (_, answer) => answer,
     }),
     ("more given back than there is room for", |call, words, second, list| match (*call, right(call, words, second, list)) {
         (Call::Unmap { setup, address }, mut answer) if answer.refusal == 8 => {
-            let walk = plain::walk(setup, words, second, list, address, 4096).unwrap();
+            let walk = plain::walk(setup, words, second, list, address, setup.granule).unwrap();
             answer.refusal = if matches!(walk.end, End::Frame(_)) { 0 } else { 8 };
             answer
         }
@@ -264,7 +283,7 @@ const FAULTS: &[(&str, Fault)] = &[
     }),
     ("11 before 5", |call, words, second, list| match (*call, right(call, words, second, list)) {
         (Call::Map { setup, frame, .. }, mut answer) if answer.refusal == 5 => {
-            let inside = frame >= setup.base && frame < setup.base + 4096 * setup.tables;
+            let inside = frame >= setup.base && frame < setup.base + bytes(setup, setup.tables);
             answer.refusal = if inside { 11 } else { 5 };
             answer
         }
@@ -279,7 +298,7 @@ const FAULTS: &[(&str, Fault)] = &[
         (_, answer) => answer,
     }),
     ("a frame that starts where the pool ends refused", |call, words, second, list| match *call {
-        Call::Map { setup, frame, .. } if frame == setup.base.wrapping_add(setup.tables.wrapping_mul(4096)) => {
+        Call::Map { setup, frame, .. } if frame == setup.base.wrapping_add(bytes(setup, setup.tables)) => {
             let answer = right_apart(call, words, second, list);
             if answer.refusal == 0 {
                 Answer::new(11, &numbers(setup))
@@ -300,13 +319,15 @@ const FAULTS: &[(&str, Fault)] = &[
         }
         _ => right(call, words, second, list),
     }),
-    ("only the frame's first byte tested against the pool", |call, words, second, list| match (*call, right(call, words, second, list)) {
-        (Call::Map { setup, address, frame, size, .. }, mut answer) if answer.refusal == 11 && frame < setup.base => {
-            let walk = plain::walk(setup, words, second, list, address, size).unwrap();
-            answer.refusal = if walk.end == End::Empty { 7 } else { 6 };
-            answer
+    ("only the frame's first byte tested against the pool", |call, words, second, list| {
+        match (*call, right(call, words, second, list)) {
+            (Call::Map { setup, address, frame, size, .. }, mut answer) if answer.refusal == 11 && frame < setup.base => {
+                let walk = plain::walk(setup, words, second, list, address, size).unwrap();
+                answer.refusal = if walk.end == End::Empty { 7 } else { 6 };
+                answer
+            }
+            (_, answer) => answer,
         }
-        (_, answer) => answer,
     }),
     ("an audit that takes frames in the pool", |call, words, second, list| match *call {
         Call::Audit { setup } => {
@@ -326,17 +347,19 @@ const FAULTS: &[(&str, Fault)] = &[
         }
         _ => right(call, words, second, list),
     }),
-    ("a query that takes a frame in the pool for damage", |call, words, second, list| match (*call, right(call, words, second, list)) {
-        (Call::Query { setup, .. }, answer) if answer.refusal == 0 => {
-            let frame = answer.numbers[1];
-            let inside = frame < setup.base + 4096 * setup.tables && setup.base < frame + answer.numbers[2];
-            if inside {
-                Answer::new(8, &[])
-            } else {
-                answer
+    ("a query that takes a frame in the pool for damage", |call, words, second, list| {
+        match (*call, right(call, words, second, list)) {
+            (Call::Query { setup, .. }, answer) if answer.refusal == 0 => {
+                let frame = answer.numbers[1];
+                let inside = frame < setup.base + bytes(setup, setup.tables) && setup.base < frame + answer.numbers[2];
+                if inside {
+                    Answer::new(8, &[])
+                } else {
+                    answer
+                }
             }
+            (_, answer) => answer,
         }
-        (_, answer) => answer,
     }),
     ("7 before the walk", |call, words, second, list| match (*call, right(call, words, second, list)) {
         (Call::Map { setup, .. }, mut answer) if answer.refusal == 6 => {
@@ -394,7 +417,9 @@ const FAULTS: &[(&str, Fault)] = &[
         (_, answer) => answer,
     }),
     ("a word read at a wrong size", |call, words, second, list| match *call {
-        Call::WordMeaning { word, size } if size == 1 << 30 => right(&Call::WordMeaning { word, size: 1 << 21 }, words, second, list),
+        Call::WordMeaning { word, size } if size == 1 << 30 => {
+            right(&Call::WordMeaning { word, size: 1 << 21 }, words, second, list)
+        }
         _ => right(call, words, second, list),
     }),
     ("new tables lowest number first", |call, words, second, list| {
@@ -427,7 +452,11 @@ const FAULTS: &[(&str, Fault)] = &[
             let one = Setup { second_base: 0, second_tables: 0, ..setup };
             let answer = right_apart(call, words, second, list);
             let other = right_apart(&Call::Add { setup: one, base, tables }, words, second, list);
-            if answer.refusal == 1 && other.refusal == 0 { other } else { right(call, words, second, list) }
+            if answer.refusal == 1 && other.refusal == 0 {
+                other
+            } else {
+                right(call, words, second, list)
+            }
         }
         _ => right(call, words, second, list),
     }),
@@ -438,21 +467,23 @@ const FAULTS: &[(&str, Fault)] = &[
         (_, answer) => answer,
     }),
     ("an overlap tested one way round", |call, words, second, list| match (*call, right(call, words, second, list)) {
-        (Call::Add { setup, base, .. }, mut answer) if answer.refusal == 1 && base > setup.base && base < setup.base.wrapping_add(setup.tables.wrapping_mul(4096)) => {
+        (Call::Add { setup, base, .. }, mut answer)
+            if answer.refusal == 1 && base > setup.base && base < setup.base.wrapping_add(bytes(setup, setup.tables)) =>
+        {
             answer.refusal = 0;
             answer
         }
         (_, answer) => answer,
     }),
     ("a region that starts where the first ends refused", |call, words, second, list| match *call {
-        Call::Add { setup, base, .. } if base == setup.base.wrapping_add(setup.tables.wrapping_mul(4096)) => {
+        Call::Add { setup, base, .. } if base == setup.base.wrapping_add(bytes(setup, setup.tables)) => {
             Answer::new(1, &numbers(setup))
         }
         _ => right(call, words, second, list),
     }),
     ("a region that ends where the first starts refused by format", |call, words, second, list| match *call {
-        Call::Format { base, second_base, second_tables, .. }
-            if second_tables > 0 && second_base.wrapping_add(second_tables.wrapping_mul(4096)) == base =>
+        Call::Format { base, second_base, second_tables, granule, .. }
+            if second_tables > 0 && second_base.wrapping_add(second_tables.wrapping_mul(granule)) == base =>
         {
             Answer::new(1, &[])
         }
@@ -460,27 +491,35 @@ const FAULTS: &[(&str, Fault)] = &[
     }),
     ("11 that covers the first region alone", |call, words, second, list| match (*call, right(call, words, second, list)) {
         (Call::Map { setup, address, frame, size, .. }, mut answer) if answer.refusal == 11 => {
-            let first = frame < setup.base + 4096 * setup.tables && setup.base < frame + size;
+            let first = frame < setup.base + bytes(setup, setup.tables) && setup.base < frame + size;
             let walk = plain::walk(setup, words, second, list, address, size).unwrap();
-            answer.refusal = if first { 11 } else if walk.end == End::Empty { 7 } else { 6 };
+            answer.refusal = if first {
+                11
+            } else if walk.end == End::Empty {
+                7
+            } else {
+                6
+            };
             answer
         }
         (_, answer) => answer,
     }),
-    ("an audit that takes frames in the second region", |call, words, second, list| match (*call, right(call, words, second, list)) {
-        (Call::Audit { setup }, answer) if answer.refusal == 8 => {
-            let in_second = |word: &u64| {
-                let base = word & 0xFFFF_FFFF_F000;
-                word % 4096 != 3 && base >= setup.second_base && base < setup.second_base + 4096 * setup.second_tables
-            };
-            let mut without = [words.to_vec(), second.to_vec()];
-            for word in without.iter_mut().flatten().filter(|word| in_second(word)) {
-                *word = *word & !0xFFFF_FFFF_F000 | (setup.second_base ^ 1 << 41);
+    ("an audit that takes frames in the second region", |call, words, second, list| {
+        match (*call, right(call, words, second, list)) {
+            (Call::Audit { setup }, answer) if answer.refusal == 8 => {
+                let in_second = |word: &u64| {
+                    let base = word & 0xFFFF_FFFF_F000;
+                    word % 4096 != 3 && base >= setup.second_base && base < setup.second_base + bytes(setup, setup.second_tables)
+                };
+                let mut without = [words.to_vec(), second.to_vec()];
+                for word in without.iter_mut().flatten().filter(|word| in_second(word)) {
+                    *word = *word & !0xFFFF_FFFF_F000 | (setup.second_base ^ 1 << 41);
+                }
+                let [mut words, mut second] = without;
+                right(call, &mut words, &mut second, list)
             }
-            let [mut words, mut second] = without;
-            right(call, &mut words, &mut second, list)
+            (_, answer) => answer,
         }
-        (_, answer) => answer,
     }),
     ("a table of the second region read from the first run", |call, words, second, list| match *call {
         Call::Query { setup, .. } if setup.second_tables > 0 && second.len() <= words.len() => {
@@ -500,10 +539,17 @@ const FAULTS: &[(&str, Fault)] = &[
     }),
     ("an add that minds an empty table", |call, words, second, list| match *call {
         Call::Add { setup, .. } => {
-            let named = |words: &[u64]| words.iter().any(|&word| word == setup.base.wrapping_add(4096 * (setup.tables - 1) + 3));
+            let named =
+                |words: &[u64]| words.iter().any(|&word| word == setup.base.wrapping_add(bytes(setup, setup.tables - 1) + 3));
             let answer = right_apart(call, words, second, list);
-            let empty = answer.refusal == 0 && named(words) && words[words.len() - 512..].iter().all(|&word| word == 0);
-            if empty { Answer::new(8, &numbers(setup)) } else { right(call, words, second, list) }
+            let empty = answer.refusal == 0
+                && named(words)
+                && words[words.len() - Shape::of(setup.granule).entries() as usize..].iter().all(|&word| word == 0);
+            if empty {
+                Answer::new(8, &numbers(setup))
+            } else {
+                right(call, words, second, list)
+            }
         }
         _ => right(call, words, second, list),
     }),
@@ -511,7 +557,11 @@ const FAULTS: &[(&str, Fault)] = &[
         Call::Add { setup, .. } => {
             let answer = right_apart(call, words, second, list);
             let old = right_apart(&Call::Audit { setup }, words, &[], &list[..list.len().min(setup.tables as usize)]);
-            if answer.refusal == 0 && old.refusal == 8 { Answer::new(8, &numbers(setup)) } else { right(call, words, second, list) }
+            if answer.refusal == 0 && old.refusal == 8 {
+                Answer::new(8, &numbers(setup))
+            } else {
+                right(call, words, second, list)
+            }
         }
         _ => right(call, words, second, list),
     }),
@@ -540,8 +590,197 @@ const FAULTS: &[(&str, Fault)] = &[
     ("a limit of the free count that forgets the second region", |call, words, second, list| match *call {
         Call::Query { setup, .. } if setup.free >= setup.tables => {
             let answer = right(call, words, second, list);
-            if answer.refusal == 1 { answer } else { Answer::new(1, &[]) }
+            if answer.refusal == 1 {
+                answer
+            } else {
+                Answer::new(1, &[])
+            }
         }
+        _ => right(call, words, second, list),
+    }),
+    ("index bits off by one", |call, words, second, list| match *call {
+        // bit 24 chooses the entry of the table above, as bits of ten would have it
+        Call::Query { setup, address } if is_16(call) => {
+            right(&Call::Query { setup, address: address & !(1 << 24) }, words, second, list)
+        }
+        _ => right(call, words, second, list),
+    }),
+    ("a space of 2^48 with 16 KiB", |call, words, second, list| match *call {
+        Call::Query { setup, address } if is_16(call) && address >> 47 == 1 => {
+            right(&Call::Query { setup, address: address & !(1 << 47) }, words, second, list)
+        }
+        _ => right(call, words, second, list),
+    }),
+    ("a space of 2^39 with 16 KiB", |call, words, second, list| match (*call, right(call, words, second, list)) {
+        (Call::Query { address, .. }, answer) if is_16(call) && address >= 1 << 39 && answer.refusal != 1 => Answer::new(4, &[]),
+        (_, answer) => answer,
+    }),
+    ("frames of the smaller granule's sizes with 16 KiB", |call, words, second, list| match *call {
+        Call::Map { setup, address, frame, size, attributes } if is_16(call) && SIZES.contains(&size) => {
+            let size = if size == SIZES[0] { SIZES_16[0] } else { SIZES_16[1] };
+            right(&Call::Map { setup, address, frame, size, attributes }, words, second, list)
+        }
+        _ => right(call, words, second, list),
+    }),
+    ("a block of 32 MiB with 4 KiB", |call, words, second, list| match *call {
+        Call::Map { setup, address, frame, size, attributes } if !is_16(call) && size == SIZES_16[1] => {
+            right(&Call::Map { setup, address, frame, size: SIZES[1], attributes }, words, second, list)
+        }
+        _ => right(call, words, second, list),
+    }),
+    ("a frame in the root", |call, words, second, list| match (*call, right(call, words, second, list)) {
+        (Call::Query { setup, address }, answer) if is_16(call) && answer.refusal == 8 => {
+            let meaning = plain::word_meaning(words[root_entry(setup, address)], SIZES_16[1]);
+            if meaning < 16 {
+                return answer;
+            }
+            let size = Shape::of(setup.granule).region(3);
+            Answer::new(0, &[address & !(size - 1), (meaning - 16) & !15, size, meaning % 16])
+        }
+        (_, answer) => answer,
+    }),
+    ("a base that is a multiple of 4096 alone", |call, words, second, list| match *call {
+        Call::Query { setup, address } if is_16(call) => {
+            let moved = Setup { base: setup.base & !0x3000, ..setup };
+            let answer = right(call, words, second, list);
+            if answer.refusal == 1 {
+                right(&Call::Query { setup: moved, address }, words, second, list)
+            } else {
+                answer
+            }
+        }
+        _ => right(call, words, second, list),
+    }),
+    ("a format at a base that is a multiple of 4096 alone", |call, words, second, list| match *call {
+        Call::Format { levels, base, tables, second_base, second_tables, granule } if granule == SIZES_16[0] => {
+            let down = Call::Format { levels, base: base & !0x3000, tables, second_base, second_tables, granule };
+            let mut answer = right(&down, words, second, list);
+            if answer.refusal == 0 {
+                answer.numbers[1] = base;
+            }
+            answer
+        }
+        _ => right(call, words, second, list),
+    }),
+    ("an added region at a multiple of 4096 alone", |call, words, second, list| match *call {
+        Call::Add { setup, base, tables } if is_16(call) => {
+            let mut answer = right(&Call::Add { setup, base: base & !0x3000, tables }, words, second, list);
+            if answer.refusal == 0 {
+                answer.numbers[4] = base;
+            }
+            answer
+        }
+        _ => right(call, words, second, list),
+    }),
+    ("four levels of 16 KiB", |call, words, second, list| match *call {
+        Call::Format { levels: 4, base, tables, second_base, second_tables, granule } if granule == SIZES_16[0] => {
+            let mut answer =
+                right(&Call::Format { levels: 3, base, tables, second_base, second_tables, granule }, words, second, list);
+            if answer.refusal == 0 {
+                answer.numbers[0] = 4;
+            }
+            answer
+        }
+        _ => right(call, words, second, list),
+    }),
+    ("512 entries in the empty test", |call, words, second, list| match *call {
+        Call::Unmap { setup, address } if is_16(call) => {
+            let walk = plain::walk(setup, words, second, list, address, setup.granule);
+            let answer = right(call, words, second, list);
+            if let (Ok(walk), 0, 0) = (walk, answer.refusal, answer.numbers[SETUP + 3]) {
+                let table = *walk.tables().last().unwrap();
+                if table != 0 && table_of(setup, words, second, table)[..512].iter().all(|&word| word == 0) {
+                    return Answer::new(0, &[&numbers(setup)[..], &answer.numbers[SETUP..SETUP + 3], &[1]].concat());
+                }
+            }
+            answer
+        }
+        _ => right(call, words, second, list),
+    }),
+    ("an audit that reads 512 entries of a table", |call, words, second, list| match *call {
+        Call::Audit { .. } if is_16(call) => {
+            let (mut words, mut second) = (words.to_vec(), second.to_vec());
+            for table in words.chunks_mut(2048).chain(second.chunks_mut(2048)).filter(|table| table.len() == 2048) {
+                table[512..].fill(0);
+            }
+            right(call, &mut words, &mut second, list)
+        }
+        _ => right(call, words, second, list),
+    }),
+    ("any other number taken for 4096", |call, words, second, list| match *call {
+        Call::Format { levels, base, tables, second_base, second_tables, granule } if granule != SIZES_16[0] => {
+            right(&Call::Format { levels, base, tables, second_base, second_tables, granule: SIZES[0] }, words, second, list)
+        }
+        _ => right(call, words, second, list),
+    }),
+    ("a setup's other number taken for 4096", |call, words, second, list| match *call {
+        Call::Audit { setup } if !is_16(call) => {
+            right(&Call::Audit { setup: Setup { granule: SIZES[0], ..setup } }, words, second, list)
+        }
+        _ => right(call, words, second, list),
+    }),
+    ("the granule taken from the lengths", |call, words, second, list| match *call {
+        Call::Query { setup, address } => {
+            let answer = right(call, words, second, list);
+            let granule = Shape::of(setup.granule).other().page();
+            let other = right(&Call::Query { setup: Setup { granule, ..setup }, address }, words, second, list);
+            if answer.refusal == 1 {
+                other
+            } else {
+                answer
+            }
+        }
+        _ => right(call, words, second, list),
+    }),
+    ("an unmap at a multiple of 4096 alone", |call, words, second, list| match *call {
+        Call::Unmap { setup, address } if is_16(call) && address % 4096 == 0 => {
+            right(&Call::Unmap { setup, address: address & !0x3FFF }, words, second, list)
+        }
+        _ => right(call, words, second, list),
+    }),
+    ("11 for tables of 4096 bytes", |call, words, second, list| match (*call, right(call, words, second, list)) {
+        (Call::Map { setup, frame, .. }, mut answer) if is_16(call) && answer.refusal == 11 => {
+            let inside = frame >= setup.base.wrapping_add(4096 * setup.tables)
+                && frame < setup.base.wrapping_add(bytes(setup, setup.tables));
+            answer.refusal = if inside { 7 } else { 11 };
+            answer
+        }
+        (_, answer) => answer,
+    }),
+    ("a refused format that keeps the granule", |call, words, second, list| match (*call, right(call, words, second, list)) {
+        (Call::Format { granule, .. }, mut answer) if answer.refusal == 1 => {
+            answer.numbers[SETUP - 1] = granule;
+            answer
+        }
+        (_, answer) => answer,
+    }),
+    ("a granule that is not handed back", |call, words, second, list| {
+        let mut answer = right(call, words, second, list);
+        if matches!(call, Call::Unmap { .. }) && is_16(call) {
+            answer.numbers[SETUP - 1] = SIZES[0];
+        }
+        answer
+    }),
+    ("a page of 16 KiB as a block", |call, words, second, list| match (*call, right(call, words, second, list)) {
+        (Call::FrameWord { size, .. }, answer) if size == SIZES_16[0] && answer.refusal == 0 => {
+            Answer::of_host(answer.numbers[0] & !2)
+        }
+        (_, answer) => answer,
+    }),
+    ("a word of 4 KiB read at 16 KiB", |call, words, second, list| match *call {
+        Call::WordMeaning { word, size } if size == SIZES_16[0] => {
+            right(&Call::WordMeaning { word, size: SIZES[0] }, words, second, list)
+        }
+        _ => right(call, words, second, list),
+    }),
+    ("a word of 2 MiB read at 32 MiB", |call, words, second, list| match *call {
+        Call::WordMeaning { word, size } if size == SIZES_16[1] => {
+            right(&Call::WordMeaning { word, size: SIZES[1] }, words, second, list)
+        }
+        _ => right(call, words, second, list),
+    }),
+    ("a host's call that knows three sizes", |call, words, second, list| match *call {
+        Call::FrameWord { size, .. } if SIZES_16.contains(&size) => Answer::of_host(2),
         _ => right(call, words, second, list),
     }),
 ];

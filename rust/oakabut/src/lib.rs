@@ -1,15 +1,15 @@
-//! A stage 2 page table for Arm (VMSAv8-64, 4 KiB granule), proved.
+//! A stage 2 page table for Arm (VMSAv8-64, granules of 4 KiB and 16 KiB), proved.
 //!
 //! This crate is a thin safe layer over `liboakabut.a`, which is written in Rattle and proved: for every input each call keeps
 //! its contract, stays within the lent memory and ends. What is added here is only names and types.
 //!
 //! ```
-//! use oakabut::{Hole, Mapping, Pool, Refusal, BLOCK_2M, EXECUTE, PAGE, READ, WRITE};
+//! use oakabut::{Hole, Mapping, Pool, Refusal, BLOCK_2M, EXECUTE, GRANULE_4K, PAGE, READ, WRITE};
 //!
-//! // four tables at 0x40000000, three levels: a space of 2^39 bytes
+//! // four tables of 4 KiB at 0x40000000, three levels: a space of 2^39 bytes
 //! let mut words = [0u64; 4 * 512];
 //! let mut list = [0u32; 4];
-//! let mut pool = Pool::format(3, 0x4000_0000, 4, &mut words, &mut list)?;
+//! let mut pool = Pool::format(3, 0x4000_0000, 4, GRANULE_4K, &mut words, &mut list)?;
 //!
 //! // the first page needs two tables below the root, its neighbours none
 //! assert_eq!(pool.map(0, 0x8000_0000, PAGE, READ + WRITE)?, 2);
@@ -38,6 +38,12 @@
 //! assert_eq!(pool.unmap(0)?.given, 0);
 //! assert_eq!(pool.unmap(0x1000)?.given, 1);
 //! assert_eq!(pool.audit()?.mappings, 1);
+//!
+//! // with the other granule tables have 2048 words, and frames 16 KiB or 32 MiB
+//! use oakabut::{BLOCK_32M, GRANULE_16K, PAGE_16K};
+//! let mut pool = Pool::owned(3, 0x4000_0000, 4, GRANULE_16K)?;
+//! assert_eq!(pool.map(0, 0x8000_0000, PAGE_16K, READ)?, 2);
+//! assert_eq!(pool.map(0x200_0000, 0x8200_0000, BLOCK_32M, READ)?, 0);
 //! # Ok::<(), Refusal>(())
 //! ```
 //!
@@ -55,12 +61,21 @@ mod refusal;
 pub use pool::Pool;
 pub use refusal::Refusal;
 
-/// The size of a page, 4 KiB.
+/// The granule of 4 KiB: pages and tables of 4096 bytes, 512 entries in a table, three levels or four.
+pub const GRANULE_4K: u64 = 1 << 12;
+/// The granule of 16 KiB: pages and tables of 16384 bytes, 2048 entries in a table, three levels.
+pub const GRANULE_16K: u64 = 1 << 14;
+
+/// The size of a page of the 4 KiB granule.
 pub const PAGE: u64 = 1 << 12;
-/// The size of a block of 2 MiB.
+/// The size of a block of 2 MiB, of the 4 KiB granule.
 pub const BLOCK_2M: u64 = 1 << 21;
-/// The size of a block of 1 GiB.
+/// The size of a block of 1 GiB, of the 4 KiB granule.
 pub const BLOCK_1G: u64 = 1 << 30;
+/// The size of a page of the 16 KiB granule.
+pub const PAGE_16K: u64 = 1 << 14;
+/// The size of a block of 32 MiB, of the 16 KiB granule.
+pub const BLOCK_32M: u64 = 1 << 25;
 
 /// The guest may read.
 pub const READ: u64 = 1;
@@ -78,9 +93,9 @@ pub const MAX_TABLES: u64 = 512;
 #[repr(C)]
 #[derive(Clone, Copy, Debug, Default, PartialEq, Eq, Hash)]
 pub struct Setup {
-    /// 3 or 4 levels: a space of 2^39 or 2^48 bytes.
+    /// 3 or 4 levels: a space of 2^39 or 2^48 bytes. With [`GRANULE_16K`] there are 3, and 2^47 bytes.
     pub levels: u64,
-    /// The address of table 0; table t of the first region stands at base + 4096 × t.
+    /// The address of table 0; table t of the first region stands at base + granule × t.
     pub base: u64,
     /// The number of tables of the first region: at least 1, and with those of the second at most 512.
     pub tables: u64,
@@ -90,6 +105,8 @@ pub struct Setup {
     pub second_base: u64,
     /// The number of tables of the second region, or 0 where there is none.
     pub second_tables: u64,
+    /// [`GRANULE_4K`] or [`GRANULE_16K`]: the bytes of a page and of a table.
+    pub granule: u64,
 }
 
 /// A mapping, as [`Pool::query`] answers it.
@@ -108,8 +125,8 @@ pub struct Mapping {
 
 /// A hole, as refusal 9 of [`Pool::query`] and [`Pool::unmap`] carries it: the largest aligned region around the address that is empty.
 ///
-/// Its size is that of an entry's region at some level: 4 KiB, 2 MiB, 1 GiB, and with four levels 512 GiB. No mapping touches it. The
-/// next larger region around the address, if it is smaller than the whole space, holds a mapping in a pool that the audit accepts.
+/// Its size is that of an entry's region at some level: 4 KiB, 2 MiB, 1 GiB, and with four levels 512 GiB; with the larger granule 16 KiB,
+/// 32 MiB or 64 GiB. No mapping touches it. The next larger region around the address, if it is smaller than the whole space, holds a mapping in a pool that the audit accepts.
 #[repr(C)]
 #[derive(Clone, Copy, Debug, PartialEq, Eq, Hash)]
 pub struct Hole {
@@ -142,7 +159,7 @@ pub struct Audit {
     pub mappings: u64,
 }
 
-/// The entry word of a frame.
+/// The entry word of a frame, of any of the five sizes.
 ///
 /// It is refused in the order [`SIZE`](Refusal::SIZE), [`ATTRIBUTES`](Refusal::ATTRIBUTES), [`RANGE`](Refusal::RANGE),
 /// [`ALIGNMENT`](Refusal::ALIGNMENT).
@@ -156,7 +173,7 @@ pub fn frame_word(base: u64, size: u64, attributes: u64) -> Result<u64, Refusal>
     Refusal::or(if word < 16 { word } else { 0 }, word)
 }
 
-/// The base and the attributes of the frame of this size that a word stands for.
+/// The base and the attributes of the frame of this size, which is any of the five, that a word stands for.
 ///
 /// A word that is no frame of this size is [`DAMAGED`](Refusal::DAMAGED), and another size [`SIZE`](Refusal::SIZE).
 ///

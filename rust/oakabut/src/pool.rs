@@ -5,14 +5,14 @@ use core::fmt;
 use core::ops::{Deref, DerefMut};
 
 use crate::raw::{self, Found, Mapped, Unmapped};
-use crate::{Audit, Hole, Mapping, Refusal, Removed, Setup, MAX_TABLES};
+use crate::{Audit, Hole, Mapping, Refusal, Removed, Setup, GRANULE_16K, GRANULE_4K, MAX_TABLES};
 
 const NO_HOLE: Hole = Hole { base: 0, size: 0 };
 
 /// A pool of tables: a stage 2 page table with the memory it lives in.
 ///
 /// The memory is lent ([`Pool::format`], [`Pool::resume`]) or the pool's own ([`Pool::owned`]). It is the words, 512 for each
-/// table, and the free list, one place for each table. Tables may stand in two regions of memory: the second has its own run of
+/// table of 4 KiB or 2048 for each of 16 KiB, and the free list, one place for each table. Tables may stand in two regions of memory: the second has its own run of
 /// words, from the start ([`Pool::format_two`]) or from an [`add`](Pool::add) on. Nothing but these slices and the setup numbers is
 /// kept: a pool can be taken apart at any time, and go on later from its parts.
 ///
@@ -27,27 +27,30 @@ pub struct Pool<'a> {
 impl<'a> Pool<'a> {
     /// Sets up an empty pool in lent memory: all words become zero, and every table but the root is free.
     ///
-    /// `levels` is 3 or 4; the space has 2^39 or 2^48 bytes. `base` is the address at which the words stand, a multiple of
-    /// 4096: the processor reads the tables there. There are 1 to 512 `tables`, `words` has 512 times as many elements and
-    /// `list` exactly as many; base + 4096 × tables is at most 2^48. Anything else is [`Refusal::SETUP`], and leaves the memory
-    /// as it was.
-    pub fn format(levels: u64, base: u64, tables: u64, words: &'a mut [u64], list: &'a mut [u32]) -> Result<Pool<'a>, Refusal> {
+    /// `granule` is [`GRANULE_4K`] or [`GRANULE_16K`], and the size of a table. `levels` is 3 or 4; the space has 2^39 or 2^48
+    /// bytes. With [`GRANULE_16K`] it is 3, and the space has 2^47. `base` is the address at which the words stand, a multiple of
+    /// the granule: the processor reads the tables there. There are 1 to 512 `tables`, `words` has 512 times as many elements, or
+    /// with [`GRANULE_16K`] 2048 times, and `list` exactly as many; base + granule × tables is at most 2^48. Anything else is
+    /// [`Refusal::SETUP`], and leaves the memory as it was.
+    pub fn format(
+        levels: u64, base: u64, tables: u64, granule: u64, words: &'a mut [u64], list: &'a mut [u32],
+    ) -> Result<Pool<'a>, Refusal> {
         let mut pool = Pool::resume(Setup::default(), words, list);
-        pool.reformat(levels, base, tables)?;
+        pool.reformat(levels, base, tables, granule)?;
         Ok(pool)
     }
 
     /// The same with tables in two regions.
     ///
-    /// The second keeps the rules of the first and does not overlap it, `second` has 512 words for each of its tables, and `list` a
+    /// The second keeps the rules of the first and does not overlap it, `second` has as many words for each of its tables, and `list` a
     /// place for each table of both. Without a table in it, `second_base` is 0.
     #[allow(clippy::too_many_arguments)]
     pub fn format_two(
-        levels: u64, base: u64, tables: u64, second_base: u64, second_tables: u64, words: &'a mut [u64], second: &'a mut [u64],
-        list: &'a mut [u32],
+        levels: u64, base: u64, tables: u64, second_base: u64, second_tables: u64, granule: u64, words: &'a mut [u64],
+        second: &'a mut [u64], list: &'a mut [u32],
     ) -> Result<Pool<'a>, Refusal> {
         let mut pool = Pool::resume_two(Setup::default(), words, second, list);
-        pool.reformat_two(levels, base, tables, second_base, second_tables)?;
+        pool.reformat_two(levels, base, tables, second_base, second_tables, granule)?;
         Ok(pool)
     }
 
@@ -64,13 +67,13 @@ impl<'a> Pool<'a> {
     }
 
     /// Empties the pool, possibly with other setup numbers. Where it is refused the pool goes on as it was.
-    pub fn reformat(&mut self, levels: u64, base: u64, tables: u64) -> Result<(), Refusal> {
-        self.reformat_two(levels, base, tables, 0, 0)
+    pub fn reformat(&mut self, levels: u64, base: u64, tables: u64, granule: u64) -> Result<(), Refusal> {
+        self.reformat_two(levels, base, tables, 0, 0, granule)
     }
 
     /// The same with tables in two regions.
     pub fn reformat_two(
-        &mut self, levels: u64, base: u64, tables: u64, second_base: u64, second_tables: u64,
+        &mut self, levels: u64, base: u64, tables: u64, second_base: u64, second_tables: u64, granule: u64,
     ) -> Result<(), Refusal> {
         let mut answer = Setup::default();
         let (words, second, list) = (&mut *self.words, &mut *self.second, &mut *self.list);
@@ -82,6 +85,7 @@ impl<'a> Pool<'a> {
                 tables,
                 second_base,
                 second_tables,
+                granule,
                 words.as_mut_ptr(),
                 words.len(),
                 second.as_mut_ptr(),
@@ -97,7 +101,7 @@ impl<'a> Pool<'a> {
 
     /// Gives a pool of one region a second one, of so many `tables` at `base`. No mapping changes, and all new tables are free.
     ///
-    /// `second` has 512 words for each new table, and `list` is the longer list, with a place for each table of both regions: the
+    /// The new tables are of the pool's granule. `second` has their words, and `list` is the longer list, with a place for each table of both regions: the
     /// numbers of the free tables go over to it, and from now on it is the pool's. A second region that is there, no table, numbers
     /// and lengths that break the rules are [`Refusal::SETUP`]; a damaged word in a table that is reached, or a table that is reached
     /// twice, is [`Refusal::DAMAGED`]; a mapping whose frame shares a byte with the new region is [`Refusal::IN_POOL`]. Refused, the
@@ -138,8 +142,8 @@ impl<'a> Pool<'a> {
 
     /// Maps the frame of `size` bytes at `frame` to `address`. Answers the number of tables taken from the free list.
     ///
-    /// The size is [`PAGE`](crate::PAGE), [`BLOCK_2M`](crate::BLOCK_2M) or [`BLOCK_1G`](crate::BLOCK_1G); the attributes are a
-    /// sum of [`READ`](crate::READ), [`WRITE`](crate::WRITE), [`EXECUTE`](crate::EXECUTE) and [`DEVICE`](crate::DEVICE).
+    /// The size is [`PAGE`](crate::PAGE), [`BLOCK_2M`](crate::BLOCK_2M) or [`BLOCK_1G`](crate::BLOCK_1G), with [`GRANULE_16K`]
+    /// [`PAGE_16K`](crate::PAGE_16K) or [`BLOCK_32M`](crate::BLOCK_32M); the attributes are a sum of [`READ`](crate::READ), [`WRITE`](crate::WRITE), [`EXECUTE`](crate::EXECUTE) and [`DEVICE`](crate::DEVICE).
     pub fn map(&mut self, address: u64, frame: u64, size: u64, attributes: u64) -> Result<u64, Refusal> {
         let mut answer = Mapped { setup: self.setup, taken: 0 };
         let (words, second, list) = (&mut *self.words, &mut *self.second, &*self.list);
@@ -253,21 +257,27 @@ impl<'a> Pool<'a> {
 
 impl Pool<'static> {
     /// Sets up an empty pool in memory of its own. It is for tests and tools: `base` need not be where the words are.
-    pub fn owned(levels: u64, base: u64, tables: u64) -> Result<Pool<'static>, Refusal> {
-        // no memory where there are too many tables, which the library refuses then
-        let room = if tables <= MAX_TABLES { tables as usize } else { 0 };
-        let words = Memory::Owned(alloc::vec![0; 512 * room]);
-        let list = Memory::Owned(alloc::vec![0; room]);
+    pub fn owned(levels: u64, base: u64, tables: u64, granule: u64) -> Result<Pool<'static>, Refusal> {
+        let (words, room) = room(tables, granule);
+        let (words, list) = (Memory::Owned(alloc::vec![0; words]), Memory::Owned(alloc::vec![0; room]));
         let mut pool = Pool { setup: Setup::default(), words, second: Memory::Owned(Vec::new()), list };
-        pool.reformat(levels, base, tables)?;
+        pool.reformat(levels, base, tables, granule)?;
         Ok(pool)
     }
 
     /// Gives a pool of one region a second one in memory of its own, as [`Pool::add`] does in lent memory.
     pub fn add_owned(&mut self, base: u64, tables: u64) -> Result<(), Refusal> {
-        let room = if tables <= MAX_TABLES { tables as usize } else { 0 };
-        let (second, list) = (alloc::vec![0; 512 * room], alloc::vec![0; self.list.len() + room]);
+        let (words, room) = room(tables, self.setup.granule);
+        let (second, list) = (alloc::vec![0; words], alloc::vec![0; self.list.len() + room]);
         self.add_memory(base, tables, Memory::Owned(second), Memory::Owned(list))
+    }
+}
+
+/// The words and the places of so many tables. There are none where there are too many tables or no such granule, which the library refuses then.
+fn room(tables: u64, granule: u64) -> (usize, usize) {
+    match granule {
+        GRANULE_4K | GRANULE_16K if tables <= MAX_TABLES => ((granule / 8 * tables) as usize, tables as usize),
+        _ => (0, 0),
     }
 }
 

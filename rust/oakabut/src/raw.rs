@@ -58,8 +58,8 @@ extern "C" {
     /// `words`, `second` and `list` point to that many elements, which nothing else uses during the call, and `answer` to room for
     /// one.
     pub fn oak_format(
-        levels: u64, base: u64, tables: u64, second_base: u64, second_tables: u64, words: *mut u64, words_len: usize,
-        second: *mut u64, second_len: usize, list: *mut u32, list_len: usize, answer: *mut Setup,
+        levels: u64, base: u64, tables: u64, second_base: u64, second_tables: u64, granule: u64, words: *mut u64,
+        words_len: usize, second: *mut u64, second_len: usize, list: *mut u32, list_len: usize, answer: *mut Setup,
     ) -> u64;
 
     /// Gives a pool of one region a second one. The list is the longer one, with places for all tables.

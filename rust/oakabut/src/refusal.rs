@@ -17,13 +17,13 @@ pub struct Refusal {
 impl Refusal {
     /// 1: a setup number or a length breaks the rules.
     pub const SETUP: Refusal = Refusal::bare(1);
-    /// 2: the size is none of the three.
+    /// 2: the size is none of the granule's; of a word, none of the five.
     pub const SIZE: Refusal = Refusal::bare(2);
     /// 3: the attributes are above 15.
     pub const ATTRIBUTES: Refusal = Refusal::bare(3);
     /// 4: an address is not below the space, or address + size is above it; or frame base + size is above 2^48.
     pub const RANGE: Refusal = Refusal::bare(4);
-    /// 5: map: the address or the frame base is not a multiple of the size; unmap: the address is not a multiple of 4096.
+    /// 5: map: the address or the frame base is not a multiple of the size; unmap: the address is not a multiple of the granule.
     pub const ALIGNMENT: Refusal = Refusal::bare(5);
     /// 6: map: the walk meets a frame, or the target entry is a table or a frame.
     pub const IN_USE: Refusal = Refusal::bare(6);
@@ -85,13 +85,13 @@ impl fmt::Display for Refusal {
                 );
             }
             Refusal::SETUP => "a setup number or a length breaks the rules",
-            Refusal::SIZE => "the size is none of the three",
+            Refusal::SIZE => "the size is none of the granule's",
             Refusal::ATTRIBUTES => "the attributes are above 15",
             Refusal::RANGE => {
                 "an address is not below the space, or address + size is above it; or frame base + size is above 2^48"
             }
             Refusal::ALIGNMENT => {
-                "map: the address or the frame base is not a multiple of the size; unmap: the address is not a multiple of 4096"
+                "map: the address or the frame base is not a multiple of the size; unmap: the address is not a multiple of the granule"
             }
             Refusal::IN_USE => "map: the walk meets a frame, or the target entry is a table or a frame",
             Refusal::NO_TABLES => "map: the new tables needed are more than the free ones",

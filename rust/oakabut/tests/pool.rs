@@ -5,10 +5,12 @@ use oakabut::*;
 const P: u64 = 0x4000_0000;
 const Q: u64 = 0x5000_0000;
 const F: u64 = 0x8000_0000;
+const K4: u64 = GRANULE_4K;
+const K16: u64 = GRANULE_16K;
 
 fn the_eleven_cases(mut pool: Pool) -> Result<(), Refusal> {
     // 1
-    assert_eq!(pool.setup(), Setup { levels: 3, base: P, tables: 4, free: 3, ..Setup::default() });
+    assert_eq!(pool.setup(), Setup { levels: 3, base: P, tables: 4, free: 3, granule: K4, ..Setup::default() });
     assert_eq!(pool.list(), [3, 2, 1, 0]);
     // 2
     assert_eq!(pool.map(0, F, PAGE, 3)?, 2);
@@ -48,9 +50,9 @@ fn the_eleven_cases(mut pool: Pool) -> Result<(), Refusal> {
 
 #[test]
 fn owned_memory() {
-    the_eleven_cases(Pool::owned(3, P, 4).unwrap()).unwrap();
+    the_eleven_cases(Pool::owned(3, P, 4, K4).unwrap()).unwrap();
     for tables in [0, 513, (1 << 32) + 1, 1 << 40, u64::MAX] {
-        assert_eq!(Pool::owned(3, P, tables).unwrap_err(), Refusal::SETUP);
+        assert_eq!(Pool::owned(3, P, tables, K4).unwrap_err(), Refusal::SETUP);
     }
 }
 
@@ -58,10 +60,10 @@ fn owned_memory() {
 fn lent_memory() {
     let (mut words, mut list) = ([7; 512 * 4], [7; 4]);
     for tables in [3, 5] {
-        assert_eq!(Pool::format(3, P, tables, &mut words, &mut list).unwrap_err(), Refusal::SETUP);
+        assert_eq!(Pool::format(3, P, tables, K4, &mut words, &mut list).unwrap_err(), Refusal::SETUP);
         assert!(words == [7; 512 * 4] && list == [7; 4]);
     }
-    the_eleven_cases(Pool::format(3, P, 4, &mut words, &mut list).unwrap()).unwrap();
+    the_eleven_cases(Pool::format(3, P, 4, K4, &mut words, &mut list).unwrap()).unwrap();
     assert_eq!(words[511], P + 4096 + 3);
 }
 
@@ -69,7 +71,7 @@ fn lent_memory() {
 fn holes() {
     let hole = |pool: &Pool, address: u64| pool.query(address).unwrap_err().hole();
     let sized = |base, size| Some(Hole { base, size });
-    let mut pool = Pool::owned(3, P, 4).unwrap();
+    let mut pool = Pool::owned(3, P, 4, K4).unwrap();
     assert_eq!(hole(&pool, 0), sized(0, BLOCK_1G));
     assert_eq!(pool.unmap(0x7F_FFFF_F000), Err(Refusal::empty(Hole { base: 0x7F_C000_0000, size: BLOCK_1G })));
     pool.map(0, F, PAGE, 3).unwrap();
@@ -81,7 +83,7 @@ fn holes() {
     assert_eq!(hole(&pool, 0), sized(0, BLOCK_2M));
     pool.unmap(0x20_0000).unwrap();
     assert_eq!(hole(&pool, 0), sized(0, BLOCK_1G));
-    assert_eq!(hole(&Pool::owned(4, P, 4).unwrap(), (1 << 48) - 1), sized(511 << 39, 1 << 39));
+    assert_eq!(hole(&Pool::owned(4, P, 4, K4).unwrap(), (1 << 48) - 1), sized(511 << 39, 1 << 39));
     // no other refusal has one
     assert_eq!(pool.query(1 << 39), Err(Refusal::RANGE));
     assert_eq!(Refusal::RANGE.hole(), None);
@@ -92,22 +94,23 @@ fn holes() {
 #[test]
 fn a_pool_goes_on_from_its_parts() {
     let (mut words, mut list) = ([0; 512 * 4], [0; 4]);
-    let mut pool = Pool::format(4, P, 4, &mut words, &mut list).unwrap();
+    let mut pool = Pool::format(4, P, 4, K4, &mut words, &mut list).unwrap();
     assert_eq!(pool.map(0, F + PAGE, BLOCK_1G, DEVICE + READ), Err(Refusal::ALIGNMENT));
     assert_eq!(pool.map(0, F, BLOCK_2M, DEVICE + READ), Ok(2));
     let setup = pool.setup();
     let mut pool = Pool::resume(setup, &mut words, &mut list);
     assert_eq!(pool.audit(), Ok(Audit { tables: 3, mappings: 1 }));
     // a refused format leaves the pool as it was, an accepted one empties it
-    assert_eq!(pool.reformat(5, P, 4), Err(Refusal::SETUP));
+    assert_eq!(pool.reformat(5, P, 4, K4), Err(Refusal::SETUP));
     assert_eq!((pool.setup(), pool.audit().unwrap().mappings), (setup, 1));
-    pool.reformat(3, 0, 4).unwrap();
-    assert_eq!((pool.setup(), pool.audit().unwrap().mappings), (Setup { levels: 3, base: 0, tables: 4, free: 3, ..Setup::default() }, 0));
+    pool.reformat(3, 0, 4, K4).unwrap();
+    let fresh = Setup { levels: 3, base: 0, tables: 4, free: 3, granule: K4, ..Setup::default() };
+    assert_eq!((pool.setup(), pool.audit().unwrap().mappings), (fresh, 0));
 }
 
 #[test]
 fn a_guest_is_never_given_its_own_tables() {
-    let mut pool = Pool::owned(3, P, 4).unwrap();
+    let mut pool = Pool::owned(3, P, 4, K4).unwrap();
     for (frame, size) in [(P, PAGE), (P + 3 * PAGE, PAGE), (P, BLOCK_2M), (P, BLOCK_1G)] {
         assert_eq!(pool.map(0, frame, size, READ), Err(Refusal::IN_POOL));
     }
@@ -125,7 +128,7 @@ fn fill(pool: &mut Pool) {
 
 /// The map that got 7 is accepted.
 fn goes_on(pool: &mut Pool) {
-    assert_eq!(pool.setup(), Setup { levels: 3, base: P, tables: 4, free: 3, second_base: Q, second_tables: 2 });
+    assert_eq!(pool.setup(), Setup { levels: 3, base: P, tables: 4, free: 3, second_base: Q, second_tables: 2, granule: K4 });
     assert_eq!((pool.list()[..3].to_vec(), pool.audit()), (vec![3, 5, 4], Ok(Audit { tables: 3, mappings: 2 })));
     assert!(pool.second().len() == 1024 && pool.second().iter().all(|&word| word == 0));
     assert_eq!(pool.map(BLOCK_1G, F, PAGE, 3), Ok(2));
@@ -139,12 +142,12 @@ fn goes_on(pool: &mut Pool) {
 fn a_second_region_is_added() {
     let (mut words, mut list) = ([7; 512 * 4], [7; 4]);
     let (mut second, mut longer) = ([7; 512 * 2], [9; 6]);
-    let mut pool = Pool::format(3, P, 4, &mut words, &mut list).unwrap();
+    let mut pool = Pool::format(3, P, 4, K4, &mut words, &mut list).unwrap();
     fill(&mut pool);
     pool.add(Q, 2, &mut second, &mut longer).unwrap();
     goes_on(&mut pool);
     assert_eq!(pool.list(), [3, 5, 4, 9, 9, 9]);
-    let mut pool = Pool::owned(3, P, 4).unwrap();
+    let mut pool = Pool::owned(3, P, 4, K4).unwrap();
     fill(&mut pool);
     for (base, tables) in [(Q, 0), (P, 2), (Q + 1, 2), (Q, 509), (Q, u64::MAX)] {
         assert_eq!(pool.add_owned(base, tables), Err(Refusal::SETUP));
@@ -159,7 +162,7 @@ fn a_refused_add_changes_nothing() {
     let (mut words, mut list) = ([7; 512 * 4], [7; 4]);
     let (mut second, mut longer) = ([7; 512 * 2], [9; 6]);
     let (mut short, mut few) = ([7; 511], [9; 5]);
-    let mut pool = Pool::format(3, P, 4, &mut words, &mut list).unwrap();
+    let mut pool = Pool::format(3, P, 4, K4, &mut words, &mut list).unwrap();
     fill(&mut pool);
     pool.map(PAGE, Q, PAGE, READ).unwrap();
     let setup = pool.setup();
@@ -178,9 +181,9 @@ fn a_refused_add_changes_nothing() {
 #[test]
 fn tables_in_two_regions_from_the_start() {
     let (mut words, mut second, mut list) = ([7; 512 * 2], [7; 512 * 3], [7; 5]);
-    assert_eq!(Pool::format_two(3, P, 2, P + PAGE, 3, &mut words, &mut second, &mut list).unwrap_err(), Refusal::SETUP);
+    assert_eq!(Pool::format_two(3, P, 2, P + PAGE, 3, K4, &mut words, &mut second, &mut list).unwrap_err(), Refusal::SETUP);
     assert!(words == [7; 512 * 2] && second == [7; 512 * 3] && list == [7; 5]);
-    let mut pool = Pool::format_two(3, P, 2, Q, 3, &mut words, &mut second, &mut list).unwrap();
+    let mut pool = Pool::format_two(3, P, 2, Q, 3, K4, &mut words, &mut second, &mut list).unwrap();
     assert_eq!(pool.list(), [4, 3, 2, 1, 0]);
     // one table of each region
     assert_eq!(pool.map(0, F, PAGE, 3), Ok(2));
@@ -190,14 +193,64 @@ fn tables_in_two_regions_from_the_start() {
     assert_eq!(pool.audit(), Ok(Audit { tables: 3, mappings: 1 }));
     assert_eq!(pool.unmap(0).unwrap().given, 2);
     // one region needs an empty second run
-    assert_eq!(pool.reformat(3, P, 2), Err(Refusal::SETUP));
-    pool.reformat_two(4, P, 2, P + 2 * PAGE, 3).unwrap();
-    assert_eq!(pool.setup(), Setup { levels: 4, base: P, tables: 2, free: 4, second_base: P + 2 * PAGE, second_tables: 3 });
+    assert_eq!(pool.reformat(3, P, 2, K4), Err(Refusal::SETUP));
+    pool.reformat_two(4, P, 2, P + 2 * PAGE, 3, K4).unwrap();
+    let two = Setup { levels: 4, base: P, tables: 2, free: 4, second_base: P + 2 * PAGE, second_tables: 3, granule: K4 };
+    assert_eq!(pool.setup(), two);
+}
+
+#[test]
+fn the_granule_of_16_kib() {
+    const BLOCK_64G: u64 = 1 << 36;
+    let mut pool = Pool::owned(3, P, 4, K16).unwrap();
+    assert_eq!(pool.setup(), Setup { levels: 3, base: P, tables: 4, free: 3, granule: K16, ..Setup::default() });
+    assert_eq!((pool.words().len(), pool.list()), (4 * 2048, &[3, 2, 1, 0][..]));
+    assert_eq!(pool.map(0, F, PAGE_16K, 3), Ok(2));
+    assert_eq!(pool.map(BLOCK_32M, F + BLOCK_32M, BLOCK_32M, 3), Ok(0));
+    assert_eq!([0, 2048, 4096].map(|i| pool.words()[i]), [P + K16 + 3, P + 2 * K16 + 3, 0x0040_0000_8000_07FF]);
+    for size in [PAGE, BLOCK_2M, BLOCK_1G, BLOCK_64G] {
+        assert_eq!(pool.map(BLOCK_64G, F, size, 3), Err(Refusal::SIZE));
+    }
+    assert_eq!(pool.map(PAGE, F, PAGE_16K, 3), Err(Refusal::ALIGNMENT));
+    assert_eq!(pool.unmap(PAGE), Err(Refusal::ALIGNMENT));
+    assert_eq!(pool.map(1 << 47, F, PAGE_16K, 3), Err(Refusal::RANGE));
+    assert_eq!(pool.map(PAGE_16K, P + 3 * K16, PAGE_16K, 3), Err(Refusal::IN_POOL));
+    let holes =
+        [(PAGE_16K + 5, PAGE_16K, PAGE_16K), (2 * BLOCK_32M, 2 * BLOCK_32M, BLOCK_32M), (BLOCK_64G + 1, BLOCK_64G, BLOCK_64G)];
+    for (address, base, size) in holes {
+        assert_eq!(pool.query(address).unwrap_err().hole(), Some(Hole { base, size }));
+    }
+    // a page far away needs two tables, and one is free; two more of 16 KiB are added
+    assert_eq!(pool.map(BLOCK_64G, F, PAGE_16K, 3), Err(Refusal::NO_TABLES));
+    assert_eq!(pool.add_owned(Q + PAGE, 2), Err(Refusal::SETUP));
+    pool.add_owned(Q, 2).unwrap();
+    assert_eq!((pool.second().len(), pool.setup().granule), (2 * 2048, K16));
+    assert_eq!(pool.map(BLOCK_64G, F, PAGE_16K, 3), Ok(2));
+    assert_eq!((pool.words()[1], pool.second()[0], pool.audit()), (Q + 3, Q + K16 + 3, Ok(Audit { tables: 5, mappings: 3 })));
+    assert_eq!(pool.unmap(BLOCK_64G).unwrap().given, 2);
+}
+
+#[test]
+fn no_other_granule() {
+    for granule in [0, 4095, 8192, 16383, 65536, u64::MAX] {
+        assert_eq!(Pool::owned(3, P, 4, granule).unwrap_err(), Refusal::SETUP);
+        let (mut words, mut list) = ([7; 512 * 4], [7; 4]);
+        assert_eq!(Pool::format(3, P, 4, granule, &mut words, &mut list).unwrap_err(), Refusal::SETUP);
+        assert!(words == [7; 512 * 4] && list == [7; 4]);
+    }
+    assert_eq!(Pool::owned(4, P, 4, K16).unwrap_err(), Refusal::SETUP);
+    assert_eq!(Pool::owned(3, P + PAGE, 4, K16).unwrap_err(), Refusal::SETUP);
+    // words of the one granule, and the number of the other
+    let (mut words, mut list) = ([0; 512 * 4], [0; 4]);
+    assert_eq!(Pool::format(3, P, 4, K16, &mut words, &mut list).unwrap_err(), Refusal::SETUP);
+    let setup = Pool::format(3, P, 4, K4, &mut words, &mut list).unwrap().setup();
+    let mixed = Pool::resume(Setup { granule: K16, ..setup }, &mut words, &mut list);
+    assert_eq!(mixed.audit(), Err(Refusal::SETUP));
 }
 
 #[test]
 fn the_hosts_two_calls() {
-    for size in [PAGE, BLOCK_2M, BLOCK_1G] {
+    for size in [PAGE, BLOCK_2M, BLOCK_1G, PAGE_16K, BLOCK_32M] {
         for attributes in 0..16 {
             let word = frame_word(3 * BLOCK_1G, size, attributes).unwrap();
             assert_eq!(word_meaning(word, size), Ok((3 * BLOCK_1G, attributes)));
@@ -205,6 +258,9 @@ fn the_hosts_two_calls() {
         }
     }
     assert_eq!(frame_word(0, PAGE, DEVICE + READ + WRITE).unwrap() % 4096, 0x4C3);
+    assert_eq!(frame_word(PAGE, PAGE_16K, 3), Err(Refusal::ALIGNMENT));
+    assert_eq!(word_meaning(frame_word(PAGE, PAGE, 3).unwrap(), PAGE_16K), Err(Refusal::DAMAGED));
+    assert_eq!(frame_word(0, 1 << 36, 3), Err(Refusal::SIZE));
     assert_eq!(frame_word(1, 1, 16), Err(Refusal::SIZE));
     assert_eq!(frame_word(1 << 48, PAGE, 16), Err(Refusal::ATTRIBUTES));
     assert_eq!(frame_word((1 << 48) + 1, PAGE, 15), Err(Refusal::RANGE));
@@ -214,7 +270,7 @@ fn the_hosts_two_calls() {
 
 #[test]
 fn refusals_say_their_number_and_why() {
-    let refusal: Box<dyn std::error::Error> = Box::new(Pool::owned(5, P, 4).unwrap_err());
+    let refusal: Box<dyn std::error::Error> = Box::new(Pool::owned(5, P, 4, K4).unwrap_err());
     assert_eq!(refusal.to_string(), "refusal 1, a setup number or a length breaks the rules");
     assert_eq!((Refusal::NOT_THE_START.number(), Refusal::IN_POOL.number()), (10, 11));
 }

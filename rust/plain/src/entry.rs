@@ -1,6 +1,6 @@
-//! Entry words of VMSAv8-64 stage 2 with the 4 KiB granule, and the host's two calls about them.
+//! Entry words of VMSAv8-64 stage 2 with granules of 4 KiB and 16 KiB, and the host's two calls about them.
 
-use crate::geometry::{is_multiple, LIMIT, PAGE, SIZES};
+use crate::geometry::{is_multiple, GRANULES, LIMIT, SIZES, SIZES_16};
 use crate::Refusal;
 
 /// What a frame word says: the base of the frame and its attributes, 0 to 15.
@@ -18,10 +18,10 @@ const NOT_EXECUTE: u64 = 1 << 54;
 const NORMAL: u64 = 1 << 10 | 0b11 << 8 | 0b1111 << 2;
 const DEVICE: u64 = 1 << 10;
 
-/// The type of a frame: 3 at the last level and 1 above it.
+/// The type of a frame: 3 at the last level, where its size is a page's, and 1 above it.
 #[inline]
 fn kind(size: u64) -> u64 {
-    if size == PAGE {
+    if GRANULES.contains(&size) {
         3
     } else {
         1
@@ -35,7 +35,7 @@ pub(crate) fn write_frame(base: u64, size: u64, attributes: u64) -> u64 {
     base | kind(size) | memory | (attributes & 3) << 6 | (!attributes & 4) << 52
 }
 
-/// The frame of this size, which is one of the three, that a word stands for, if it is the word of one.
+/// The frame of this size, which is one of the five, that a word stands for, if it is the word of one.
 ///
 /// The bits of the base, read, write and execute may be anything; the others have to be one of two patterns. A base below 2^48
 /// that is a multiple of its size ends at 2^48 at most.
@@ -48,9 +48,14 @@ pub(crate) fn read_frame(word: u64, size: u64) -> Option<Frame> {
     good.then_some(Frame { base: word & base_bits, attributes })
 }
 
-/// The host's first call: the entry word of a frame, or the number of a refusal.
+/// Whether frames of either granule have this size.
+fn is_size(size: u64) -> bool {
+    SIZES.contains(&size) || SIZES_16.contains(&size)
+}
+
+/// The host's first call: the entry word of a frame, or the number of a refusal. It takes the sizes of both granules.
 pub fn frame_word(base: u64, size: u64, attributes: u64) -> u64 {
-    if !SIZES.contains(&size) {
+    if !is_size(size) {
         Refusal::Size.number()
     } else if attributes > 15 {
         Refusal::Attributes.number()
@@ -65,7 +70,7 @@ pub fn frame_word(base: u64, size: u64, attributes: u64) -> u64 {
 
 /// The host's second call: base + 16 + attributes for the word of a frame of this size, or the number of a refusal.
 pub fn word_meaning(word: u64, size: u64) -> u64 {
-    if !SIZES.contains(&size) {
+    if !is_size(size) {
         return Refusal::Size.number();
     }
     match read_frame(word, size) {

@@ -22,18 +22,45 @@ pub struct Ledger {
     tables: u64,
     second_base: u64,
     second_tables: u64,
+    granule: u64,
     mappings: Vec<Mapping>,
-}
-
-/// Whether a frame shares a byte with so many tables from an address on.
-fn meets(frame: u64, size: u64, base: u64, tables: u64) -> bool {
-    frame.max(base) < (frame + size).min(base + 4096 * tables)
 }
 
 impl Ledger {
     /// The ledger of a freshly formatted pool.
-    pub fn new(levels: u64, base: u64, tables: u64, second_base: u64, second_tables: u64) -> Ledger {
-        Ledger { levels, base, tables, second_base, second_tables, mappings: Vec::new() }
+    pub fn new(levels: u64, base: u64, tables: u64, second_base: u64, second_tables: u64, granule: u64) -> Ledger {
+        Ledger { levels, base, tables, second_base, second_tables, granule, mappings: Vec::new() }
+    }
+
+    /// The sizes of frames, the page first.
+    fn sizes(&self) -> &'static [u64] {
+        match self.granule {
+            0x4000 => &[0x4000, 0x200_0000],
+            _ => &[0x1000, 0x20_0000, 0x4000_0000],
+        }
+    }
+
+    /// The sizes of the regions that the entries of a tree stand for, the root's first. All but the last have tables.
+    fn regions(&self) -> &'static [u64] {
+        match (self.granule, self.levels) {
+            (0x4000, _) => &[1 << 36, 1 << 25, 1 << 14],
+            (_, 3) => &[1 << 30, 1 << 21, 1 << 12],
+            _ => &[1 << 39, 1 << 30, 1 << 21, 1 << 12],
+        }
+    }
+
+    /// Addresses are below this.
+    fn space(&self) -> u128 {
+        match (self.granule, self.levels) {
+            (0x4000, _) => 1 << 47,
+            (_, 3) => 1 << 39,
+            _ => 1 << 48,
+        }
+    }
+
+    /// Whether a frame shares a byte with so many tables from an address on.
+    fn meets(&self, frame: u64, size: u64, base: u64, tables: u64) -> bool {
+        frame.max(base) < (frame + size).min(base + self.granule * tables)
     }
 
     pub fn mappings(&self) -> &[Mapping] {
@@ -48,20 +75,21 @@ impl Ledger {
     /// A second region of so many tables, with so many words lent for it and a list of so many places. The mappings stay, and all new
     /// tables are free.
     pub fn add(&mut self, base: u64, tables: u64, words: u64, places: u64) -> Result<(), Refusal> {
-        let (end, total) = (u128::from(base) + 4096 * u128::from(tables), u128::from(self.tables) + u128::from(tables));
+        let (granule, total) = (self.granule, u128::from(self.tables) + u128::from(tables));
+        let end = u128::from(base) + u128::from(granule) * u128::from(tables);
         let good = self.second_base == 0
             && self.second_tables == 0
             && tables != 0
             && total <= 512
-            && base % 4096 == 0
+            && base % granule == 0
             && end <= 1 << 48
-            && (end <= self.base.into() || base >= self.base + 4096 * self.tables)
-            && words == 512 * tables
+            && (end <= self.base.into() || base >= self.base + granule * self.tables)
+            && 8 * u128::from(words) == u128::from(granule) * u128::from(tables)
             && u128::from(places) == total;
         if !good {
             return Err(Refusal::Setup);
         }
-        if self.mappings.iter().any(|m| meets(m.frame, m.size, base, tables)) {
+        if self.mappings.iter().any(|m| self.meets(m.frame, m.size, base, tables)) {
             return Err(Refusal::InPool);
         }
         (self.second_base, self.second_tables) = (base, tables);
@@ -71,7 +99,7 @@ impl Ledger {
     /// Answers the number of tables taken.
     pub fn map(&mut self, address: u64, frame: u64, size: u64, attributes: u64) -> Result<u64, Refusal> {
         let end = |base: u64| u128::from(base) + u128::from(size);
-        if size != 0x1000 && size != 0x20_0000 && size != 0x4000_0000 {
+        if !self.sizes().contains(&size) {
             return Err(Refusal::Size);
         }
         if attributes > 15 {
@@ -83,7 +111,7 @@ impl Ledger {
         if address % size != 0 || frame % size != 0 {
             return Err(Refusal::Alignment);
         }
-        if meets(frame, size, self.base, self.tables) || meets(frame, size, self.second_base, self.second_tables) {
+        if self.meets(frame, size, self.base, self.tables) || self.meets(frame, size, self.second_base, self.second_tables) {
             return Err(Refusal::InPool);
         }
         if self.mappings.iter().any(|m| m.address < address + size && address < m.address + m.size) {
@@ -103,7 +131,7 @@ impl Ledger {
         if u128::from(address) >= self.space() {
             return Err(Refusal::Range);
         }
-        if address % 4096 != 0 {
+        if address % self.granule != 0 {
             return Err(Refusal::Alignment);
         }
         let at = self.holder(address).ok_or_else(|| Refusal::Empty(self.hole(address)))?;
@@ -129,14 +157,6 @@ impl Ledger {
         Counts { tables: 1 + self.needed(&self.mappings), mappings: self.mappings.len() as u64 }
     }
 
-    fn space(&self) -> u128 {
-        if self.levels == 3 {
-            1 << 39
-        } else {
-            1 << 48
-        }
-    }
-
     /// The number of the mapping that holds an address.
     fn holder(&self, address: u64) -> Option<usize> {
         self.mappings.iter().position(|m| m.address <= address && address - m.address < m.size)
@@ -144,19 +164,17 @@ impl Ledger {
 
     /// The largest region around an address that no mapping touches, of the sizes that the entries of a tree stand for. No mapping holds the address.
     pub fn hole(&self, address: u64) -> Hole {
-        let sizes: &[u64] = if self.levels == 3 { &[1 << 30, 1 << 21, 1 << 12] } else { &[1 << 39, 1 << 30, 1 << 21, 1 << 12] };
         let around = |&size: &u64| Hole { base: address / size * size, size };
         let untouched =
             |hole: &Hole| self.mappings.iter().all(|m| m.address + m.size <= hole.base || hole.base + hole.size <= m.address);
-        sizes.iter().map(around).find(untouched).expect("its page is free")
+        self.regions().iter().map(around).find(untouched).expect("its page is free")
     }
 
     /// The number of tables below the root that mappings need: one for each region larger than a mapping that holds it.
     fn needed(&self, mappings: &[Mapping]) -> u64 {
-        let sizes: &[u64] = if self.levels == 3 { &[1 << 30, 1 << 21] } else { &[1 << 39, 1 << 30, 1 << 21] };
         let mut regions = Vec::new();
         for mapping in mappings {
-            for &size in sizes {
+            for &size in self.regions() {
                 if size > mapping.size {
                     regions.push((size, mapping.address / size));
                 }

@@ -3,11 +3,13 @@
 //! The proved library is compared with it call by call: every answer, every word, every place of the free list. It is written
 //! from the same document and from nothing else, so that a wrong reading in one shows as a difference from the other.
 //!
-//! The tables of a pool stand in one region or in two. Its memory is lent as three slices: `words`, 512 for each table of the first
-//! region, `second`, 512 for each of the second, and `list`, one place for each table of both. With `n` tables in the first region,
-//! table `t` below `n` starts at word 512 t of the first run and stands at base + 4096 t; the others start at word 512 (t - n) of the
-//! second run and stand at second_base + 4096 (t - n). Table 0 is the root. The first `free` places of the list are the free tables.
-//! The setup numbers go in by value and come back by value.
+//! The tables of a pool stand in one region or in two. A table has as many bytes as the granule, 4096 or 16384, and so 512 or 2048 words: as
+//! many as `e` below. The memory is lent as three slices: `words`, `e` for each table of the first region, `second`, `e` for each of the
+//! second, and `list`, one place for each table of both. With `n` tables in the first region, table `t` below `n` starts at word e t of the
+//! first run and stands at base + granule t; the others start at word e (t - n) of the second run and stand at second_base + granule (t - n).
+//! Table 0 is the root. The first `free` places of the list are the free tables. The setup numbers go in by value and come back by value.
+//!
+//! Each call is written once over the granule, and compiled for both.
 //!
 //! No call panics, whatever the numbers and the memory are, and a refusal leaves all lent memory as it was.
 
@@ -17,13 +19,13 @@ pub mod ledger;
 
 pub use entry::{frame_word, word_meaning, Frame};
 use entry::{read_frame, write_frame};
-use geometry::{is_multiple, level_of, place_of, region, space, ENTRIES, MAX_LEVELS, MIN_LEVELS, PAGE};
-pub use geometry::{LIMIT, MAX_TABLES, SIZES};
+use geometry::{entries, is_multiple, level_of, max_levels, page, place_of, region, sizes, space, MAX_LEVELS, MIN_LEVELS};
+pub use geometry::{sizes_of, GRANULES, LIMIT, MAX_TABLES, SIZES, SIZES_16};
 
 /// The setup numbers of a pool.
 #[derive(Clone, Copy, Debug, Default, PartialEq, Eq)]
 pub struct Setup {
-    /// 3 or 4.
+    /// 3 or 4; with the 16 KiB granule 3.
     pub levels: u64,
     /// The address of table 0.
     pub base: u64,
@@ -35,6 +37,8 @@ pub struct Setup {
     pub second_base: u64,
     /// How many tables the second region has; 0 where there is none.
     pub second_tables: u64,
+    /// The bytes of a page and of a table: 4096 or 16384.
+    pub granule: u64,
 }
 
 impl Setup {
@@ -46,14 +50,24 @@ impl Setup {
 
     /// Where a table stands.
     #[inline]
-    fn address_of(&self, table: usize) -> u64 {
+    fn address_of<const BITS: u64>(&self, table: usize) -> u64 {
         let table = table as u64;
         if table < self.tables {
-            self.base + PAGE * table
+            self.base + page::<BITS>() * table
         } else {
-            self.second_base + PAGE * (table - self.tables)
+            self.second_base + page::<BITS>() * (table - self.tables)
         }
     }
+}
+
+/// A function for the granule of a number. A number that names none is refused by either.
+macro_rules! of_granule {
+    ($number:expr, $function:ident($($argument:expr),*)) => {
+        match $number {
+            0x4000 => $function::<14>($($argument),*),
+            _ => $function::<12>($($argument),*),
+        }
+    };
 }
 
 /// The largest empty region around an address: that of the empty entry where a walk ended.
@@ -174,8 +188,8 @@ impl Walk {
 
     /// The place of the entry for an address in the table so many above the last.
     #[inline]
-    fn place_above(&self, tables: usize, address: u64) -> usize {
-        place_of(self.table_above(tables), address, self.left + tables as u64)
+    fn place_above<const BITS: u64>(&self, tables: usize, address: u64) -> usize {
+        place_of::<BITS>(self.table_above(tables), address, self.left + tables as u64)
     }
 
     #[inline]
@@ -188,10 +202,11 @@ impl Walk {
 /// Sets up an empty pool: all words zero, and every table but the root free.
 #[inline]
 pub fn format(
-    levels: u64, base: u64, tables: u64, second_base: u64, second_tables: u64, words: &mut [u64], second: &mut [u64], list: &mut [u32],
+    levels: u64, base: u64, tables: u64, second_base: u64, second_tables: u64, granule: u64, words: &mut [u64],
+    second: &mut [u64], list: &mut [u32],
 ) -> (Setup, Result<(), Refusal>) {
-    let setup = Setup { levels, base, tables, free: 0, second_base, second_tables };
-    if !is_good(&setup, words, second, list) {
+    let setup = Setup { levels, base, tables, free: 0, second_base, second_tables, granule };
+    if !of_granule!(granule, is_good(&setup, words, second, list)) {
         return (Setup::default(), Err(Refusal::Setup));
     }
     words.fill(0);
@@ -208,23 +223,24 @@ pub fn format(
 pub fn add(
     setup: Setup, words: &[u64], second: &mut [u64], list: &mut [u32], second_base: u64, second_tables: u64,
 ) -> (Setup, Result<(), Refusal>) {
-    match add_or_refuse(&setup, words, second, list, second_base, second_tables) {
+    match of_granule!(setup.granule, add_or_refuse(&setup, words, second, list, second_base, second_tables)) {
         Ok(grown) => (grown, Ok(())),
         Err(refusal) => (setup, Err(refusal)),
     }
 }
 
-fn add_or_refuse(
+fn add_or_refuse<const BITS: u64>(
     setup: &Setup, words: &[u64], second: &mut [u64], list: &mut [u32], second_base: u64, second_tables: u64,
 ) -> Result<Setup, Refusal> {
     let grown = Setup { second_base, second_tables, ..*setup };
     let one_region = setup.second_base == 0 && setup.second_tables == 0;
-    let good = one_region && second_tables > 0 && setup.free < setup.tables && is_good(&grown, words, second, list);
+    let good = one_region && second_tables > 0 && setup.free < setup.tables && is_good::<BITS>(&grown, words, second, list);
     refuse_if(!good, Refusal::Setup)?;
 
     // the words are read under the old setup, under which no word names a new table
     let mut seen = [false; MAX_TABLES as usize];
-    let inside = meets_region(setup, words, 0, setup.levels, &mut seen, second_base, PAGE * second_tables)?;
+    let bytes = page::<BITS>() * second_tables;
+    let inside = meets_region::<BITS>(setup, words, 0, setup.levels, &mut seen, second_base, bytes)?;
     refuse_if(inside, Refusal::InPool)?;
 
     // nothing was written so far, and nothing is refused from here
@@ -238,17 +254,17 @@ fn add_or_refuse(
 
 /// Whether a frame in a table or below it shares a byte with so many bytes from an address on. A damaged word or a table that was seen
 /// is refused, wherever it is found; an empty table is not, nor a frame in the pool.
-fn meets_region(
+fn meets_region<const BITS: u64>(
     setup: &Setup, words: &[u64], table: usize, left: u64, seen: &mut [bool], base: u64, bytes: u64,
 ) -> Result<bool, Refusal> {
     refuse_if(seen[table], Refusal::Damaged)?;
     seen[table] = true;
     let mut inside = false;
-    for &word in table_of(words, &[], table) {
-        inside |= match read_entry(setup, word, left) {
+    for &word in table_of::<BITS>(words, &[], table) {
+        inside |= match read_entry::<BITS>(setup, word, left) {
             Entry::Empty => false,
-            Entry::Frame(frame) => share(frame.base, region(left), base, bytes),
-            Entry::Table(child) => meets_region(setup, words, child, left - 1, seen, base, bytes)?,
+            Entry::Frame(frame) => share(frame.base, region::<BITS>(left), base, bytes),
+            Entry::Table(child) => meets_region::<BITS>(setup, words, child, left - 1, seen, base, bytes)?,
             Entry::Damaged => return Err(Refusal::Damaged),
         };
     }
@@ -260,26 +276,25 @@ fn meets_region(
 pub fn map(
     setup: Setup, words: &mut [u64], second: &mut [u64], list: &[u32], address: u64, frame: u64, size: u64, attributes: u64,
 ) -> (Setup, Result<u64, Refusal>) {
-    match map_or_refuse(&setup, words, second, list, address, frame, size, attributes) {
+    match of_granule!(setup.granule, map_or_refuse(&setup, words, second, list, address, frame, size, attributes)) {
         Ok(taken) => (Setup { free: setup.free - taken, ..setup }, Ok(taken)),
         Err(refusal) => (setup, Err(refusal)),
     }
 }
 
 #[inline(always)]
-fn map_or_refuse(
+fn map_or_refuse<const BITS: u64>(
     setup: &Setup, words: &mut [u64], second: &mut [u64], list: &[u32], address: u64, frame: u64, size: u64, attributes: u64,
 ) -> Result<u64, Refusal> {
-    refuse_if(!is_good(setup, words, second, list), Refusal::Setup)?;
-    refuse_if(!SIZES.contains(&size), Refusal::Size)?;
+    refuse_if(!is_good::<BITS>(setup, words, second, list), Refusal::Setup)?;
+    let target = level_of::<BITS>(size).ok_or(Refusal::Size)?;
     refuse_if(attributes > 15, Refusal::Attributes)?;
-    let space = space(setup.levels);
+    let space = space::<BITS>(setup.levels);
     refuse_if(address >= space || size > space - address || frame > LIMIT - size, Refusal::Range)?;
     refuse_if(!is_multiple(address, size) || !is_multiple(frame, size), Refusal::Alignment)?;
-    refuse_if(is_in_pool(setup, frame, size), Refusal::InPool)?;
+    refuse_if(is_in_pool::<BITS>(setup, frame, size), Refusal::InPool)?;
 
-    let target = level_of(size);
-    let walk = descend(setup, words, second, address, target);
+    let walk = descend::<BITS>(setup, words, second, address, target);
     match walk.end {
         End::Empty => {}
         End::Frame(_) | End::Table => return Err(Refusal::InUse),
@@ -289,14 +304,14 @@ fn map_or_refuse(
     refuse_if(needed > setup.free, Refusal::NoTables)?;
     let place = match needed {
         0 => walk.place,
-        _ => take_tables(setup, words, second, list, address, walk, target)?,
+        _ => take_tables::<BITS>(setup, words, second, list, address, walk, target)?,
     };
     *place_in(words, second, place) = write_frame(frame, size, attributes);
     Ok(needed)
 }
 
 /// Takes the tables that are missing between the end of a walk and the target, and links them. Answers the target's place.
-fn take_tables(
+fn take_tables<const BITS: u64>(
     setup: &Setup, words: &mut [u64], second: &mut [u64], list: &[u32], address: u64, walk: Walk, target: u64,
 ) -> Result<usize, Refusal> {
     // the whole path that the mapping will have: the tables come to, then the tables to be taken
@@ -311,9 +326,9 @@ fn take_tables(
     // nothing was written so far, and nothing is refused from here
     let mut place = walk.place;
     for (&table, left) in full.tables()[walk.depth..].iter().zip((target..walk.left).rev()) {
-        table_in(words, second, table).fill(0);
-        *place_in(words, second, place) = setup.address_of(table) + 3;
-        place = place_of(table, address, left);
+        table_in::<BITS>(words, second, table).fill(0);
+        *place_in(words, second, place) = setup.address_of::<BITS>(table) + 3;
+        place = place_of::<BITS>(table, address, left);
     }
     Ok(place)
 }
@@ -323,38 +338,38 @@ fn take_tables(
 pub fn unmap(
     setup: Setup, words: &mut [u64], second: &mut [u64], list: &mut [u32], address: u64,
 ) -> (Setup, Result<Removed, Refusal>) {
-    match unmap_or_refuse(&setup, words, second, list, address) {
+    match of_granule!(setup.granule, unmap_or_refuse(&setup, words, second, list, address)) {
         Ok(removed) => (Setup { free: setup.free + removed.given, ..setup }, Ok(removed)),
         Err(refusal) => (setup, Err(refusal)),
     }
 }
 
 #[inline(always)]
-fn unmap_or_refuse(
+fn unmap_or_refuse<const BITS: u64>(
     setup: &Setup, words: &mut [u64], second: &mut [u64], list: &mut [u32], address: u64,
 ) -> Result<Removed, Refusal> {
-    refuse_if(!is_good(setup, words, second, list), Refusal::Setup)?;
-    refuse_if(address >= space(setup.levels), Refusal::Range)?;
-    refuse_if(!is_multiple(address, PAGE), Refusal::Alignment)?;
+    refuse_if(!is_good::<BITS>(setup, words, second, list), Refusal::Setup)?;
+    refuse_if(address >= space::<BITS>(setup.levels), Refusal::Range)?;
+    refuse_if(!is_multiple(address, page::<BITS>()), Refusal::Alignment)?;
 
-    let walk = descend(setup, words, second, address, 1);
-    let Frame { base: frame, attributes } = frame_at(&walk, address)?;
-    let size = region(walk.left);
+    let walk = descend::<BITS>(setup, words, second, address, 1);
+    let Frame { base: frame, attributes } = frame_at::<BITS>(&walk, address)?;
+    let size = region::<BITS>(walk.left);
     refuse_if(!is_multiple(address, size), Refusal::NotTheStart)?;
 
     // from the deepest table of the path upward: those that hold nothing but their entry of the path
     let mut given = 0;
     let mut place = walk.place;
-    while given + 1 < walk.depth && is_alone(words, second, place) {
+    while given + 1 < walk.depth && is_alone::<BITS>(words, second, place) {
         given += 1;
-        place = walk.place_above(given, address);
+        place = walk.place_above::<BITS>(given, address);
     }
     refuse_if(setup.free + given as u64 > setup.total() - 1, Refusal::Damaged)?;
 
     // nothing was written so far, and nothing is refused from here
     *place_in(words, second, walk.place) = 0;
     for i in 0..given {
-        *place_in(words, second, walk.place_above(i + 1, address)) = 0;
+        *place_in(words, second, walk.place_above::<BITS>(i + 1, address)) = 0;
         list[setup.free as usize + i] = walk.table_above(i) as u32;
     }
     Ok(Removed { frame, size, attributes, given: given as u64 })
@@ -363,23 +378,32 @@ fn unmap_or_refuse(
 /// Finds the mapping that holds an address.
 #[inline]
 pub fn query(setup: Setup, words: &[u64], second: &[u64], list: &[u32], address: u64) -> Result<Found, Refusal> {
-    refuse_if(!is_good(&setup, words, second, list), Refusal::Setup)?;
-    refuse_if(address >= space(setup.levels), Refusal::Range)?;
-    let walk = descend(&setup, words, second, address, 1);
-    let Frame { base: frame, attributes } = frame_at(&walk, address)?;
-    let size = region(walk.left);
+    of_granule!(setup.granule, query_in(&setup, words, second, list, address))
+}
+
+#[inline(always)]
+fn query_in<const BITS: u64>(setup: &Setup, words: &[u64], second: &[u64], list: &[u32], address: u64) -> Result<Found, Refusal> {
+    refuse_if(!is_good::<BITS>(setup, words, second, list), Refusal::Setup)?;
+    refuse_if(address >= space::<BITS>(setup.levels), Refusal::Range)?;
+    let walk = descend::<BITS>(setup, words, second, address, 1);
+    let Frame { base: frame, attributes } = frame_at::<BITS>(&walk, address)?;
+    let size = region::<BITS>(walk.left);
     Ok(Found { base: address & !(size - 1), frame, size, attributes })
 }
 
 /// Tests the whole pool. Each table is visited at most once, so this ends on any words.
 pub fn audit(setup: Setup, words: &[u64], second: &[u64], list: &[u32]) -> Result<Counts, Refusal> {
-    refuse_if(!is_good(&setup, words, second, list), Refusal::Setup)?;
+    of_granule!(setup.granule, audit_in(&setup, words, second, list))
+}
+
+fn audit_in<const BITS: u64>(setup: &Setup, words: &[u64], second: &[u64], list: &[u32]) -> Result<Counts, Refusal> {
+    refuse_if(!is_good::<BITS>(setup, words, second, list), Refusal::Setup)?;
     let mut seen = [false; MAX_TABLES as usize];
-    let mappings = audit_table(&setup, words, second, 0, setup.levels, &mut seen)?;
+    let mappings = audit_table::<BITS>(setup, words, second, 0, setup.levels, &mut seen)?;
     let tables = seen.iter().filter(|&&reached| reached).count() as u64;
     for &number in &list[..setup.free as usize] {
         let table = number as usize;
-        let good = is_child(&setup, number.into()) && !seen[table] && are_zero(table_of(words, second, table));
+        let good = is_child(setup, number.into()) && !seen[table] && are_zero(table_of::<BITS>(words, second, table));
         refuse_if(!good, Refusal::Damaged)?;
         seen[table] = true;
     }
@@ -388,23 +412,23 @@ pub fn audit(setup: Setup, words: &[u64], second: &[u64], list: &[u32]) -> Resul
 }
 
 /// Audits a table and all below it, marks them as seen and counts their mappings.
-fn audit_table(
+fn audit_table<const BITS: u64>(
     setup: &Setup, words: &[u64], second: &[u64], table: usize, left: u64, seen: &mut [bool],
 ) -> Result<u64, Refusal> {
     refuse_if(seen[table], Refusal::Damaged)?;
     seen[table] = true;
-    let entries = table_of(words, second, table);
+    let entries = table_of::<BITS>(words, second, table);
     if left == 1 {
-        return audit_pages(setup, entries);
+        return audit_pages::<BITS>(setup, entries);
     }
     refuse_if(table != 0 && are_zero(entries), Refusal::Damaged)?;
     let mut mappings = 0;
     for &word in entries {
-        mappings += match read_entry(setup, word, left) {
+        mappings += match read_entry::<BITS>(setup, word, left) {
             Entry::Empty => 0,
-            Entry::Frame(frame) if is_in_pool(setup, frame.base, region(left)) => return Err(Refusal::Damaged),
+            Entry::Frame(frame) if is_in_pool::<BITS>(setup, frame.base, region::<BITS>(left)) => return Err(Refusal::Damaged),
             Entry::Frame(_) => 1,
-            Entry::Table(child) => audit_table(setup, words, second, child, left - 1, seen)?,
+            Entry::Table(child) => audit_table::<BITS>(setup, words, second, child, left - 1, seen)?,
             Entry::Damaged => return Err(Refusal::Damaged),
         };
     }
@@ -413,12 +437,12 @@ fn audit_table(
 
 /// Audits a table of pages. A page and the tables stand at multiples of one size: one difference for each region, which wraps for a
 /// page below it, tells whether it is one of them.
-fn audit_pages(setup: &Setup, entries: &[u64]) -> Result<u64, Refusal> {
+fn audit_pages<const BITS: u64>(setup: &Setup, entries: &[u64]) -> Result<u64, Refusal> {
     let Setup { base, second_base, .. } = *setup;
-    let (first, second) = (PAGE * setup.tables, PAGE * setup.second_tables);
+    let (first, second) = (page::<BITS>() * setup.tables, page::<BITS>() * setup.second_tables);
     let (in_use, frames) = match second {
-        0 => count_pages(entries, |page| page.wrapping_sub(base) >= first),
-        _ => count_pages(entries, |page| (page.wrapping_sub(base) >= first) & (page.wrapping_sub(second_base) >= second)),
+        0 => count_pages::<BITS>(entries, |page| page.wrapping_sub(base) >= first),
+        _ => count_pages::<BITS>(entries, |page| (page.wrapping_sub(base) >= first) & (page.wrapping_sub(second_base) >= second)),
     };
     refuse_if(in_use == 0 || frames != in_use, Refusal::Damaged)?;
     Ok(frames)
@@ -427,42 +451,49 @@ fn audit_pages(setup: &Setup, entries: &[u64]) -> Result<u64, Refusal> {
 /// The entries of a table of pages that are in use, and those that are pages outside. The loop has no branch, so it is done on several
 /// words at once.
 #[inline(always)]
-fn count_pages(entries: &[u64], is_outside: impl Fn(u64) -> bool) -> (u64, u64) {
+fn count_pages<const BITS: u64>(entries: &[u64], is_outside: impl Fn(u64) -> bool) -> (u64, u64) {
     let (mut in_use, mut frames) = (0, 0);
     for &word in entries {
         in_use += u64::from(word != 0);
-        frames += u64::from(read_frame(word, PAGE).is_some_and(|page| is_outside(page.base)));
+        frames += u64::from(read_frame(word, page::<BITS>()).is_some_and(|page| is_outside(page.base)));
     }
     (in_use, frames)
 }
 
-/// The walk that a map of this size at this address makes; that of unmap and query is the one for size 4096.
+/// The walk that a map of this size at this address makes; that of unmap and query is the one for the size of a page.
 pub fn walk(setup: Setup, words: &[u64], second: &[u64], list: &[u32], address: u64, size: u64) -> Result<Walk, Refusal> {
-    refuse_if(!is_good(&setup, words, second, list), Refusal::Setup)?;
-    refuse_if(!SIZES.contains(&size), Refusal::Size)?;
-    refuse_if(address >= space(setup.levels), Refusal::Range)?;
-    Ok(descend(&setup, words, second, address, level_of(size)))
+    of_granule!(setup.granule, walk_in(&setup, words, second, list, address, size))
+}
+
+fn walk_in<const BITS: u64>(
+    setup: &Setup, words: &[u64], second: &[u64], list: &[u32], address: u64, size: u64,
+) -> Result<Walk, Refusal> {
+    refuse_if(!is_good::<BITS>(setup, words, second, list), Refusal::Setup)?;
+    let target = level_of::<BITS>(size).ok_or(Refusal::Size)?;
+    refuse_if(address >= space::<BITS>(setup.levels), Refusal::Range)?;
+    Ok(descend::<BITS>(setup, words, second, address, target))
 }
 
 /// Descends from the root until an entry is not a table or the target level is reached.
 #[inline(always)]
-fn descend(setup: &Setup, words: &[u64], second: &[u64], address: u64, target: u64) -> Walk {
+fn descend<const BITS: u64>(setup: &Setup, words: &[u64], second: &[u64], address: u64, target: u64) -> Walk {
     // the loop is unrolled where the levels are a constant
-    match setup.levels {
-        MIN_LEVELS => descend_from(MIN_LEVELS as usize, setup, words, second, address, target),
-        _ => descend_from(MAX_LEVELS as usize, setup, words, second, address, target),
+    if setup.levels == MIN_LEVELS || max_levels::<BITS>() == MIN_LEVELS {
+        descend_from::<BITS>(MIN_LEVELS as usize, setup, words, second, address, target)
+    } else {
+        descend_from::<BITS>(MAX_LEVELS as usize, setup, words, second, address, target)
     }
 }
 
 #[inline(always)]
-fn descend_from(levels: usize, setup: &Setup, words: &[u64], second: &[u64], address: u64, target: u64) -> Walk {
+fn descend_from<const BITS: u64>(levels: usize, setup: &Setup, words: &[u64], second: &[u64], address: u64, target: u64) -> Walk {
     let mut path = [0; MAX_LEVELS as usize];
     let mut table = 0;
     for depth in 1..=levels {
         let left = (levels - depth + 1) as u64;
-        let place = place_of(table, address, left);
+        let place = place_of::<BITS>(table, address, left);
         path[depth - 1] = table;
-        let end = match read_entry(setup, word_at(words, second, place), left) {
+        let end = match read_entry::<BITS>(setup, word_at(words, second, place), left) {
             Entry::Table(child) if left > target => {
                 if (1..depth).any(|above| path[above] == child) {
                     return Walk { path, depth, left: left - 1, place, end: End::Again };
@@ -482,11 +513,11 @@ fn descend_from(levels: usize, setup: &Setup, words: &[u64], second: &[u64], add
 
 /// The frame at which a walk to the last level ended for an address.
 #[inline]
-fn frame_at(walk: &Walk, address: u64) -> Result<Frame, Refusal> {
+fn frame_at<const BITS: u64>(walk: &Walk, address: u64) -> Result<Frame, Refusal> {
     match walk.end {
         End::Frame(frame) => Ok(frame),
         End::Empty => {
-            let size = region(walk.left);
+            let size = region::<BITS>(walk.left);
             Err(Refusal::Empty(Hole { base: address & !(size - 1), size }))
         }
         End::Damaged | End::Again | End::Table => Err(Refusal::Damaged),
@@ -502,13 +533,13 @@ enum Entry {
 }
 
 #[inline(always)]
-fn read_entry(setup: &Setup, word: u64, left: u64) -> Entry {
+fn read_entry<const BITS: u64>(setup: &Setup, word: u64, left: u64) -> Entry {
     if word == 0 {
         return Entry::Empty;
     }
     // The word of a table is its address + 3. What is no multiple of a page gives no number of a table, as the low bits come high.
     if left > 1 {
-        let number = |base: u64| word.wrapping_sub(base + 3).rotate_right(PAGE.trailing_zeros());
+        let number = |base: u64| word.wrapping_sub(base + 3).rotate_right(BITS as u32);
         // the root's wraps and is too large
         let first = number(setup.base);
         if first.wrapping_sub(1) < setup.tables - 1 {
@@ -519,8 +550,8 @@ fn read_entry(setup: &Setup, word: u64, left: u64) -> Entry {
             return Entry::Table((setup.tables + second) as usize);
         }
     }
-    match read_frame(word, region(left)) {
-        Some(frame) if left <= SIZES.len() as u64 => Entry::Frame(frame),
+    match read_frame(word, region::<BITS>(left)) {
+        Some(frame) if left <= sizes::<BITS>().len() as u64 => Entry::Frame(frame),
         _ => Entry::Damaged,
     }
 }
@@ -533,8 +564,9 @@ fn is_child(setup: &Setup, number: u64) -> bool {
 
 /// Whether a frame that ends at 2^48 or below shares a byte with the tables of a pool whose numbers are good; then refusal 11.
 #[inline(always)]
-fn is_in_pool(setup: &Setup, frame: u64, size: u64) -> bool {
-    share(frame, size, setup.base, PAGE * setup.tables) || share(frame, size, setup.second_base, PAGE * setup.second_tables)
+fn is_in_pool<const BITS: u64>(setup: &Setup, frame: u64, size: u64) -> bool {
+    let bytes = |tables: u64| page::<BITS>() * tables;
+    share(frame, size, setup.base, bytes(setup.tables)) || share(frame, size, setup.second_base, bytes(setup.second_tables))
 }
 
 /// Whether so many bytes from an address on, of which there is one, share a byte with those of a region, which may have none. Both end
@@ -546,33 +578,35 @@ fn share(frame: u64, size: u64, base: u64, bytes: u64) -> bool {
 
 /// Whether the setup numbers and the lengths keep the rules; else refusal 1.
 #[inline(always)]
-fn is_good(setup: &Setup, words: &[u64], second: &[u64], list: &[u32]) -> bool {
-    (MIN_LEVELS..=MAX_LEVELS).contains(&setup.levels)
+fn is_good<const BITS: u64>(setup: &Setup, words: &[u64], second: &[u64], list: &[u32]) -> bool {
+    setup.granule == page::<BITS>()
+        && (MIN_LEVELS..=max_levels::<BITS>()).contains(&setup.levels)
         && (1..=MAX_TABLES).contains(&setup.tables)
-        && is_region(setup.base, setup.tables)
-        && words.len() as u64 == ENTRIES as u64 * setup.tables
+        && is_region::<BITS>(setup.base, setup.tables)
+        && words.len() as u64 == entries::<BITS>() as u64 * setup.tables
         && if setup.second_tables == 0 {
             setup.second_base == 0 && second.is_empty()
         } else {
-            is_good_second(setup, second)
+            is_good_second::<BITS>(setup, second)
         }
         && setup.free < setup.total()
         && list.len() as u64 == setup.total()
 }
 
 /// Whether a second region that has a table keeps the rules, beside a good first one.
-fn is_good_second(setup: &Setup, second: &[u64]) -> bool {
+#[inline(always)]
+fn is_good_second<const BITS: u64>(setup: &Setup, second: &[u64]) -> bool {
     setup.second_tables <= MAX_TABLES - setup.tables
-        && is_region(setup.second_base, setup.second_tables)
-        && (setup.base + PAGE * setup.tables <= setup.second_base
-            || setup.second_base + PAGE * setup.second_tables <= setup.base)
-        && second.len() as u64 == ENTRIES as u64 * setup.second_tables
+        && is_region::<BITS>(setup.second_base, setup.second_tables)
+        && (setup.base + page::<BITS>() * setup.tables <= setup.second_base
+            || setup.second_base + page::<BITS>() * setup.second_tables <= setup.base)
+        && second.len() as u64 == entries::<BITS>() as u64 * setup.second_tables
 }
 
 /// Whether so many tables, at most 512, may stand from an address on.
 #[inline(always)]
-fn is_region(base: u64, tables: u64) -> bool {
-    is_multiple(base, PAGE) && base <= LIMIT - PAGE * tables
+fn is_region<const BITS: u64>(base: u64, tables: u64) -> bool {
+    is_multiple(base, page::<BITS>()) && base <= LIMIT - page::<BITS>() * tables
 }
 
 #[inline]
@@ -586,22 +620,22 @@ fn refuse_if(refused: bool, refusal: Refusal) -> Result<(), Refusal> {
 
 /// The words of a table: a part of whichever run holds it. Tables of the second run are counted after those of the first.
 #[inline]
-fn table_of<'a>(words: &'a [u64], second: &'a [u64], table: usize) -> &'a [u64] {
-    let at = table * ENTRIES;
-    match words.get(at..at + ENTRIES) {
+fn table_of<'a, const BITS: u64>(words: &'a [u64], second: &'a [u64], table: usize) -> &'a [u64] {
+    let at = table * entries::<BITS>();
+    match words.get(at..at + entries::<BITS>()) {
         Some(part) => part,
-        None => &second[at - words.len()..][..ENTRIES],
+        None => &second[at - words.len()..][..entries::<BITS>()],
     }
 }
 
 /// The same, to be written.
 #[inline]
-fn table_in<'a>(words: &'a mut [u64], second: &'a mut [u64], table: usize) -> &'a mut [u64] {
-    let at = table * ENTRIES;
+fn table_in<'a, const BITS: u64>(words: &'a mut [u64], second: &'a mut [u64], table: usize) -> &'a mut [u64] {
+    let at = table * entries::<BITS>();
     if at < words.len() {
-        &mut words[at..][..ENTRIES]
+        &mut words[at..][..entries::<BITS>()]
     } else {
-        &mut second[at - words.len()..][..ENTRIES]
+        &mut second[at - words.len()..][..entries::<BITS>()]
     }
 }
 
@@ -626,8 +660,8 @@ fn place_in<'a>(words: &'a mut [u64], second: &'a mut [u64], place: usize) -> &'
 
 /// Whether all words of a table are zero but for the one at a place.
 #[inline]
-fn is_alone(words: &[u64], second: &[u64], place: usize) -> bool {
-    let (table, entry) = (table_of(words, second, place / ENTRIES), place % ENTRIES);
+fn is_alone<const BITS: u64>(words: &[u64], second: &[u64], place: usize) -> bool {
+    let (table, entry) = (table_of::<BITS>(words, second, place / entries::<BITS>()), place % entries::<BITS>());
     are_zero(&table[..entry]) && are_zero(&table[entry + 1..])
 }
 

@@ -16,7 +16,7 @@ struct Pool {
 impl Pool {
     fn new(levels: u64, tables: usize) -> Pool {
         let (mut words, mut list) = (vec![7; 512 * tables], vec![7; tables]);
-        let (setup, answer) = format(levels, P, tables as u64, 0, 0, &mut words, &mut [], &mut list);
+        let (setup, answer) = format(levels, P, tables as u64, 0, 0, 4096, &mut words, &mut [], &mut list);
         assert_eq!(answer, Ok(()));
         Pool { setup, words, list }
     }
@@ -61,7 +61,7 @@ fn the_eleven_cases() {
     // 1
     let mut pool = Pool::new(3, 4);
     assert_eq!(pool.list, [3, 2, 1, 0]);
-    assert_eq!(pool.setup, Setup { levels: 3, base: P, tables: 4, free: 3, ..Setup::default() });
+    assert_eq!(pool.setup, Setup { levels: 3, base: P, tables: 4, free: 3, granule: 4096, ..Setup::default() });
     assert_eq!(pool.used(), []);
     // 2
     assert_eq!(pool.map(0, F, 4096, 3), Ok(2));
@@ -165,12 +165,15 @@ fn the_hosts_two_calls() {
     assert_eq!(frame_word(0x8020_0000, MIB2, 3), 0x0040_0000_8020_07FD);
     assert_eq!(frame_word(LIMIT - GIB, GIB, 4), LIMIT - GIB + 0x73D);
     // one fault each, and each fault beside all later ones
-    assert_eq!([frame_word(F, 0, 3), frame_word(F, 8192, 3), frame_word(MAX, 1 << 39, 16)], [2, 2, 2]);
+    assert_eq!(
+        [frame_word(F, 0, 3), frame_word(F, 8192, 3), frame_word(MAX, 1 << 39, 16), frame_word(F, 1 << 36, 3)],
+        [2, 2, 2, 2]
+    );
     assert_eq!([frame_word(F, 4096, 16), frame_word(MAX, 4096, 16), frame_word(F, GIB, MAX)], [3, 3, 3]);
     assert_eq!([frame_word(LIMIT, 4096, 15), frame_word(MAX, GIB, 0), frame_word(LIMIT - 1, 4096, 0)], [4, 4, 4]);
     assert_eq!([frame_word(1, 4096, 15), frame_word(0x1000, MIB2, 0), frame_word(MIB2, GIB, 0)], [5, 5, 5]);
 
-    for size in SIZES {
+    for size in [&SIZES[..], &SIZES_16].concat() {
         for attributes in 0..16 {
             for base in [0, size, LIMIT - size] {
                 let word = frame_word(base, size, attributes);
@@ -181,7 +184,7 @@ fn the_hosts_two_calls() {
                     let named = [6, 7, 54].contains(&bit);
                     assert_eq!(meaning == 8, !named, "bit {bit} of {word:x}");
                 }
-                for other in [0, 1, 1 << 39, MAX] {
+                for other in [0, 1, 1 << 36, 1 << 39, MAX] {
                     assert_eq!(word_meaning(word, other), 2);
                 }
             }
@@ -204,14 +207,14 @@ fn setup_numbers_and_lengths() {
         let all = answers.iter().all(|&answer| answer == Some(Refusal::Setup));
         assert_eq!(all, answers.contains(&Some(Refusal::Setup)));
         // format does not look at the free count
-        let (zeros, answer) = format(setup.levels, setup.base, setup.tables, 0, 0, &mut words, &mut [], &mut list);
+        let (zeros, answer) = format(setup.levels, setup.base, setup.tables, 0, 0, setup.granule, &mut words, &mut [], &mut list);
         if answer.is_err() {
             assert_eq!(zeros, Setup::default());
             assert!(words.iter().all(|&word| word == 7) && list.iter().all(|&number| number == 7));
         }
         (all, answer.is_err())
     };
-    let good = Setup { levels: 3, base: P, tables: 4, free: 3, ..Setup::default() };
+    let good = Setup { levels: 3, base: P, tables: 4, free: 3, granule: 4096, ..Setup::default() };
     let (both, fine) = ((true, true), (false, false));
     assert_eq!(refused(good, 2048, 4), fine);
     for levels in [0, 1, 2, 5, 1 << 32, u64::MAX] {

@@ -17,7 +17,7 @@ struct Pool {
 impl Pool {
     fn new() -> Pool {
         let (mut words, mut list) = (vec![0; 512 * 8], vec![0; 8]);
-        let (mut setup, _) = format(3, P, 8, 0, 0, &mut words, &mut [], &mut list);
+        let (mut setup, _) = format(3, P, 8, 0, 0, 4096, &mut words, &mut [], &mut list);
         for (address, size) in [(0, PAGE), (PAGE, PAGE), (MIB2, MIB2), (GIB, PAGE)] {
             let (next, answer) = map(setup, &mut words, &mut [], &list, address, 0, size, 7);
             answer.unwrap();
@@ -132,7 +132,10 @@ fn frames_in_the_pool() {
     for (pool, at, size) in
         [(page(P), 9 * PAGE, PAGE), (page(P + 7 * PAGE), 9 * PAGE, PAGE), (block(P), 9 * MIB2, MIB2), (large(P), 9 * GIB, GIB)]
     {
-        assert_eq!((pool.audit(), pool.query(at + size - 1), pool.map(at, size), pool.unmap(at)), (Err(8), Ok(at), Err(6), Ok(0)));
+        assert_eq!(
+            (pool.audit(), pool.query(at + size - 1), pool.map(at, size), pool.unmap(at)),
+            (Err(8), Ok(at), Err(6), Ok(0))
+        );
     }
     // half open
     for pool in [page(P + 8 * PAGE), page(P - PAGE), block(P - MIB2), block(P + MIB2), large(P - GIB), large(P + GIB)] {

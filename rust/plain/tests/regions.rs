@@ -27,7 +27,7 @@ impl Pool {
 
     fn format(&mut self, levels: u64, base: u64, tables: u64, second_base: u64, second_tables: u64) -> Result<(), u64> {
         let Pool { words, second, list, .. } = self;
-        let (setup, answer) = format(levels, base, tables, second_base, second_tables, words, second, list);
+        let (setup, answer) = format(levels, base, tables, second_base, second_tables, 4096, words, second, list);
         self.setup = setup;
         answer.map_err(Refusal::number)
     }
@@ -236,7 +236,7 @@ fn the_customers_story() {
     pool = pool.with_room(2);
     let before = pool.clone();
     assert_eq!(pool.add(Q, 2), Ok(()));
-    assert_eq!(pool.setup, Setup { levels: 3, base: P, tables: 4, free: 3, second_base: Q, second_tables: 2 });
+    assert_eq!(pool.setup, Setup { levels: 3, base: P, tables: 4, free: 3, second_base: Q, second_tables: 2, granule: 4096 });
     assert_eq!((&pool.list[..], &pool.words), (&[3, 5, 4, 0, 9, 9][..], &before.words));
     assert!(pool.second.iter().all(|&word| word == 0));
     assert_eq!(pool.audit(), Ok((3, 3)));

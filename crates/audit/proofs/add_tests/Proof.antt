@@ -1,6 +1,7 @@
 -- `add_tests` makes the tests of an add in their order.
 use native.Mathlib.Omega.{arith}
 use borrow.Author.Needs.{needs}
+use Rattle.path.specs.Geometry.{granuleOf}
 use Rattle.audit.proofs.Adds.{none-good, add-bad, add-rooted, new-good, new-few, add-unsound, add-inside, add-passes}
 use Rattle.audit.proofs.add_tests.Statement.{statement}
 use Rattle.audit.proofs.add_tests.Tie as tie
@@ -16,7 +17,7 @@ returns c =
 tree-check-requires : tie.Need-tree-check-requires
 tree-check-requires c κs =
     let a = c .before .before .before .before .args in
-    (add-rooted (a .s) (a .words .now) (a .second .now) (a .base2) (a .tables2) (a .places) (c .before .good-adding .ensures) (c .if1 .left), (none-good, omega arith))
+    (add-rooted (a .s) (a .words .now) (a .second .now) (a .base2) (a .tables2) (a .places) (c .before .good-adding .ensures) (c .if1 .left), (none-good (granuleOf (a .s .granule)), omega arith))
 
 returns-2 : tie.Need-returns-2
 returns-2 c =

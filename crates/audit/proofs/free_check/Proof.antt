@@ -5,18 +5,19 @@ use mathlib.Core.Path.{sym, _∙_}
 use native.Mathlib.Omega.{arith}
 use borrow.Author.Needs.{needs}
 use borrow.Author.Tests.{not-true, not-false}
+use Rattle.path.specs.Geometry.{granuleOf}
 use Rattle.audit.proofs.Frees.{Run, run-starts, run-ends, run-out, run-marked, run-full, run-more}
 use Rattle.audit.proofs.free_check.Statement.{statement}
 use Rattle.audit.proofs.free_check.Tie as tie
 
 abbrev Inv-loop : tie.InvT-loop
-Inv-loop words second marks₀ list n f i₀ marks i = Run (words ++ second) n marks₀ list f marks i
+Inv-loop granule words second marks₀ list n f i₀ marks i = Run (granuleOf granule) (words ++ second) n marks₀ list f marks i
 
 abbrev μ-loop : tie.MeasureT-loop
-μ-loop words second marks₀ list n f i₀ marks i = f - i
+μ-loop granule words second marks₀ list n f i₀ marks i = f - i
 
 loop-holds : tie.Need-loop-holds Inv-loop μ-loop
-loop-holds c = run-starts _ _ _ _ _
+loop-holds c = run-starts _ _ _ _ _ _
 
 mul-t : tie.Need-mul-t Inv-loop μ-loop
 mul-t c = search needs

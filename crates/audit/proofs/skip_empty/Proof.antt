@@ -1,6 +1,4 @@
 -- `skip_empty`: the entries passed are empty.
-use Prim.Native.Nat.{ℕ, _-_, _≤_, _<_}
-use mathlib.Core.Path.{_≡_, ap, _∙_}
 use native.Mathlib.Omega.{arith}
 use borrow.Author.Needs.{needs}
 use Rattle.audit.proofs.Tables.{Passes, passes-more}
@@ -8,10 +6,10 @@ use Rattle.audit.proofs.skip_empty.Statement.{statement}
 use Rattle.audit.proofs.skip_empty.Tie as tie
 
 abbrev Inv-loop : tie.InvT-loop
-Inv-loop part left rest₀ rest = Passes part left rest
+Inv-loop part left n rest₀ rest = Passes part left rest
 
 abbrev μ-loop : tie.MeasureT-loop
-μ-loop part left rest₀ rest = rest
+μ-loop part left n rest₀ rest = rest
 
 loop-holds : tie.Need-loop-holds Inv-loop μ-loop
 loop-holds c = (search needs, λ k a b. absurd (omega arith))

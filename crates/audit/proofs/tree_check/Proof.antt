@@ -3,6 +3,7 @@ use mathlib.Core.Path.{refl}
 use native.Mathlib.Omega.{arith}
 use mathlib.Core.List.{_++_}
 use borrow.Author.Needs.{needs}
+use Rattle.path.specs.Laws.{granule-sane}
 use Rattle.audit.proofs.Whole.{loosely, root-fit, tree-clash, tree-sound}
 use Rattle.audit.proofs.tree_check.Statement.{statement}
 use Rattle.audit.proofs.tree_check.Tie as tie
@@ -20,10 +21,10 @@ slice-aggregate-table-check : tie.Need-slice-aggregate-table-check
 slice-aggregate-table-check c = search needs
 
 sub-table-check : tie.Need-sub-table-check
-sub-table-check c = omega (arith, c .before .before .before .before .before .before .pre .0 .enough)
+sub-table-check c = omega (arith, c .before .before .before .before .before .before .pre .0 .enough, granule-sane (c .before .before .before .before .before .before .args .s .granule))
 
 table-check-requires : tie.Need-table-check-requires
-table-check-requires c κs = root-fit {look = loosely (c .before .before .before .before .before .before .args .s) (c .before .before .before .before .before .before .args .kept) (c .before .before .before .before .before .before .args .many)} (c .before .before .before .before .before .before .pre .0) refl refl (c .before .before .before .before .before .before .pre .1 .0)
+table-check-requires c κs = root-fit {look = loosely (c .before .before .before .before .before .before .args .s) (c .before .before .before .before .before .before .args .kept) (c .before .before .before .before .before .before .args .many)} (c .before .before .before .before .before .before .pre .0) refl refl refl (c .before .before .before .before .before .before .pre .1 .0)
 
 enum-told : tie.Need-enum-told
 enum-told c = search needs

@@ -4,7 +4,7 @@ use mathlib.Core.Path.{sym, ap, _∙_}
 use mathlib.Core.Logic.{⊎-elim}
 use native.Mathlib.Omega.{arith}
 use borrow.Author.Needs.{needs}
-use Rattle.path.specs.Geometry.{four}
+use Rattle.path.specs.Geometry.{granuleOf}
 use Rattle.path.specs.Areas.{areaAt}
 use Rattle.entry.specs.Laws.{child-first, child-second, child-neither}
 use Rattle.entry.proofs.child_in.Statement.{statement}
@@ -17,14 +17,14 @@ returns : tie.Need-returns
 returns c =
     let a = c .before .before .before .args in
     let e = c .before .before .named-in .ensures in
-    e ∙ sym (child-first four (areaAt (a .base) (a .tables) (a .base2) (a .tables2)) (a .w) (omega arith) (omega arith))
+    e ∙ sym (child-first (granuleOf (a .granule)) (areaAt (a .base) (a .tables) (a .base2) (a .tables2)) (a .w) (omega arith) (omega arith))
 
 returns-2 : tie.Need-returns-2
 returns-2 c =
     let a = c .before .before .before .args in
     let e = c .before .before .named-in .ensures in
     sym
-    (child-neither four (areaAt (a .base) (a .tables) (a .base2) (a .tables2)) (a .w)
+    (child-neither (granuleOf (a .granule)) (areaAt (a .base) (a .tables) (a .base2) (a .tables2)) (a .w)
     (⊎-elim (λ way x y. omega (arith, way .1 .left)) (λ way x y. omega (arith, way .left)) (c .before .if1 .came))
     (omega arith))
 
@@ -37,7 +37,7 @@ returns-3 c =
     let e = c .before .before .before .before .named-in .ensures in
     let d = c .before .named-in2 .ensures in
     sym
-    (child-neither four (areaAt (a .base) (a .tables) (a .base2) (a .tables2)) (a .w)
+    (child-neither (granuleOf (a .granule)) (areaAt (a .base) (a .tables) (a .base2) (a .tables2)) (a .w)
     (⊎-elim (λ way x y. omega (arith, way .1 .left)) (λ way x y. omega (arith, way .left)) (c .before .before .before .if1 .came))
     (omega arith))
 
@@ -51,7 +51,7 @@ returns-4 c =
     let d = c .before .named-in2 .ensures in
     ap (λ (x : ℕ). a .tables + x) d
     ∙ sym
-    (child-second four (areaAt (a .base) (a .tables) (a .base2) (a .tables2)) (a .w)
+    (child-second (granuleOf (a .granule)) (areaAt (a .base) (a .tables) (a .base2) (a .tables2)) (a .w)
     (⊎-elim (λ way x y. omega (arith, way .1 .left)) (λ way x y. omega (arith, way .left)) (c .before .before .before .if1 .came))
     (omega arith))
 

@@ -1,30 +1,32 @@
 -- The walk from a table down meets its contract, by the levels left, which fall at each call.
 use Prim.Native.Nat.{ℕ, _-_, _<_}
 use mathlib.Core.List.{_++_}
+use lib.ListN.{getD}
 use mathlib.Core.Path.{_≡_, sym, ap, _∙_}
 use native.Mathlib.Omega.{arith}
-use mir.Syntax.{w16}
-use borrow.Author.Needs.{needs, elem-fits}
+use borrow.Author.Needs.{needs}
 use borrow.Fn.Kinds.{In}
 use borrow.Fn.PlainCycle.{Measures, is, falls, and}
 use Rattle.path.specs.Areas.{areaAt}
-use Rattle.path.specs.Geometry.{four}
+use Rattle.path.specs.Geometry.{granuleOf}
 use Rattle.entry.specs.Words.{entryAt}
 use Rattle.entry.specs.declared.Entry.{Entry}
-use Rattle.lookup.specs.WalkLaws.{isTable, wordOf, entryOf, known-entry, walk-ends, walk-reaches, walk-again, walk-down}
+use Rattle.model.specs.Walk.{slot, atHeight}
+use Rattle.lookup.specs.WalkLaws.{isTable, entryOf, known-entry, walk-ends, walk-reaches, walk-again, walk-down}
 use Rattle.lookup.proofs.descend.Reads as descend
 use Rattle.lookup.proofs.ended.Reads as ended-reads
 use Rattle.lookup.proofs.descend.Kinds as kinds
 use Rattle.lookup.proofs.+descend.Lts-descend as lts
 use Rattle.entry.proofs.read_word.Reads as read-word-reads
 use Rattle.pool.proofs.among_four.Reads as among-four-reads
+use Rattle.pool.proofs.entry_place.Reads as entry-place-reads
 use Rattle.pool.proofs.word.Reads as word-reads
 use Rattle.lookup.proofs.+descend.{statement}
 use Rattle.lookup.proofs.+descend.Tie.{close}
 
 -- the levels left
 abbrev μ : Measures 2 kinds.ps ℕ
-μ κs a = a .1 .1 .1 .1 .1 .1 .1 .1 .0
+μ κs a = a .1 .1 .1 .1 .1 .1 .1 .1 .1 .0
 
 abbrev at : ℕ → In 2 kinds.ps
 at t = and 2 kinds.ps (is 2 kinds.ps μ t) descend.Pre
@@ -34,6 +36,8 @@ below t = and 2 kinds.ps (falls 2 kinds.ps _<_ μ t) descend.Pre
 
 abbrev claims : ℕ → lts.Claims
 claims t = (
+  entry-place-reads.Asked,
+  entry-place-reads.Learnt,
   word-reads.Asked,
   word-reads.Learnt,
   read-word-reads.Asked,
@@ -46,14 +50,17 @@ claims t = (
   descend.Post,
 )
 
--- the entry that is read
+-- the entry that is read, at a place among the words
 entry :
-    (t : ℕ) (s : lts.Start (claims t) (at t) descend.Post) {w : ℕ} {e : Entry}
-    → e ≡ entryAt four (areaAt (s .args .base) (s .args .tables) (s .args .base2) (s .args .tables2)) (s .args .height) w
-    → w ≡ wordOf four (s .args .words .now ++ s .args .second .now) (areaAt (s .args .base) (s .args .tables) (s .args .base2) (s .args .tables2)) (s .args .target) (s .args .t8) (s .args .height) (s .args .t)
-    → e ≡ entryOf four (s .args .words .now ++ s .args .second .now) (areaAt (s .args .base) (s .args .tables) (s .args .base2) (s .args .tables2)) (s .args .target) (s .args .t8) (s .args .height) (s .args .t)
-entry t s =
-    known-entry four (s .args .words .now ++ s .args .second .now) (areaAt (s .args .base) (s .args .tables) (s .args .base2) (s .args .tables2)) (s .args .target) (s .args .t8) (s .args .height) (s .args .t)
+    (t : ℕ) (s : lts.Start (claims t) (at t) descend.Post) {place w : ℕ} {e : Entry}
+    → e ≡ entryAt (granuleOf (s .args .granule)) (areaAt (s .args .base) (s .args .tables) (s .args .base2) (s .args .tables2)) (s .args .height) w
+    → w ≡ getD (s .args .words .now ++ s .args .second .now) place 0
+    → place ≡ slot (granuleOf (s .args .granule)) (s .args .t) (atHeight (s .args .t9) (s .args .height))
+    → e ≡ entryOf (granuleOf (s .args .granule)) (s .args .words .now ++ s .args .second .now) (areaAt (s .args .base) (s .args .tables) (s .args .base2) (s .args .tables2)) (s .args .target) (s .args .t9) (s .args .height) (s .args .t)
+entry t s q x p =
+    known-entry (granuleOf (s .args .granule)) (s .args .words .now ++ s .args .second .now) (areaAt (s .args .base) (s .args .tables) (s .args .base2) (s .args .tables2)) (s .args .target) (s .args .t9) (s .args .height) (s .args .t)
+    q
+    (x ∙ ap (λ (k : ℕ). getD (s .args .words .now ++ s .args .second .now) k 0) p)
 
 sub-at : (t : ℕ) → lts.Need-sub-at (claims t) (at t) descend.Post
 sub-at t c = search needs
@@ -70,14 +77,8 @@ mul-way t c = search needs
 array-write-way : (t : ℕ) → lts.Need-array-write-way (claims t) (at t) descend.Post
 array-write-way t c = search needs
 
-mul-word : (t : ℕ) → lts.Need-mul-word (claims t) (at t) descend.Post
-mul-word t c = search needs
-
-cast-word : (t : ℕ) → lts.Need-cast-word (claims t) (at t) descend.Post
-cast-word t c = search needs
-
-add-word : (t : ℕ) → lts.Need-add-word (claims t) (at t) descend.Post
-add-word t c = omega (arith, elem-fits w16 w16 (c .before .before .args .t8) _ (3 - c .before .before .args .height) (c .before .before .good .1 .1 .1 .1 .1 .1 .1 .0 .1 .1) tt)
+entry-place-requires : (t : ℕ) → lts.Need-entry-place-requires (claims t) (at t) descend.Post
+entry-place-requires t c κs = search needs
 
 word-requires : (t : ℕ) → lts.Need-word-requires (claims t) (at t) descend.Post
 word-requires t c κs = search needs
@@ -93,11 +94,11 @@ ended-requires t c κs = search needs
 
 returns : (t : ℕ) → lts.Need-returns (claims t) (at t) descend.Post
 returns t c =
-    let s = c .before .before .before .before .before .before .before .before .before in
+    let s = c .before .before .before .before .before .before .before .before .before .before in
     c .ended .ensures
-    ∙ walk-reaches four (s .args .words .now ++ s .args .second .now) (areaAt (s .args .base) (s .args .tables) (s .args .base2) (s .args .tables2)) (s .args .target) (s .args .t8)
+    ∙ walk-reaches (granuleOf (s .args .granule)) (s .args .words .now ++ s .args .second .now) (areaAt (s .args .base) (s .args .tables) (s .args .base2) (s .args .tables2)) (s .args .target) (s .args .t9)
     (s .args .height) (s .args .above) (s .args .t)
-    (sym (c .before .before .before .e .given .1) ∙ entry t s (c .before .before .before .before .before .read-word .ensures) (c .before .before .before .before .before .before .word .ensures))
+    (sym (c .before .before .before .e .given .1) ∙ entry t s (c .before .before .before .before .before .read-word .ensures) (c .before .before .before .before .before .before .word .ensures) (c .before .before .before .before .before .before .before .entry-place .ensures))
     (c .before .if1 .taken)
 
 sub-below : (t : ℕ) → lts.Need-sub-below (claims t) (at t) descend.Post
@@ -111,11 +112,11 @@ ended-requires-2 t c κs = search needs
 
 returns-2 : (t : ℕ) → lts.Need-returns-2 (claims t) (at t) descend.Post
 returns-2 t c =
-    let s = c .before .before .before .before .before .before .before .before .before .before .before in
+    let s = c .before .before .before .before .before .before .before .before .before .before .before .before in
     c .ended2 .ensures
-    ∙ walk-again four (s .args .words .now ++ s .args .second .now) (areaAt (s .args .base) (s .args .tables) (s .args .base2) (s .args .tables2)) (s .args .target) (s .args .t8)
+    ∙ walk-again (granuleOf (s .args .granule)) (s .args .words .now ++ s .args .second .now) (areaAt (s .args .base) (s .args .tables) (s .args .base2) (s .args .tables2)) (s .args .target) (s .args .t9)
     (s .args .height) (s .args .above) (s .args .t)
-    (sym (c .before .before .before .before .before .e .given .1) ∙ entry t s (c .before .before .before .before .before .before .before .read-word .ensures) (c .before .before .before .before .before .before .before .before .word .ensures))
+    (sym (c .before .before .before .before .before .e .given .1) ∙ entry t s (c .before .before .before .before .before .before .before .read-word .ensures) (c .before .before .before .before .before .before .before .before .word .ensures) (c .before .before .before .before .before .before .before .before .before .entry-place .ensures))
     (c .before .before .before .if1 .left)
     (sym (c .before .before .among-four .ensures) ∙ c .before .if2 .taken)
 
@@ -142,40 +143,40 @@ ended-requires-5 t c κs = search needs
 
 returns-3 : (t : ℕ) → lts.Need-returns-3 (claims t) (at t) descend.Post
 returns-3 t c =
-    let s = c .before .before .before .before .before .before .before .before .before .before .before in
+    let s = c .before .before .before .before .before .before .before .before .before .before .before .before in
     c .descend .ensures
-    ∙ walk-down four (s .args .words .now ++ s .args .second .now) (areaAt (s .args .base) (s .args .tables) (s .args .base2) (s .args .tables2)) (s .args .target) (s .args .t8)
+    ∙ walk-down (granuleOf (s .args .granule)) (s .args .words .now ++ s .args .second .now) (areaAt (s .args .base) (s .args .tables) (s .args .base2) (s .args .tables2)) (s .args .target) (s .args .t9)
     (s .args .height) (s .args .above) (s .args .t)
-    (sym (c .before .before .before .before .before .e .given .1) ∙ entry t s (c .before .before .before .before .before .before .before .read-word .ensures) (c .before .before .before .before .before .before .before .before .word .ensures))
+    (sym (c .before .before .before .before .before .e .given .1) ∙ entry t s (c .before .before .before .before .before .before .before .read-word .ensures) (c .before .before .before .before .before .before .before .before .word .ensures) (c .before .before .before .before .before .before .before .before .before .entry-place .ensures))
     (c .before .before .before .if1 .left)
     (sym (c .before .before .among-four .ensures) ∙ c .before .if2 .left)
 
 returns-4 : (t : ℕ) → lts.Need-returns-4 (claims t) (at t) descend.Post
 returns-4 t c =
-    let s = c .before .before .before .before .before .before .before in
+    let s = c .before .before .before .before .before .before .before .before in
     c .ended3 .ensures
-    ∙ walk-ends four (s .args .words .now ++ s .args .second .now) (areaAt (s .args .base) (s .args .tables) (s .args .base2) (s .args .tables2)) (s .args .target) (s .args .t8)
+    ∙ walk-ends (granuleOf (s .args .granule)) (s .args .words .now ++ s .args .second .now) (areaAt (s .args .base) (s .args .tables) (s .args .base2) (s .args .tables2)) (s .args .target) (s .args .t9)
     (s .args .height) (s .args .above) (s .args .t)
     (ap isTable (c .before .enum-told .given .1))
-    (entry t s (c .before .before .before .read-word .ensures) (c .before .before .before .before .word .ensures))
+    (entry t s (c .before .before .before .read-word .ensures) (c .before .before .before .before .word .ensures) (c .before .before .before .before .before .entry-place .ensures))
 
 returns-5 : (t : ℕ) → lts.Need-returns-5 (claims t) (at t) descend.Post
 returns-5 t c =
-    let s = c .before .before .before .before .before .before .before in
+    let s = c .before .before .before .before .before .before .before .before in
     c .ended4 .ensures
-    ∙ walk-ends four (s .args .words .now ++ s .args .second .now) (areaAt (s .args .base) (s .args .tables) (s .args .base2) (s .args .tables2)) (s .args .target) (s .args .t8)
+    ∙ walk-ends (granuleOf (s .args .granule)) (s .args .words .now ++ s .args .second .now) (areaAt (s .args .base) (s .args .tables) (s .args .base2) (s .args .tables2)) (s .args .target) (s .args .t9)
     (s .args .height) (s .args .above) (s .args .t)
     (ap isTable (c .before .enum-told2 .given .1))
-    (entry t s (c .before .before .before .read-word .ensures) (c .before .before .before .before .word .ensures))
+    (entry t s (c .before .before .before .read-word .ensures) (c .before .before .before .before .word .ensures) (c .before .before .before .before .before .entry-place .ensures))
 
 returns-6 : (t : ℕ) → lts.Need-returns-6 (claims t) (at t) descend.Post
 returns-6 t c =
-    let s = c .before .before .before .before .before .before .before in
+    let s = c .before .before .before .before .before .before .before .before in
     c .ended5 .ensures
-    ∙ walk-ends four (s .args .words .now ++ s .args .second .now) (areaAt (s .args .base) (s .args .tables) (s .args .base2) (s .args .tables2)) (s .args .target) (s .args .t8)
+    ∙ walk-ends (granuleOf (s .args .granule)) (s .args .words .now ++ s .args .second .now) (areaAt (s .args .base) (s .args .tables) (s .args .base2) (s .args .tables2)) (s .args .target) (s .args .t9)
     (s .args .height) (s .args .above) (s .args .t)
     (ap isTable (c .before .enum-told3 .given .1))
-    (entry t s (c .before .before .before .read-word .ensures) (c .before .before .before .before .word .ensures))
+    (entry t s (c .before .before .before .read-word .ensures) (c .before .before .before .before .word .ensures) (c .before .before .before .before .before .entry-place .ensures))
 
 pub +descend-spec : {M : Type 1} → statement M
 +descend-spec = close μ λ t. lts.spec
@@ -187,9 +188,7 @@ pub +descend-spec : {M : Type 1} → statement M
     (array-read-i t)
     (mul-way t)
     (array-write-way t)
-    (mul-word t)
-    (cast-word t)
-    (add-word t)
+    (entry-place-requires t)
     (word-requires t)
     (read-word-requires t)
     (enum-known-e t)

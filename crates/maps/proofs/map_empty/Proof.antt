@@ -4,8 +4,8 @@ use mathlib.Core.List.{_++_}
 use lib.ListN.{length}
 use native.Mathlib.Omega.{arith}
 use borrow.Author.Needs.{needs}
+use Rattle.path.specs.Geometry.{granuleOf}
 use Rattle.path.specs.Laws.{good-setup}
-use Rattle.path.specs.Geometry.{four}
 use Rattle.model.specs.Refusing.{refusing}
 use Rattle.maps.proofs.Maps.{here-short, here-unfit, here-done}
 use Rattle.maps.proofs.map_empty.Statement.{statement}
@@ -21,13 +21,13 @@ returns : tie.Need-returns
 returns c b k e =
     let a = c .before .before .before .before .before .args in
     refusing (a .words .now ++ a .second .now) (length (a .words .now)) (a .list .now) (c .map-refused .ensures)
-    ∙ here-short four (a .s) (a .words .now ++ a .second .now) (length (a .words .now)) (a .list .now) (a .address) b (a .height) k (a .left) (a .t8) (c .before .if1 .taken)
+    ∙ here-short (granuleOf (a .s .granule)) (a .s) (a .words .now ++ a .second .now) (length (a .words .now)) (a .list .now) (a .address) b (a .height) k (a .left) (a .t8) (c .before .if1 .taken)
 
 add-may-take : tie.Need-add-may-take
-add-may-take c = omega (arith, good-setup {G = four} (c .before .before .before .before .before .pre .0))
+add-may-take c = omega (arith, good-setup (c .before .before .before .before .before .pre .0))
 
 cast-may-take : tie.Need-cast-may-take
-cast-may-take c = omega (arith, good-setup {G = four} (c .before .before .before .before .before .pre .0))
+cast-may-take c = omega (arith, good-setup (c .before .before .before .before .before .pre .0))
 
 may-take-requires : tie.Need-may-take-requires
 may-take-requires c κs = search needs
@@ -39,7 +39,7 @@ returns-2 : tie.Need-returns-2
 returns-2 c b k e =
     let a = c .before .before .before .before .before .before .before .before .args in
     refusing (a .words .now ++ a .second .now) (length (a .words .now)) (a .list .now) (c .map-refused2 .ensures)
-    ∙ here-unfit four (a .s) (a .words .now ++ a .second .now) (length (a .words .now)) (a .list .now) (a .address) b (a .height) k (a .left) (a .t8) (c .before .before .before .before .if1 .left) (c .before .before .may-take .ensures) (c .before .if2 .taken)
+    ∙ here-unfit (granuleOf (a .s .granule)) (a .s) (a .words .now ++ a .second .now) (length (a .words .now)) (a .list .now) (a .address) b (a .height) k (a .left) (a .t8) (c .before .before .before .before .if1 .left) (c .before .before .may-take .ensures) (c .before .if2 .taken)
 
 path-of-requires : tie.Need-path-of-requires
 path-of-requires c κs = search needs
@@ -48,7 +48,7 @@ sub-at : tie.Need-sub-at
 sub-at c = omega arith
 
 cast-map-plan : tie.Need-cast-map-plan
-cast-map-plan c = omega (arith, good-setup {G = four} (c .before .before .before .before .before .before .before .before .before .pre .0))
+cast-map-plan c = omega (arith, good-setup (c .before .before .before .before .before .before .before .before .before .pre .0))
 
 mul-map-plan : tie.Need-mul-map-plan
 mul-map-plan c = omega arith
@@ -57,7 +57,7 @@ array-read-map-plan : tie.Need-array-read-map-plan
 array-read-map-plan c = omega arith
 
 map-plan-requires : tie.Need-map-plan-requires
-map-plan-requires c κs = omega (arith, good-setup {G = four} (c .before .before .before .before .before .before .before .before .before .pre .0))
+map-plan-requires c κs = omega (arith, good-setup (c .before .before .before .before .before .before .before .before .before .pre .0))
 
 write-words-requires : tie.Need-write-words-requires
 write-words-requires c κs = search needs
@@ -74,7 +74,7 @@ same-length-2 c = search needs
 returns-3 : tie.Need-returns-3
 returns-3 c b k e =
     let a = c .before .before .before .before .before .before .before .before .before .before .before .before .before .before .before .before .before .before .args in
-    here-done four (a .s) (a .words .now ++ a .second .now) (length (a .words .now)) (a .list .now) (a .address) b (a .height) k (a .left) (a .t8)
+    here-done (granuleOf (a .s .granule)) (a .s) (a .words .now ++ a .second .now) (length (a .words .now)) (a .list .now) (a .address) b (a .height) k (a .left) (a .t8)
     (c .before .before .before .before .before .before .before .before .before .before .before .before .before .before .if1 .left)
     (c .before .before .before .before .before .before .before .before .before .before .before .before .may-take .ensures)
     (c .before .before .before .before .before .before .before .before .before .before .before .if2 .left)
@@ -82,8 +82,8 @@ returns-3 c b k e =
     (c .before .before .before .before .before .before .before .before .before .before .path-of .ensures)
     e
     (c .before .before .before .before .before .before .before .before .map-plan .ensures _)
-    (c .before .before .before .before .before .write-words .ensures (a .s .tables) (good-setup {G = four} (c .before .before .before .before .before .before .before .before .before .before .before .before .before .before .before .before .before .before .pre .0) .numbers .cut-is))
-    (c .before .before .before .before .before .write-words .kept .0)
+    (c .before .before .before .before .before .write-words .ensures (a .s .tables) (good-setup (c .before .before .before .before .before .before .before .before .before .before .before .before .before .before .before .before .before .before .pre .0) .numbers .cut-is))
+    (c .before .before .before .before .before .write-words .kept .1 .0)
     (c .with-free .ensures)
 
 pub map-empty-spec : {M : Type 1} → statement M

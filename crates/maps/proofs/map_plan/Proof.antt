@@ -2,22 +2,22 @@
 use Prim.Native.Nat.{_-_}
 use mathlib.Core.Path.{_∙_}
 use native.Mathlib.Omega.{arith}
-use Rattle.path.specs.Geometry.{four}
+use Rattle.path.specs.Geometry.{granuleOf}
 use Rattle.path.specs.Areas.{areaAt}
 use Rattle.maps.proofs.Links.{link-word, Linking, linking-start, linking-next, linking-end}
 use Rattle.maps.proofs.map_plan.Statement.{statement}
 use Rattle.maps.proofs.map_plan.Tie as tie
 
 abbrev Inv-loop : tie.InvT-loop
-Inv-loop base tables base2 list height word table free need path plan₀ t₀ i₀ plan t i = Linking four base tables base2 path list height word table free need plan t i
+Inv-loop granule base tables base2 list height word table free need path plan₀ t₀ i₀ plan t i = Linking (granuleOf granule) base tables base2 path list height word table free need plan t i
 
 abbrev μ-loop : tie.MeasureT-loop
-μ-loop base tables base2 list height word table free need path plan₀ t₀ i₀ plan t i = need - i
+μ-loop granule base tables base2 list height word table free need path plan₀ t₀ i₀ plan t i = need - i
 
 loop-holds : tie.Need-loop-holds Inv-loop μ-loop
 loop-holds c =
     let a = c .before .args in
-    linking-start four (a .base) (a .tables) (a .base2) (a .t4) (a .list .now) (a .height) (a .word) (a .table) (a .free) (a .need)
+    linking-start (granuleOf (a .granule)) (a .base) (a .tables) (a .base2) (a .t5) (a .list .now) (a .height) (a .word) (a .table) (a .free) (a .need)
 
 sub-place : tie.Need-sub-place Inv-loop μ-loop
 sub-place c = omega arith

@@ -5,8 +5,8 @@ use mathlib.Core.List.{_++_}
 use lib.ListN.{length, length-append}
 use native.Mathlib.Omega.{arith}
 use borrow.Author.Needs.{needs}
-use Rattle.path.specs.Laws.{four-sane, good-setup}
-use Rattle.path.specs.Geometry.{four}
+use Rattle.path.specs.Geometry.{granuleOf}
+use Rattle.path.specs.Laws.{granule-sane, good-setup}
 use Rattle.model.specs.declared.Walked.{Walked}
 use Rattle.model.specs.Answers.{pool}
 use Rattle.model.specs.Refusing.{refusing}
@@ -20,12 +20,12 @@ use Rattle.maps.proofs.map_walk.Tie as tie
 -- the walk is done
 came : (c : tie.After-reach)
     → let a = c .before .before .before .before .before .before .before .args in
-    Came four (pool (a .s) (a .words .now ++ a .second .now) (length (a .words .now)) (a .list .now)) (a .height) (a .address) (c .reach .result) (c .reach .last .1 .1 .1 .1 .1 .0)
+    Came (granuleOf (a .s .granule)) (pool (a .s) (a .words .now ++ a .second .now) (length (a .words .now)) (a .list .now)) (a .height) (a .address) (c .reach .result) (c .reach .last .1 .1 .1 .1 .1 .0)
 came c =
     let a = c .before .before .before .before .before .before .before .args in
-    let g = good-setup {G = four} (c .before .before .before .before .before .before .before .pre .0) in
+    let g = good-setup (c .before .before .before .before .before .before .before .pre .0) in
     record {
-      end = c .reach .ensures .0 ∙ reach-good four (a .s) (a .words .now ++ a .second .now) (a .height) (a .address) four-sane g (omega arith) (length (a .words .now)) (a .list .now);
+      end = c .reach .ensures .0 ∙ reach-good (granuleOf (a .s .granule)) (a .s) (a .words .now ++ a .second .now) (a .height) (a .address) (granule-sane (a .s .granule)) g (c .before .before .before .before .before .before .before .pre .1) (length (a .words .now)) (a .list .now);
       place = c .reach .ensures .1;
     }
 
@@ -33,7 +33,7 @@ reach-requires : tie.Need-reach-requires
 reach-requires c κs = search needs
 
 add-if1 : tie.Need-add-if1
-add-if1 c = omega (arith, good-setup {G = four} (c .before .before .before .before .before .before .before .pre .0))
+add-if1 c = search needs
 
 map-refused-requires : tie.Need-map-refused-requires
 map-refused-requires c κs = search needs
@@ -70,15 +70,15 @@ returns-2 c b k e =
     let a = c .before .before .before .before .before .before .before .before .before .before .before .before .before .before .before .before .args in
     let C = came (c .before .before .before .before .before .before .before .before .before) in
     refusing (a .words .now ++ a .second .now) (length (a .words .now)) (a .list .now) (c .map-refused2 .ensures)
-    ∙ came-met C b k (omega (arith, length-append (a .words .now) (a .second .now), c .before .before .before .before .before .before .before .before .if1 .left)) four-sane (c .before .before .before .before .before .word .ensures) (c .before .before .before .before .if2 .taken)
+    ∙ came-met C b k (omega (arith, length-append (a .words .now) (a .second .now), c .before .before .before .before .before .before .before .before .if1 .left)) (granule-sane (a .s .granule)) (c .before .before .before .before .before .word .ensures) (c .before .before .before .before .if2 .taken)
     (c .before .met .ensures
-    ∙ ap (λ (o : Walked). metBy (o .entry)) (walk-good four (a .s) (a .words .now ++ a .second .now) (a .height) (a .address) four-sane (good-setup {G = four} (c .before .before .before .before .before .before .before .before .before .before .before .before .before .before .before .before .pre .0)) (length (a .words .now)) (a .list .now)))
+    ∙ ap (λ (o : Walked). metBy (o .entry)) (walk-good (granuleOf (a .s .granule)) (a .s) (a .words .now ++ a .second .now) (a .height) (a .address) (granule-sane (a .s .granule)) (good-setup (c .before .before .before .before .before .before .before .before .before .before .before .before .before .before .before .before .pre .0)) (length (a .words .now)) (a .list .now)))
 
 map-empty-requires : tie.Need-map-empty-requires
 map-empty-requires c κs =
     let a = c .before .before .before .before .before .before .before .before .before .before .before .before .before .before .before .args in
     let C = came (c .before .before .before .before .before .before .before .before) in
-    (c .before .before .before .before .before .before .before .before .before .before .before .before .before .before .before .pre .0, (came-above C 0 0 (omega (arith, length-append (a .words .now) (a .second .now), c .before .before .before .before .before .before .before .if1 .left)) (c .before .before .before .before .word .ensures) (omega (arith, good-setup {G = four} (c .before .before .before .before .before .before .before .before .before .before .before .before .before .before .before .pre .0))), omega arith))
+    (c .before .before .before .before .before .before .before .before .before .before .before .before .before .before .before .pre .0, (came-above C 0 0 (omega (arith, length-append (a .words .now) (a .second .now), c .before .before .before .before .before .before .before .if1 .left)) (c .before .before .before .before .word .ensures) (omega (arith, granule-sane (a .s .granule), good-setup (c .before .before .before .before .before .before .before .before .before .before .before .before .before .before .before .pre .0))), omega arith))
 
 same-length-5 : tie.Need-same-length-5
 same-length-5 c = search needs

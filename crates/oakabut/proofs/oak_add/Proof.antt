@@ -2,7 +2,7 @@
 use mathlib.Core.Path.{ap, _∙_}
 use mathlib.Core.List.{_++_}
 use lib.ListN.{length}
-use Rattle.path.specs.Geometry.{four}
+use Rattle.path.specs.Geometry.{granuleOf}
 use Rattle.path.specs.declared.Setup.{Setup}
 use Rattle.model.specs.Answers.{pool}
 use Rattle.model.specs.Adds.{addW}
@@ -30,7 +30,7 @@ same-length-2 c = search needs
 returns : tie.Need-returns
 returns c =
     let a = c .before .before .before .before .before .before .before .before .before .before .before .before .before .args in
-    let e = ap (λ (z : Setup). addW four (pool z (a .words .now ++ a .second .now) (length (a .words .now)) (a .list .now)) (a .base2) (a .tables2)) (c .before .before .before .before .before .before .before .before .before .setup-at .ensures) in
+    let e = ap (λ (z : Setup). addW (granuleOf (z .granule)) (pool z (a .words .now ++ a .second .now) (length (a .words .now)) (a .list .now)) (a .base2) (a .tables2)) (c .before .before .before .before .before .before .before .before .before .setup-at .ensures) in
     leaves setupPlaces (c .before .before .before .before .before .before .add .ensures .0 ∙ e) (c .added .ensures)
 
 pub oak-add-spec : {M : Type 1} → statement M

@@ -1,6 +1,6 @@
 -- `oakabut::oak_audit` hands on what the call of `pagetable` answers. Assumes nothing.
 use mathlib.Core.Path.{ap, _∙_}
-use Rattle.path.specs.Geometry.{four}
+use Rattle.path.specs.Geometry.{granuleOf}
 use Rattle.path.specs.declared.Setup.{Setup}
 use Rattle.model.specs.Answers.{pool}
 use Rattle.model.specs.Audit.{auditW}
@@ -23,7 +23,7 @@ audited-requires c κs = search needs
 returns : tie.Need-returns
 returns c =
     let a = c .before .before .before .before .before .before .before .args in
-    let e = ap (λ (z : Setup). auditW four (pool z (a .words .now ++ a .second .now) (length (a .words .now)) (a .list .now))) (c .before .before .before .setup-at .ensures) in
+    let e = ap (λ (z : Setup). auditW (granuleOf (z .granule)) (pool z (a .words .now ++ a .second .now) (length (a .words .now)) (a .list .now))) (c .before .before .before .setup-at .ensures) in
     hears (c .before .before .audit .ensures .0 ∙ e) (c .audited .ensures)
 
 pub oak-audit-spec : {M : Type 1} → statement M

@@ -1,6 +1,6 @@
 -- `oakabut::oak_map` hands on what the call of `pagetable` answers. Assumes nothing.
 use mathlib.Core.Path.{ap, _∙_}
-use Rattle.path.specs.Geometry.{four}
+use Rattle.path.specs.Geometry.{granuleOf}
 use Rattle.path.specs.declared.Setup.{Setup}
 use Rattle.model.specs.Answers.{pool}
 use Rattle.model.specs.Calls.{mapW}
@@ -30,7 +30,7 @@ same-length-2 c = search needs
 returns : tie.Need-returns
 returns c =
     let a = c .before .before .before .before .before .before .before .before .before .before .before .before .before .args in
-    let e = ap (λ (z : Setup). mapW four (pool z (a .words .now ++ a .second .now) (length (a .words .now)) (a .list .now)) (a .address) (a .frame) (a .size) (a .attributes)) (c .before .before .before .before .before .before .before .before .before .setup-at .ensures) in
+    let e = ap (λ (z : Setup). mapW (granuleOf (z .granule)) (pool z (a .words .now ++ a .second .now) (length (a .words .now)) (a .list .now)) (a .address) (a .frame) (a .size) (a .attributes)) (c .before .before .before .before .before .before .before .before .before .setup-at .ensures) in
     leaves mapPlaces (c .before .before .before .before .before .before .map .ensures .0 ∙ e) (c .mapped .ensures)
 
 pub oak-map-spec : {M : Type 1} → statement M

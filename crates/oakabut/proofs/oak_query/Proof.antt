@@ -1,6 +1,6 @@
 -- `oakabut::oak_query` hands on what the call of `pagetable` answers. Assumes nothing.
 use mathlib.Core.Path.{ap, _∙_}
-use Rattle.path.specs.Geometry.{four}
+use Rattle.path.specs.Geometry.{granuleOf}
 use Rattle.path.specs.declared.Setup.{Setup}
 use Rattle.model.specs.Answers.{pool}
 use Rattle.model.specs.Calls.{queryW}
@@ -23,7 +23,7 @@ found-requires c κs = search needs
 returns : tie.Need-returns
 returns c =
     let a = c .before .before .before .before .before .before .before .args in
-    let e = ap (λ (z : Setup). queryW four (pool z (a .words .now ++ a .second .now) (length (a .words .now)) (a .list .now)) (a .address)) (c .before .before .before .setup-at .ensures) in
+    let e = ap (λ (z : Setup). queryW (granuleOf (z .granule)) (pool z (a .words .now ++ a .second .now) (length (a .words .now)) (a .list .now)) (a .address)) (c .before .before .before .setup-at .ensures) in
     hears (c .before .before .query .ensures .0 ∙ e) (c .found .ensures)
 
 pub oak-query-spec : {M : Type 1} → statement M

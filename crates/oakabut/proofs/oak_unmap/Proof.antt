@@ -1,6 +1,6 @@
 -- `oakabut::oak_unmap` hands on what the call of `pagetable` answers. Assumes nothing.
 use mathlib.Core.Path.{ap, _∙_}
-use Rattle.path.specs.Geometry.{four}
+use Rattle.path.specs.Geometry.{granuleOf}
 use Rattle.path.specs.declared.Setup.{Setup}
 use Rattle.model.specs.Answers.{pool}
 use Rattle.model.specs.Calls.{unmapW}
@@ -33,7 +33,7 @@ same-length-3 c = search needs
 returns : tie.Need-returns
 returns c =
     let a = c .before .before .before .before .before .before .before .before .before .before .before .before .before .before .before .before .args in
-    let e = ap (λ (z : Setup). unmapW four (pool z (a .words .now ++ a .second .now) (length (a .words .now)) (a .list .now)) (a .address)) (c .before .before .before .before .before .before .before .before .before .before .before .before .setup-at .ensures) in
+    let e = ap (λ (z : Setup). unmapW (granuleOf (z .granule)) (pool z (a .words .now ++ a .second .now) (length (a .words .now)) (a .list .now)) (a .address)) (c .before .before .before .before .before .before .before .before .before .before .before .before .setup-at .ensures) in
     leaves unmapPlaces (c .before .before .before .before .before .before .before .before .unmap .ensures .0 ∙ e) (c .unmapped .ensures)
 
 pub oak-unmap-spec : {M : Type 1} → statement M

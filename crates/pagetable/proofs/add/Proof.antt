@@ -2,8 +2,8 @@
 use mathlib.Core.List.{_++_}
 use lib.ListN.{length}
 use borrow.Author.Needs.{needs}
-use Rattle.path.specs.Geometry.{four}
-use Rattle.path.specs.Laws.{four-sane}
+use Rattle.path.specs.Geometry.{granuleOf}
+use Rattle.path.specs.Laws.{granule-sane}
 use Rattle.model.specs.Answers.{pool}
 use Rattle.demand.specs.ClauseLaws.{add-by-ledger}
 use Rattle.pagetable.proofs.add.Statement.{statement}
@@ -22,7 +22,7 @@ returns : tie.Need-returns
 returns c =
     let e = c .before .before .before .before .add .ensures in
     let a = c .before .before .before .before .before .before .before .before .before .before .args in
-    (e, add-by-ledger four four-sane (pool (a .s) (a .words .now ++ a .second .now) (length (a .words .now)) (a .list .now)) (a .base2) (a .tables2) _ e)
+    (e, add-by-ledger (granuleOf (a .s .granule)) (granule-sane (a .s .granule)) (pool (a .s) (a .words .now ++ a .second .now) (length (a .words .now)) (a .list .now)) (a .base2) (a .tables2) _ e)
 
 pub add-spec : {M : Type 1} → statement M
 add-spec =

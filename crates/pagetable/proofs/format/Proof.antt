@@ -2,9 +2,7 @@
 use mathlib.Core.List.{_++_}
 use lib.ListN.{length}
 use borrow.Author.Needs.{needs}
-use Rattle.path.specs.Geometry.{four}
 use Rattle.path.specs.Areas.{areaAt}
-use Rattle.path.specs.Laws.{four-sane}
 use Rattle.demand.specs.ClauseLaws.{format-by-ledger}
 use Rattle.pagetable.proofs.format.Statement.{statement}
 use Rattle.pagetable.proofs.format.Tie as tie
@@ -25,7 +23,7 @@ returns : tie.Need-returns
 returns c =
     let e = c .before .before .before .before .before .before .format .ensures in
     let a = c .before .before .before .before .before .before .before .before .before .before .before .before .before .args in
-    (e, format-by-ledger four four-sane (a .words .now ++ a .second .now) (length (a .words .now)) (a .list .now) (a .levels) (areaAt (a .base) (a .tables) (a .base2) (a .tables2)) _ e)
+    (e, format-by-ledger (a .granule) (a .words .now ++ a .second .now) (length (a .words .now)) (a .list .now) (a .levels) (areaAt (a .base) (a .tables) (a .base2) (a .tables2)) _ e)
 
 pub format-spec : {M : Type 1} → statement M
 format-spec =

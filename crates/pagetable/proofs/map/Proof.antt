@@ -2,8 +2,8 @@
 use mathlib.Core.List.{_++_}
 use lib.ListN.{length}
 use borrow.Author.Needs.{needs}
-use Rattle.path.specs.Geometry.{four}
-use Rattle.path.specs.Laws.{four-sane}
+use Rattle.path.specs.Geometry.{granuleOf}
+use Rattle.path.specs.Laws.{granule-sane}
 use Rattle.model.specs.Answers.{pool}
 use Rattle.demand.specs.Demand3.{mapC}
 use Rattle.demand.specs.ClauseLaws.{by-ledger}
@@ -23,7 +23,7 @@ returns : tie.Need-returns
 returns c =
     let e = c .before .before .before .before .map .ensures in
     let a = c .before .before .before .before .before .before .before .before .before .before .args in
-    (e, by-ledger four four-sane (pool (a .s) (a .words .now ++ a .second .now) (length (a .words .now)) (a .list .now)) (mapC (a .address) (a .frame) (a .size) (a .attributes)) _ e)
+    (e, by-ledger (granuleOf (a .s .granule)) (granule-sane (a .s .granule)) (pool (a .s) (a .words .now ++ a .second .now) (length (a .words .now)) (a .list .now)) (mapC (a .address) (a .frame) (a .size) (a .attributes)) _ e)
 
 pub map-spec : {M : Type 1} → statement M
 map-spec =

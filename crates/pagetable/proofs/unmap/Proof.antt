@@ -2,8 +2,8 @@
 use mathlib.Core.List.{_++_}
 use lib.ListN.{length}
 use borrow.Author.Needs.{needs}
-use Rattle.path.specs.Geometry.{four}
-use Rattle.path.specs.Laws.{four-sane}
+use Rattle.path.specs.Geometry.{granuleOf}
+use Rattle.path.specs.Laws.{granule-sane}
 use Rattle.model.specs.Answers.{pool}
 use Rattle.demand.specs.Demand3.{unmapC}
 use Rattle.demand.specs.ClauseLaws.{by-ledger}
@@ -26,7 +26,7 @@ returns : tie.Need-returns
 returns c =
     let e = c .before .before .before .before .before .before .unmap .ensures in
     let a = c .before .before .before .before .before .before .before .before .before .before .before .before .before .args in
-    (e, by-ledger four four-sane (pool (a .s) (a .words .now ++ a .second .now) (length (a .words .now)) (a .list .now)) (unmapC (a .address)) _ e)
+    (e, by-ledger (granuleOf (a .s .granule)) (granule-sane (a .s .granule)) (pool (a .s) (a .words .now ++ a .second .now) (length (a .words .now)) (a .list .now)) (unmapC (a .address)) _ e)
 
 pub unmap-spec : {M : Type 1} → statement M
 unmap-spec =

@@ -1,33 +1,35 @@
--- `path::base_at` meets its contract: a size of 0 says that no level has the height.
-use Prim.Native.Nat.{ℕ, _-_, _%_}
+-- `path::base_at` meets its contract: 0 bits say that no level has the height, and any others are cleared.
 use mathlib.Core.Path.{sym, _∙_}
+use native.Mathlib.Nat.{mod-eq-of-lt}
 use native.Mathlib.Omega.{arith}
-use native.Mathlib.Nat.{mod-le}
 use borrow.Author.Needs.{needs}
-use Rattle.path.specs.Geometry.{four}
+use Rattle.path.specs.Geometry.{granuleOf}
 use Rattle.path.specs.Paths.{baseAt}
-use Rattle.path.specs.Laws.{level-none, level-size-none, level-size-some}
+use Rattle.path.specs.Laws.{granule-sane, level-some, bits-none, bits-level, bits-fit, bits-size}
+use Rattle.path.specs.RegionLaws.{base-is, base-le}
 use Rattle.path.proofs.base_at.Statement.{statement}
 use Rattle.path.proofs.base_at.Tie as tie
 
-size-at-requires : tie.Need-size-at-requires
-size-at-requires c κs = search needs
+bits-at-requires : tie.Need-bits-at-requires
+bits-at-requires c κs = search needs
 
 returns : tie.Need-returns
-returns c = sym (level-none four (level-size-none four _ (sym (c .before .size-at .ensures) ∙ c .if1 .taken)) _)
+returns c = let g = c .before .before .args .granule in sym (bits-none (granuleOf g) (granule-sane g) _ (c .before .bits-at .ensures) (c .if1 .taken) _)
 
-rem-result : tie.Need-rem-result
-rem-result c = search needs
+shr-result : tie.Need-shr-result
+shr-result c = let g = c .before .before .args .granule in bits-fit (granuleOf g) (granule-sane g) _ (c .before .bits-at .ensures) (c .if1 .left)
 
-sub-result : tie.Need-sub-result
-sub-result c = omega (arith, mod-le (c .before .before .args .address) (c .before .size-at .result))
+shl-result : tie.Need-shl-result
+shl-result c = let g = c .before .before .args .granule in bits-fit (granuleOf g) (granule-sane g) _ (c .before .bits-at .ensures) (c .if1 .left)
 
 returns-2 : tie.Need-returns-2
-unfolding baseAt
 returns-2 c =
-    rw (c .before .size-at .ensures)
-    (level-size-some four _ (λ (s : ℕ). c .before .before .args .address - c .before .before .args .address % s)
-    (λ z. c .if1 .left (c .before .size-at .ensures ∙ z)))
+    let a = c .before .before .args in
+    let G = granuleOf (a .granule) in
+    let S = granule-sane (a .granule) in
+    let l = bits-level G S _ (c .before .bits-at .ensures) (c .if1 .left) in
+    rw (bits-size G S _ (c .before .bits-at .ensures) (c .if1 .left), level-some G l (baseAt G (a .address) (a .height)))
+    (mod-eq-of-lt (omega (arith, base-is G (a .address) (a .height), base-le G (a .address) (a .height))) ∙ sym (base-is G (a .address) (a .height)))
 
 pub base-at-spec : {M : Type 1} → statement M
-base-at-spec = tie.close (tie.spec size-at-requires returns rem-result sub-result returns-2)
+base-at-spec = tie.close (tie.spec bits-at-requires returns shr-result shl-result returns-2)

@@ -1,31 +1,32 @@
--- `path::index_at` meets its contract: a size of 0 says that no level has the height.
-use Prim.Native.Nat.{ℕ, _/_, _%_}
-use mathlib.Core.Path.{sym, _∙_}
+-- `path::index_at` meets its contract: 0 bits say that no level has the height.
+use mathlib.Core.Path.{sym}
 use borrow.Author.Needs.{needs}
-use Rattle.path.specs.Geometry.{four}
+use Rattle.path.specs.Geometry.{granuleOf}
 use Rattle.path.specs.Paths.{indexAt}
-use Rattle.path.specs.Laws.{level-none, level-size-none, level-size-some}
+use Rattle.path.specs.Laws.{granule-sane, level-some, bits-none, bits-level, bits-fit, bits-size}
 use Rattle.path.proofs.index_at.Statement.{statement}
 use Rattle.path.proofs.index_at.Tie as tie
 
-size-at-requires : tie.Need-size-at-requires
-size-at-requires c κs = search needs
+bits-at-requires : tie.Need-bits-at-requires
+bits-at-requires c κs = search needs
 
 returns : tie.Need-returns
-returns c = sym (level-none four (level-size-none four _ (sym (c .before .size-at .ensures) ∙ c .if1 .taken)) _)
+returns c = let g = c .before .before .args .granule in sym (bits-none (granuleOf g) (granule-sane g) _ (c .before .bits-at .ensures) (c .if1 .taken) _)
 
-div-result : tie.Need-div-result
-div-result c = search needs
+shr-index-in : tie.Need-shr-index-in
+shr-index-in c = let g = c .before .before .args .granule in bits-fit (granuleOf g) (granule-sane g) _ (c .before .bits-at .ensures) (c .if1 .left)
 
-cast-result : tie.Need-cast-result
-cast-result c = search needs
+index-in-requires : tie.Need-index-in-requires
+index-in-requires c κs = search needs
 
 returns-2 : tie.Need-returns-2
 unfolding indexAt
 returns-2 c =
-    rw (c .before .size-at .ensures)
-    (level-size-some four _ (λ (s : ℕ). c .before .before .args .address / s % 512)
-    (λ z. c .if1 .left (c .before .size-at .ensures ∙ z)))
+    let a = c .before .before .before .args in
+    let G = granuleOf (a .granule) in
+    let S = granule-sane (a .granule) in
+    let l = bits-level G S _ (c .before .before .bits-at .ensures) (c .before .if1 .left) in
+    rw (c .index-in .ensures, bits-size G S _ (c .before .before .bits-at .ensures) (c .before .if1 .left), level-some G l (indexAt G (a .address) (a .height)))
 
 pub index-at-spec : {M : Type 1} → statement M
-index-at-spec = tie.close (tie.spec size-at-requires returns div-result cast-result returns-2)
+index-at-spec = tie.close (tie.spec bits-at-requires returns shr-index-in index-in-requires returns-2)

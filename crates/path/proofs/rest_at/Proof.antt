@@ -1,29 +1,38 @@
--- `path::rest_at` meets its contract: a height is one of four, or no level has it.
+-- `path::rest_at` meets its contract: 0 bits say that no level has the height.
+use Prim.Native.Nat.{_%_}
+use mathlib.Core.Path.{sym, _∙_}
 use native.Mathlib.Omega.{arith}
-use mathlib.Core.Path.{sym}
-use Rattle.path.specs.Geometry.{four, sizeAt, atLevel}
-use Rattle.path.specs.Laws.{level-none}
+use borrow.Author.Needs.{needs}
+use Rattle.path.specs.Geometry.{granuleOf, sizeAt}
+use Rattle.path.specs.Paths.{baseAt}
+use Rattle.path.specs.Laws.{granule-sane, level-some, bits-none, bits-level}
+use Rattle.path.specs.RegionLaws.{base-rest}
 use Rattle.path.proofs.rest_at.Statement.{statement}
 use Rattle.path.proofs.rest_at.Tie as tie
 
+bits-at-requires : tie.Need-bits-at-requires
+bits-at-requires c κs = search needs
+
 returns : tie.Need-returns
-unfolding atLevel sizeAt
-returns c = rw (c .if1 .taken)
+returns c = let g = c .before .before .args .granule in sym (bits-none (granuleOf g) (granule-sane g) _ (c .before .bits-at .ensures) (c .if1 .taken) _)
+
+base-at-requires : tie.Need-base-at-requires
+base-at-requires c κs = search needs
+
+sub-result : tie.Need-sub-result
+sub-result c =
+    let a = c .before .before .before .args in
+    let G = granuleOf (a .granule) in
+    let l = bits-level G (granule-sane (a .granule)) _ (c .before .before .bits-at .ensures) (c .before .if1 .left) in
+    omega (arith, c .base-at .ensures ∙ level-some G l (baseAt G (a .address) (a .height)), base-rest G (a .address) (a .height))
 
 returns-2 : tie.Need-returns-2
-unfolding atLevel sizeAt
-returns-2 c = rw (c .if2 .taken)
-
-returns-3 : tie.Need-returns-3
-unfolding atLevel sizeAt
-returns-3 c = rw (c .if3 .taken)
-
-returns-4 : tie.Need-returns-4
-unfolding atLevel sizeAt
-returns-4 c = rw (c .if4 .taken)
-
-returns-5 : tie.Need-returns-5
-returns-5 c = sym (level-none four (omega arith) _)
+returns-2 c =
+    let a = c .before .before .before .args in
+    let G = granuleOf (a .granule) in
+    let l = bits-level G (granule-sane (a .granule)) _ (c .before .before .bits-at .ensures) (c .before .if1 .left) in
+    rw (level-some G l (a .address % sizeAt G (a .height)))
+    (omega (arith, c .base-at .ensures ∙ level-some G l (baseAt G (a .address) (a .height)), base-rest G (a .address) (a .height)))
 
 pub rest-at-spec : {M : Type 1} → statement M
-rest-at-spec = tie.close (tie.spec returns returns-2 returns-3 returns-4 returns-5)
+rest-at-spec = tie.close (tie.spec bits-at-requires returns base-at-requires sub-result returns-2)

@@ -1,7 +1,6 @@
 -- `plans::step_list`: by cases of the step.
 use mathlib.Core.Path.{sym, ap, _∙_}
 use borrow.Author.Needs.{needs}
-use Rattle.path.specs.Geometry.{four}
 use Rattle.model.specs.Writes.{memory, performAll}
 use Rattle.plans.specs.declared.Step.{Step}
 use Rattle.plans.specs.Plan.{writes}
@@ -30,25 +29,25 @@ returns : tie.Need-returns
 unfolding performAll
 returns c =
     let a = c .before .before .before .before .before .before .before .before .args in
-    λ l. c .before .before .give .ensures ∙ ap (λ (s : Step). performAll four (writes s) (memory l (a .list .now)) .list) (sym (c .before .before .before .before .before .s .given .1))
+    λ G l. c .before .before .give .ensures ∙ ap (λ (s : Step). performAll G (writes s) (memory l (a .list .now)) .list) (sym (c .before .before .before .before .before .s .given .1))
 
 returns-2 : tie.Need-returns-2
 unfolding performAll
 returns-2 c =
     let a = c .before .before .before .args in
-    λ l. ap (λ (s : Step). performAll four (writes s) (memory l (a .list .now)) .list) (sym (c .enum-told .given .1))
+    λ G l. ap (λ (s : Step). performAll G (writes s) (memory l (a .list .now)) .list) (sym (c .enum-told .given .1))
 
 returns-3 : tie.Need-returns-3
 unfolding performAll
 returns-3 c =
     let a = c .before .before .before .args in
-    λ l. ap (λ (s : Step). performAll four (writes s) (memory l (a .list .now)) .list) (sym (c .enum-told2 .given .1))
+    λ G l. ap (λ (s : Step). performAll G (writes s) (memory l (a .list .now)) .list) (sym (c .enum-told2 .given .1))
 
 returns-4 : tie.Need-returns-4
 unfolding performAll
 returns-4 c =
     let a = c .before .before .before .args in
-    λ l. ap (λ (s : Step). performAll four (writes s) (memory l (a .list .now)) .list) (sym (c .enum-told3 .given .1))
+    λ G l. ap (λ (s : Step). performAll G (writes s) (memory l (a .list .now)) .list) (sym (c .enum-told3 .given .1))
 
 pub step-list-spec : {M : Type 1} → statement M
 step-list-spec =

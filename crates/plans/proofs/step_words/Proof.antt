@@ -2,7 +2,7 @@
 use mathlib.Core.Path.{sym, ap, _∙_}
 use mathlib.Core.List.{_++_}
 use borrow.Author.Needs.{needs}
-use Rattle.path.specs.Geometry.{four}
+use Rattle.path.specs.Geometry.{granuleOf}
 use Rattle.model.specs.Writes.{memory, performAll}
 use Rattle.plans.specs.declared.Step.{Step}
 use Rattle.plans.specs.Plan.{writes}
@@ -37,7 +37,7 @@ returns : tie.Need-returns
 unfolding performAll
 returns c =
     let a = c .before .before .before .before .before .before .before .before .before .before .before .before .args in
-    λ k e l. c .before .before .before .before .put .ensures ∙ ap (λ (s : Step). performAll four (writes s) (memory (a .words .now ++ a .second .now) l) .words) (sym (c .before .before .before .before .before .before .before .before .s .given .1))
+    λ k e l. c .before .before .before .before .put .ensures ∙ ap (λ (s : Step). performAll (granuleOf (a .granule)) (writes s) (memory (a .words .now ++ a .second .now) l) .words) (sym (c .before .before .before .before .before .before .before .before .s .given .1))
 
 same-length-3 : tie.Need-same-length-3
 same-length-3 c = search needs
@@ -49,19 +49,19 @@ returns-2 : tie.Need-returns-2
 unfolding performAll
 returns-2 c =
     let a = c .before .before .before .before .before .before .before .before .before .before .before .before .args in
-    λ k e l. c .before .before .before .before .wipe .ensures k e ∙ ap (λ (s : Step). performAll four (writes s) (memory (a .words .now ++ a .second .now) l) .words) (sym (c .before .before .before .before .before .before .before .before .s2 .given .1))
+    λ k e l. c .before .before .before .before .wipe .ensures k e ∙ ap (λ (s : Step). performAll (granuleOf (a .granule)) (writes s) (memory (a .words .now ++ a .second .now) l) .words) (sym (c .before .before .before .before .before .before .before .before .s2 .given .1))
 
 returns-3 : tie.Need-returns-3
 unfolding performAll
 returns-3 c =
     let a = c .before .before .before .before .args in
-    λ k e l. ap (λ (s : Step). performAll four (writes s) (memory (a .words .now ++ a .second .now) l) .words) (sym (c .enum-told .given .1))
+    λ k e l. ap (λ (s : Step). performAll (granuleOf (a .granule)) (writes s) (memory (a .words .now ++ a .second .now) l) .words) (sym (c .enum-told .given .1))
 
 returns-4 : tie.Need-returns-4
 unfolding performAll
 returns-4 c =
     let a = c .before .before .before .before .args in
-    λ k e l. ap (λ (s : Step). performAll four (writes s) (memory (a .words .now ++ a .second .now) l) .words) (sym (c .enum-told2 .given .1))
+    λ k e l. ap (λ (s : Step). performAll (granuleOf (a .granule)) (writes s) (memory (a .words .now ++ a .second .now) l) .words) (sym (c .enum-told2 .given .1))
 
 pub step-words-spec : {M : Type 1} → statement M
 step-words-spec =

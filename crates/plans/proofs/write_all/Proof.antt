@@ -5,7 +5,7 @@ use mathlib.Core.Path.{_≡_, refl, ap, _∙_}
 use native.Mathlib.Omega.{arith}
 use borrow.Author.Needs.{needs}
 use lib.ListN.{length, take}
-use Rattle.path.specs.Geometry.{four, entries}
+use Rattle.path.specs.Geometry.{granuleOf, entries}
 use Rattle.model.specs.Writes.{Write, memory, performAll}
 use Rattle.plans.specs.Plan.{planned}
 use Rattle.plans.proofs.Plans.{both-next, planned-all}
@@ -13,12 +13,12 @@ use Rattle.plans.proofs.write_all.Statement.{statement}
 use Rattle.plans.proofs.write_all.Tie as tie
 
 abbrev Inv-loop : tie.InvT-loop
-Inv-loop words₀ second₀ list₀ plan i₀ words second list i =
-    (i ≤ 7) × ((length words ≡ length words₀) × ((length second ≡ length second₀) × ((length list ≡ length list₀) × ((k : ℕ) → length words₀ ≡ entries four * k
-    → memory (words ++ second) list ≡ performAll four (planned (take i plan)) (memory (words₀ ++ second₀) list₀)))))
+Inv-loop granule words₀ second₀ list₀ plan i₀ words second list i =
+    (i ≤ 7) × ((length words ≡ length words₀) × ((length second ≡ length second₀) × ((length list ≡ length list₀) × ((k : ℕ) → length words₀ ≡ entries (granuleOf granule) * k
+    → memory (words ++ second) list ≡ performAll (granuleOf granule) (planned (take i plan)) (memory (words₀ ++ second₀) list₀)))))
 
 abbrev μ-loop : tie.MeasureT-loop
-μ-loop words₀ second₀ list₀ plan i₀ words second list i = 7 - i
+μ-loop granule words₀ second₀ list₀ plan i₀ words second list i = 7 - i
 
 loop-holds : tie.Need-loop-holds Inv-loop μ-loop
 unfolding planned performAll
@@ -50,12 +50,12 @@ loop-again c =
     let list = c .before .before .step-list in (
       search needs,
       (
-        words .kept .0 ∙ l .inv .1 .0,
+        words .kept .1 .0 ∙ l .inv .1 .0,
         (
-          words .kept .1 .0 ∙ l .inv .1 .1 .0,
+          words .kept .1 .1 .0 ∙ l .inv .1 .1 .0,
           (
             list .kept .0 ∙ l .inv .1 .1 .1 .0,
-            λ k e. both-next four (a .t4) (l .i) (omega arith) (memory (a .words .now ++ a .second .now) (a .list .now)) (l .inv .1 .1 .1 .1 k e) (words .ensures k (l .inv .1 .0 ∙ e)) (list .ensures),
+            λ k e. both-next (granuleOf (a .granule)) (a .t5) (l .i) (omega arith) (memory (a .words .now ++ a .second .now) (a .list .now)) (l .inv .1 .1 .1 .1 k e) (words .ensures k (l .inv .1 .0 ∙ e)) (list .ensures (granuleOf (a .granule))),
           ),
         ),
       ),
@@ -74,7 +74,7 @@ returns : tie.Need-returns Inv-loop μ-loop
 returns c =
     let a = c .before .before .before .before .before .args in
     let l = c .before .loop in
-    λ k e. l .inv .1 .1 .1 .1 k e ∙ ap (λ (x : List Write). performAll four x (memory (a .words .now ++ a .second .now) (a .list .now))) (planned-all (a .t4) (l .i) (omega arith))
+    λ k e. l .inv .1 .1 .1 .1 k e ∙ ap (λ (x : List Write). performAll (granuleOf (a .granule)) x (memory (a .words .now ++ a .second .now) (a .list .now))) (planned-all (a .t5) (l .i) (omega arith))
 
 pub write-all-spec : {M : Type 1} → statement M
 write-all-spec =

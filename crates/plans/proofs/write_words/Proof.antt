@@ -5,7 +5,7 @@ use mathlib.Core.Path.{_≡_, refl, ap, _∙_}
 use native.Mathlib.Omega.{arith}
 use borrow.Author.Needs.{needs}
 use lib.ListN.{length, take}
-use Rattle.path.specs.Geometry.{four, entries}
+use Rattle.path.specs.Geometry.{granuleOf, entries}
 use Rattle.model.specs.Writes.{Write, memory, performAll}
 use Rattle.plans.specs.Plan.{planned}
 use Rattle.plans.proofs.Plans.{words-next, planned-all}
@@ -13,12 +13,12 @@ use Rattle.plans.proofs.write_words.Statement.{statement}
 use Rattle.plans.proofs.write_words.Tie as tie
 
 abbrev Inv-loop : tie.InvT-loop
-Inv-loop words₀ second₀ plan i₀ words second i =
-    (i ≤ 7) × ((length words ≡ length words₀) × ((length second ≡ length second₀) × ((k : ℕ) → length words₀ ≡ entries four * k → (l : List ℕ)
-    → words ++ second ≡ performAll four (planned (take i plan)) (memory (words₀ ++ second₀) l) .words)))
+Inv-loop granule words₀ second₀ plan i₀ words second i =
+    (i ≤ 7) × ((length words ≡ length words₀) × ((length second ≡ length second₀) × ((k : ℕ) → length words₀ ≡ entries (granuleOf granule) * k → (l : List ℕ)
+    → words ++ second ≡ performAll (granuleOf granule) (planned (take i plan)) (memory (words₀ ++ second₀) l) .words)))
 
 abbrev μ-loop : tie.MeasureT-loop
-μ-loop words₀ second₀ plan i₀ words second i = 7 - i
+μ-loop granule words₀ second₀ plan i₀ words second i = 7 - i
 
 loop-holds : tie.Need-loop-holds Inv-loop μ-loop
 unfolding planned performAll
@@ -45,10 +45,10 @@ loop-again c =
     let l = c .before .before .before .before .before .before .before .before .before .loop in (
       search needs,
       (
-        c .before .before .before .before .step-words .kept .0 ∙ l .inv .1 .0,
+        c .before .before .before .before .step-words .kept .1 .0 ∙ l .inv .1 .0,
         (
-          c .before .before .before .before .step-words .kept .1 .0 ∙ l .inv .1 .1 .0,
-          λ k e. words-next four (a .t3) (l .i) (omega arith) (a .words .now ++ a .second .now) (l .inv .1 .1 .1 k e) (c .before .before .before .before .step-words .ensures k (l .inv .1 .0 ∙ e)),
+          c .before .before .before .before .step-words .kept .1 .1 .0 ∙ l .inv .1 .1 .0,
+          λ k e. words-next (granuleOf (a .granule)) (a .t4) (l .i) (omega arith) (a .words .now ++ a .second .now) (l .inv .1 .1 .1 k e) (c .before .before .before .before .step-words .ensures k (l .inv .1 .0 ∙ e)),
         ),
       ),
     )
@@ -63,7 +63,7 @@ returns : tie.Need-returns Inv-loop μ-loop
 returns c =
     let a = c .before .before .before .before .args in
     let l = c .before .loop in
-    λ k e r. l .inv .1 .1 .1 k e r ∙ ap (λ (x : List Write). performAll four x (memory (a .words .now ++ a .second .now) r) .words) (planned-all (a .t3) (l .i) (omega arith))
+    λ k e r. l .inv .1 .1 .1 k e r ∙ ap (λ (x : List Write). performAll (granuleOf (a .granule)) x (memory (a .words .now ++ a .second .now) r) .words) (planned-all (a .t4) (l .i) (omega arith))
 
 pub write-words-spec : {M : Type 1} → statement M
 write-words-spec =

@@ -10,6 +10,9 @@ use Rattle.pool.proofs.is_table_empty.Lts as lts
 use Rattle.pool.proofs.table_part.Reads as table-part-reads
 use Rattle.pool.proofs.zeros_but.Reads as zeros-but-reads
 
+entries-of-requires : tie.Need-entries-of-requires
+entries-of-requires c κs = search needs
+
 table-part-requires : tie.Need-table-part-requires
 table-part-requires c κs = search needs
 
@@ -17,7 +20,7 @@ zeros-but-requires : tie.Need-zeros-but-requires
 zeros-but-requires c κs = search needs
 
 returns : tie.Need-returns
-returns c = λ k e. c .zeros-but .ensures ∙ none-out _ _ _ 512 (c .before .table-part .ensures k e)
+returns c = λ k e. c .zeros-but .ensures ∙ none-out _ _ _ _ (c .before .before .entries-of .ensures) (c .before .table-part .ensures k e)
 
 pub is-table-empty-spec : {M : Type 1} → statement M
-is-table-empty-spec = tie.close (tie.spec table-part-requires zeros-but-requires returns)
+is-table-empty-spec = tie.close (tie.spec entries-of-requires table-part-requires zeros-but-requires returns)

@@ -11,9 +11,6 @@ use Rattle.pool.proofs.wipe_from.Reads as reads
 use Rattle.pool.proofs.wipe_from.Lts as lts
 use Rattle.pool.proofs.clear.Reads as clear-reads
 
-sub-if2 : tie.Need-sub-if2
-sub-if2 c = search needs
-
 add-end : tie.Need-add-end
 add-end c = search needs
 
@@ -38,23 +35,22 @@ same-length c = search needs
 returns : tie.Need-returns
 returns c =
     let a = c .before .before .before .before .before .before .before .args in
-    wiped (a .words .now) _ (a .start) 512 (omega arith) (c .before .before .clear .ensures)
+    wiped (a .words .now) _ (a .start) (a .count) (omega arith) (c .before .before .clear .ensures)
 
 returns-2 : tie.Need-returns-2
 returns-2 c =
     let a = c .before .before .before .args in
-    sym (zeroed-none (a .words .now) (a .start) 512 (omega arith))
+    sym (zeroed-none (a .words .now) (a .start) (a .count) (omega arith))
 
 returns-3 : tie.Need-returns-3
 returns-3 c =
     let a = c .before .before .args in
-    sym (zeroed-none (a .words .now) (a .start) 512 (omega arith))
+    sym (zeroed-none (a .words .now) (a .start) (a .count) (omega arith))
 
 pub wipe-from-spec : {M : Type 1} → statement M
 wipe-from-spec =
     tie.close
     (tie.spec
-    sub-if2
     add-end
     mul-clear
     sub-clear

@@ -23,7 +23,7 @@ part-result-end c = search needs
 returns : tie.Need-returns
 returns c =
     let a = c .before .before .args in
-    part-none (a .words .now) _ 512 (omega arith)
+    part-none (a .words .now) _ (a .count) (omega arith)
 
 sub-if2 : tie.Need-sub-if2
 sub-if2 c = search needs
@@ -43,7 +43,7 @@ part-result-end-2 c = search needs
 returns-2 : tie.Need-returns-2
 returns-2 c =
     let a = c .before .before .before .args in
-    part-short (a .words .now) (a .start) 512 refl (omega arith) (omega arith)
+    part-short (a .words .now) (a .start) (a .count) refl (omega arith) (omega arith)
 
 add-past : tie.Need-add-past
 add-past c = search needs
@@ -63,7 +63,7 @@ part-result-end-3 c = search needs
 returns-3 : tie.Need-returns-3
 returns-3 c =
     let a = c .before .before .before .args in
-    part-whole (a .words .now) (a .start) 512 refl
+    part-whole (a .words .now) (a .start) (a .count) refl
 
 pub words-from-spec : {M : Type 1} → statement M
 words-from-spec =

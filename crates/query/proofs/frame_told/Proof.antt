@@ -2,6 +2,7 @@
 use mathlib.Core.Path.{refl, sym, _∙_}
 use native.Mathlib.Omega.{arith}
 use borrow.Author.Needs.{needs}
+use Rattle.path.specs.Geometry.{granuleOf}
 use Rattle.model.specs.Calls.{foundAt}
 use Rattle.query.specs.AskLaws.{answer-no, answer-found}
 use Rattle.query.proofs.Queries.{at-entry, at-frame}
@@ -36,7 +37,7 @@ returns : tie.Need-returns
 returns c =
     let s = c .before .before .before .before .before .before .before .args in
     answer-found _ refl
-    ∙ at-frame (s .address) (s .height) (omega arith)
+    ∙ at-frame (granuleOf (s .granule)) (s .address) (s .height) (c .before .before .before .before .before .before .before .pre)
     (sym (c .before .before .before .before .before .before .frame-at .ensures) ∙ c .before .before .before .before .e .given .1)
     (c .before .before .base-at .ensures)
     (c .before .size-at .ensures)
@@ -45,19 +46,19 @@ returns-2 : tie.Need-returns-2
 unfolding foundAt
 returns-2 c =
     let s = c .before .before .before .before .before .args in
-    c .hole-told .ensures ∙ at-entry (s .address) (s .height) (sym (c .before .before .before .before .frame-at .ensures) ∙ c .before .before .enum-told .given .1)
+    c .hole-told .ensures ∙ at-entry (granuleOf (s .granule)) (s .address) (s .height) (sym (c .before .before .before .before .frame-at .ensures) ∙ c .before .before .enum-told .given .1)
 
 returns-3 : tie.Need-returns-3
 unfolding foundAt
 returns-3 c =
     let s = c .before .before .before .args in
-    answer-no 8 _ (λ e. omega arith) (λ e. omega arith) ∙ at-entry (s .address) (s .height) (sym (c .before .before .frame-at .ensures) ∙ c .enum-told2 .given .1)
+    answer-no 8 _ (λ e. omega arith) (λ e. omega arith) ∙ at-entry (granuleOf (s .granule)) (s .address) (s .height) (sym (c .before .before .frame-at .ensures) ∙ c .enum-told2 .given .1)
 
 returns-4 : tie.Need-returns-4
 unfolding foundAt
 returns-4 c =
     let s = c .before .before .before .args in
-    answer-no 8 _ (λ e. omega arith) (λ e. omega arith) ∙ at-entry (s .address) (s .height) (sym (c .before .before .frame-at .ensures) ∙ c .enum-told3 .given .1)
+    answer-no 8 _ (λ e. omega arith) (λ e. omega arith) ∙ at-entry (granuleOf (s .granule)) (s .address) (s .height) (sym (c .before .before .frame-at .ensures) ∙ c .enum-told3 .given .1)
 
 pub frame-told-spec : {M : Type 1} → statement M
 frame-told-spec =

@@ -2,6 +2,7 @@
 use mathlib.Core.Path.{refl, _∙_}
 use native.Mathlib.Omega.{arith}
 use borrow.Author.Needs.{needs}
+use Rattle.path.specs.Geometry.{granuleOf}
 use Rattle.model.specs.Refusing.{hole-known}
 use Rattle.query.specs.AskLaws.{answer-hole}
 use Rattle.query.proofs.hole_told.Statement.{statement}
@@ -16,7 +17,7 @@ size-at-requires c κs = search needs
 returns : tie.Need-returns
 returns c =
     let s = c .before .before .before .args in
-    answer-hole _ refl ∙ hole-known (s .address) (s .height) (omega arith) (c .before .before .base-at .ensures) (c .before .size-at .ensures)
+    answer-hole _ refl ∙ hole-known (granuleOf (s .granule)) (s .address) (s .height) (c .before .before .before .pre) (c .before .before .base-at .ensures) (c .before .size-at .ensures)
 
 pub hole-told-spec : {M : Type 1} → statement M
 hole-told-spec = tie.close (tie.spec base-at-requires size-at-requires returns)

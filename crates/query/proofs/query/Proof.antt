@@ -4,6 +4,8 @@ use mathlib.Core.Path.{sym, _∙_}
 use native.Mathlib.Omega.{arith}
 use lib.ListN.{length}
 use borrow.Author.Needs.{needs}
+use Rattle.path.specs.Geometry.{granuleOf}
+use Rattle.path.specs.Laws.{granule-sane}
 use Rattle.model.specs.Answers.{pool}
 use Rattle.model.specs.Refusing.{good-both}
 use Rattle.query.specs.AskLaws.{answer-no, answer-hole, answer-found}
@@ -17,7 +19,7 @@ good-setup-requires c κs = search needs
 returns : tie.Need-returns
 returns c =
     let s = c .before .before .before .before .before .args in
-    query-bad (pool (s .s) (s .words .now ++ s .second .now) (length (s .words .now)) (s .list .now)) (s .address) (good-both (s .s) (s .words .now) (s .second .now) (s .list .now) (c .before .good-setup .ensures)) (c .if1 .taken)
+    query-bad (granuleOf (s .s .granule)) (pool (s .s) (s .words .now ++ s .second .now) (length (s .words .now)) (s .list .now)) (s .address) (good-both (granuleOf (s .s .granule)) (s .s) (s .words .now) (s .second .now) (s .list .now) (c .before .good-setup .ensures)) (c .if1 .taken)
 
 in-space-requires : tie.Need-in-space-requires
 in-space-requires c κs = search needs
@@ -25,8 +27,8 @@ in-space-requires c κs = search needs
 returns-2 : tie.Need-returns-2
 returns-2 c =
     let s = c .before .before .before .before .before .before .before .args in
-    query-past (pool (s .s) (s .words .now ++ s .second .now) (length (s .words .now)) (s .list .now)) (s .address)
-    (good-both (s .s) (s .words .now) (s .second .now) (s .list .now) (c .before .before .before .good-setup .ensures))
+    query-past (granuleOf (s .s .granule)) (pool (s .s) (s .words .now ++ s .second .now) (length (s .words .now)) (s .list .now)) (s .address)
+    (good-both (granuleOf (s .s .granule)) (s .s) (s .words .now) (s .second .now) (s .list .now) (c .before .before .before .good-setup .ensures))
     (c .before .before .if1 .left)
     (c .before .in-space .ensures)
     (c .if2 .taken)
@@ -38,7 +40,7 @@ cast-ask-2 : tie.Need-cast-ask-2
 cast-ask-2 c = omega (arith, good (c .before .before .before .good-setup .ensures) (c .before .before .if1 .left))
 
 ask-requires : tie.Need-ask-requires
-ask-requires c κs = omega (arith, good (c .before .before .before .before .good-setup .ensures) (c .before .before .before .if1 .left))
+ask-requires c κs = omega (arith, granule-sane (c .before .before .before .before .before .before .before .before .args .s .granule), good (c .before .before .before .before .good-setup .ensures) (c .before .before .before .if1 .left))
 
 array-read-t23 : tie.Need-array-read-t23
 array-read-t23 c = search needs
@@ -51,8 +53,8 @@ returns-3 c =
     let s = c .before .before .before .before .before .before .before .before .before .before .args in
     sym (answer-hole _ (c .if3 .taken))
     ∙ c .before .ask .ensures
-    ∙ query-walks (pool (s .s) (s .words .now ++ s .second .now) (length (s .words .now)) (s .list .now)) (s .address)
-    (good-both (s .s) (s .words .now) (s .second .now) (s .list .now) (c .before .before .before .before .before .before .good-setup .ensures))
+    ∙ query-walks (granuleOf (s .s .granule)) (pool (s .s) (s .words .now ++ s .second .now) (length (s .words .now)) (s .list .now)) (s .address)
+    (good-both (granuleOf (s .s .granule)) (s .s) (s .words .now) (s .second .now) (s .list .now) (c .before .before .before .before .before .before .good-setup .ensures))
     (c .before .before .before .before .before .if1 .left)
     (c .before .before .before .before .in-space .ensures)
     (c .before .before .before .if2 .left)
@@ -62,8 +64,8 @@ returns-4 c =
     let s = c .before .before .before .before .before .before .before .before .before .before .before .args in
     sym (answer-no _ _ (c .if4 .taken) (c .before .if3 .left))
     ∙ c .before .before .ask .ensures
-    ∙ query-walks (pool (s .s) (s .words .now ++ s .second .now) (length (s .words .now)) (s .list .now)) (s .address)
-    (good-both (s .s) (s .words .now) (s .second .now) (s .list .now) (c .before .before .before .before .before .before .before .good-setup .ensures))
+    ∙ query-walks (granuleOf (s .s .granule)) (pool (s .s) (s .words .now ++ s .second .now) (length (s .words .now)) (s .list .now)) (s .address)
+    (good-both (granuleOf (s .s .granule)) (s .s) (s .words .now) (s .second .now) (s .list .now) (c .before .before .before .before .before .before .before .good-setup .ensures))
     (c .before .before .before .before .before .before .if1 .left)
     (c .before .before .before .before .before .in-space .ensures)
     (c .before .before .before .before .if2 .left)
@@ -85,8 +87,8 @@ returns-5 c =
     let s = c .before .before .before .before .before .before .before .before .before .before .before .args in
     sym (answer-found _ (c .if4 .left))
     ∙ c .before .before .ask .ensures
-    ∙ query-walks (pool (s .s) (s .words .now ++ s .second .now) (length (s .words .now)) (s .list .now)) (s .address)
-    (good-both (s .s) (s .words .now) (s .second .now) (s .list .now) (c .before .before .before .before .before .before .before .good-setup .ensures))
+    ∙ query-walks (granuleOf (s .s .granule)) (pool (s .s) (s .words .now ++ s .second .now) (length (s .words .now)) (s .list .now)) (s .address)
+    (good-both (granuleOf (s .s .granule)) (s .s) (s .words .now) (s .second .now) (s .list .now) (c .before .before .before .before .before .before .before .good-setup .ensures))
     (c .before .before .before .before .before .before .if1 .left)
     (c .before .before .before .before .before .in-space .ensures)
     (c .before .before .before .before .if2 .left)

@@ -6,19 +6,19 @@ use mathlib.Core.Path.{_≡_, sym, _∙_}
 use native.Mathlib.Omega.{arith}
 use borrow.Author.Tests.{not-true, not-false}
 use borrow.Author.Needs.{needs}
-use Rattle.path.specs.Geometry.{four, entries}
+use Rattle.path.specs.Geometry.{granuleOf, entries}
 use Rattle.model.specs.Writes.{freed}
 use Rattle.unmaps.proofs.Frees.{freed-stop, freed-more, freed-end}
 use Rattle.unmaps.proofs.count_freed.Statement.{statement}
 use Rattle.unmaps.proofs.count_freed.Tie as tie
 
 abbrev Inv-loop : tie.InvT-loop
-Inv-loop words second left top way path h₀ h =
-    (left ≤ h) × ((h ≤ top) × ((k : ℕ) → length words ≡ entries four * k
-    → freed four (words ++ second) way path left (top - left) ≡ h - left + freed four (words ++ second) way path h (top - h)))
+Inv-loop granule words second left top way path h₀ h =
+    (left ≤ h) × ((h ≤ top) × ((k : ℕ) → length words ≡ entries (granuleOf granule) * k
+    → freed (granuleOf granule) (words ++ second) way path left (top - left) ≡ h - left + freed (granuleOf granule) (words ++ second) way path h (top - h)))
 
 abbrev μ-loop : tie.MeasureT-loop
-μ-loop words second left top way path h₀ h = top - h
+μ-loop granule words second left top way path h₀ h = top - h
 
 loop-holds : tie.Need-loop-holds Inv-loop μ-loop
 loop-holds c =
@@ -51,7 +51,7 @@ returns c =
     let a = c .before .before .before .before .before .before .args in
     let l = c .before .before .before .loop in
     λ k q.
-    let stop = freed-stop four (a .words .now ++ a .second .now) (a .t3) (a .t4) (l .h) (a .top - l .h) (omega arith) (sym (c .before .only-entry .ensures k q) ∙ not-true _ (c .if1 .taken)) in
+    let stop = freed-stop (granuleOf (a .granule)) (a .words .now ++ a .second .now) (a .t4) (a .t5) (l .h) (a .top - l .h) (omega arith) (sym (c .before .only-entry .ensures k q) ∙ not-true _ (c .if1 .taken)) in
     omega (arith, l .inv .1 .1 k q, stop)
 
 add-h : tie.Need-add-h Inv-loop μ-loop
@@ -68,7 +68,7 @@ loop-again c =
       (
         search needs,
         λ k q.
-            let more = freed-more four (a .words .now ++ a .second .now) (a .t3) (a .t4) (l .h) (a .top - l .h) (omega arith) (sym (c .before .only-entry .ensures k q) ∙ not-false _ (c .if1 .left)) in
+            let more = freed-more (granuleOf (a .granule)) (a .words .now ++ a .second .now) (a .t4) (a .t5) (l .h) (a .top - l .h) (omega arith) (sym (c .before .only-entry .ensures k q) ∙ not-false _ (c .if1 .left)) in
             let e : a .top - l .h - 1 ≡ a .top - (l .h + 1) = omega arith in
             omega (arith, l .inv .1 .1 k q, rw e at more),
       ),
@@ -82,7 +82,7 @@ returns-2 c =
     let a = c .before .before .before .before .args in
     let l = c .before .loop in
     λ k q.
-    let end = freed-end four (a .words .now ++ a .second .now) (a .t3) (a .t4) (l .h) (a .top - l .h) (omega arith) in
+    let end = freed-end (granuleOf (a .granule)) (a .words .now ++ a .second .now) (a .t4) (a .t5) (l .h) (a .top - l .h) (omega arith) in
     omega (arith, l .inv .1 .1 k q, end)
 
 pub count-freed-spec : {M : Type 1} → statement M

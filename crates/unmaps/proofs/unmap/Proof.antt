@@ -1,12 +1,14 @@
 -- `unmaps::unmap` makes its tests in their order, then walks.
-use mathlib.Core.Path.{refl, sym, _∙_}
+use Prim.Native.Nat.{_/_, _<_}
+use mathlib.Core.Path.{_≡_, sym, _∙_}
+use mathlib.Core.Bool.{true}
 use mathlib.Core.List.{_++_}
 use lib.ListN.{length, length-append}
 use native.Mathlib.Omega.{arith}
 use borrow.Author.Needs.{needs}
-use Rattle.path.specs.Laws.{four-sane, good-setup}
-use Rattle.path.specs.Geometry.{four}
-use Rattle.model.specs.Calls.{unmapAt}
+use Rattle.path.specs.Geometry.{granuleOf}
+use Rattle.path.specs.Laws.{granule-sane, good-setup}
+use Rattle.model.specs.Calls.{goodPool, unmapTests, unmapAt}
 use Rattle.model.specs.Answers.{pool}
 use Rattle.model.specs.Refusing.{refusing, passed, good-both}
 use Rattle.lookup.specs.Reaches.{reach-good, Came}
@@ -14,17 +16,34 @@ use Rattle.unmaps.proofs.Unmaps.{unmap-bad, unmap-refuses, came-past, c
 use Rattle.unmaps.proofs.unmap.Statement.{statement}
 use Rattle.unmaps.proofs.unmap.Tie as tie
 
--- no test refused, and the walk is done
+-- past the first test the numbers are good
+good : (c : tie.Else1)
+    → let a = c .before .before .before .before .before .args in
+    goodPool (granuleOf (a .s .granule)) (pool (a .s) (a .words .now ++ a .second .now) (length (a .words .now)) (a .list .now)) ≡ true
+good c =
+    let a = c .before .before .before .before .before .args in
+    passed (good-both (granuleOf (a .s .granule)) (a .s) (a .words .now) (a .second .now) (a .list .now) (c .before .good-setup .ensures)) (c .if1 .left)
+
+-- past the second no test refused
+tests : (c : tie.Else2) → let a = c .before .before .before .before .before .before .before .args in unmapTests (granuleOf (a .s .granule)) (a .s .levels) (a .address) ≡ 0
+tests c = sym (c .before .unmap-tests .ensures) ∙ c .if2 .left
+
+-- and the walk is done
 came : (c : tie.After-reach)
     → let a = c .before .before .before .before .before .before .before .before .before .before .before .args in
-    Came four (pool (a .s) (a .words .now ++ a .second .now) (length (a .words .now)) (a .list .now)) 0 (a .address) (c .reach .result) (c .reach .last .1 .1 .1 .1 .1 .0)
+    Came (granuleOf (a .s .granule)) (pool (a .s) (a .words .now ++ a .second .now) (length (a .words .now)) (a .list .now)) 0 (a .address) (c .reach .result) (c .reach .last .1 .1 .1 .1 .1 .0)
 came c =
     let a = c .before .before .before .before .before .before .before .before .before .before .before .args in
-    let g = good-setup {G = four} (passed (good-both (a .s) (a .words .now) (a .second .now) (a .list .now) (c .before .before .before .before .before .before .before .good-setup .ensures)) (c .before .before .before .before .before .before .if1 .left)) in
     record {
-      end = c .reach .ensures .0 ∙ reach-good four (a .s) (a .words .now ++ a .second .now) 0 (a .address) four-sane g (omega arith) (length (a .words .now)) (a .list .now);
+      end = c .reach .ensures .0 ∙ reach-good (granuleOf (a .s .granule)) (a .s) (a .words .now ++ a .second .now) 0 (a .address) (granule-sane (a .s .granule)) (good-setup (good (c .before .before .before .before .before .before))) (omega arith) (length (a .words .now)) (a .list .now);
       place = c .reach .ensures .1;
     }
+
+-- it ended at an entry
+inside : (c : tie.Else3) → let a = c .before .before .before .before .before .before .before .before .before .before .before .before .args in c .before .reach .result / 4 < length (a .words .now ++ a .second .now)
+inside c =
+    let a = c .before .before .before .before .before .before .before .before .before .before .before .before .args in
+    omega (arith, length-append (a .words .now) (a .second .now), c .if3 .left)
 
 good-setup-requires : tie.Need-good-setup-requires
 good-setup-requires c κs = search needs
@@ -35,7 +54,7 @@ unmap-refused-requires c κs = search needs
 returns : tie.Need-returns
 returns c =
     let a = c .before .before .before .before .before .before .args in
-    refusing (a .words .now ++ a .second .now) (length (a .words .now)) (a .list .now) (c .unmap-refused .ensures) ∙ unmap-bad four (pool (a .s) (a .words .now ++ a .second .now) (length (a .words .now)) (a .list .now)) (a .address) (good-both (a .s) (a .words .now) (a .second .now) (a .list .now) (c .before .before .good-setup .ensures)) (c .before .if1 .taken)
+    refusing (a .words .now ++ a .second .now) (length (a .words .now)) (a .list .now) (c .unmap-refused .ensures) ∙ unmap-bad (granuleOf (a .s .granule)) (pool (a .s) (a .words .now ++ a .second .now) (length (a .words .now)) (a .list .now)) (a .address) (good-both (granuleOf (a .s .granule)) (a .s) (a .words .now) (a .second .now) (a .list .now) (c .before .before .good-setup .ensures)) (c .before .if1 .taken)
 
 unmap-tests-requires : tie.Need-unmap-tests-requires
 unmap-tests-requires c κs = search needs
@@ -47,15 +66,13 @@ returns-2 : tie.Need-returns-2
 returns-2 c =
     let a = c .before .before .before .before .before .before .before .before .args in
     refusing (a .words .now ++ a .second .now) (length (a .words .now)) (a .list .now) (c .unmap-refused2 .ensures)
-    ∙ unmap-refuses four (pool (a .s) (a .words .now ++ a .second .now) (length (a .words .now)) (a .list .now)) (a .address) (good-both (a .s) (a .words .now) (a .second .now) (a .list .now) (c .before .before .before .before .good-setup .ensures)) (c .before .before .before .if1 .left) (c .before .before .unmap-tests .ensures) (c .before .if2 .taken)
+    ∙ unmap-refuses (granuleOf (a .s .granule)) (pool (a .s) (a .words .now ++ a .second .now) (length (a .words .now)) (a .list .now)) (a .address) (good-both (granuleOf (a .s .granule)) (a .s) (a .words .now) (a .second .now) (a .list .now) (c .before .before .before .before .good-setup .ensures)) (c .before .before .before .if1 .left) (c .before .before .unmap-tests .ensures) (c .before .if2 .taken)
 
 reach-requires : tie.Need-reach-requires
 reach-requires c κs = search needs
 
 add-if3 : tie.Need-add-if3
-add-if3 c =
-    let a = c .before .before .before .before .before .before .before .before .before .before .before .args in
-    omega (arith, length-append (a .words .now) (a .second .now), good-setup {G = four} (passed (good-both (a .s) (a .words .now) (a .second .now) (a .list .now) (c .before .before .before .before .before .before .before .good-setup .ensures)) (c .before .before .before .before .before .before .if1 .left)))
+add-if3 c = search needs
 
 unmap-refused-requires-3 : tie.Need-unmap-refused-requires-3
 unmap-refused-requires-3 c κs = search needs
@@ -69,20 +86,16 @@ same-length-2 c = search needs
 returns-3 : tie.Need-returns-3
 returns-3 c =
     let a = c .before .before .before .before .before .before .before .before .before .before .before .before .before .args in
-    refusing (a .words .now ++ a .second .now) (length (a .words .now)) (a .list .now) (c .unmap-refused3 .ensures) ∙ came-past (passed (good-both (a .s) (a .words .now) (a .second .now) (a .list .now) (c .before .before .before .before .before .before .before .before .before .good-setup .ensures)) (c .before .before .before .before .before .before .before .before .if1 .left)) (sym (c .before .before .before .before .before .before .before .unmap-tests .ensures) ∙ c .before .before .before .before .before .before .if2 .left) (came (c .before .before)) (omega (arith, length-append (a .words .now) (a .second .now), c .before .if3 .taken))
+    refusing (a .words .now ++ a .second .now) (length (a .words .now)) (a .list .now) (c .unmap-refused3 .ensures) ∙ came-past (good (c .before .before .before .before .before .before .before .before)) (tests (c .before .before .before .before .before .before)) (came (c .before .before)) (omega (arith, length-append (a .words .now) (a .second .now), c .before .if3 .taken))
 
 word-requires : tie.Need-word-requires
 word-requires c κs = search needs
 
-cast-read-word : tie.Need-cast-read-word
-cast-read-word c =
-    let a = c .before .before .before .before .before .before .before .before .before .before .before .before .before .before .before .before .args in
-    omega (arith, good-setup {G = four} (passed (good-both (a .s) (a .words .now) (a .second .now) (a .list .now) (c .before .before .before .before .before .before .before .before .before .before .before .before .good-setup .ensures)) (c .before .before .before .before .before .before .before .before .before .before .before .if1 .left)))
+cast-tables : tie.Need-cast-tables
+cast-tables c = omega (arith, good-setup (good (c .before .before .before .before .before .before .before .before .before .before .before)))
 
-cast-read-word-2 : tie.Need-cast-read-word-2
-cast-read-word-2 c =
-    let a = c .before .before .before .before .before .before .before .before .before .before .before .before .before .before .before .before .before .args in
-    omega (arith, good-setup {G = four} (passed (good-both (a .s) (a .words .now) (a .second .now) (a .list .now) (c .before .before .before .before .before .before .before .before .before .before .before .before .before .good-setup .ensures)) (c .before .before .before .before .before .before .before .before .before .before .before .before .if1 .left)))
+cast-tables2 : tie.Need-cast-tables2
+cast-tables2 c = omega (arith, good-setup (good (c .before .before .before .before .before .before .before .before .before .before .before .before)))
 
 read-word-requires : tie.Need-read-word-requires
 read-word-requires c κs = search needs
@@ -92,15 +105,14 @@ enum-known-e c = search needs
 
 unmap-frame-requires : tie.Need-unmap-frame-requires
 unmap-frame-requires c κs =
-    let a = c .before .before .before .before .before .before .before .before .before .before .before .before .before .before .before .before .before .before .before .before .before .before .before .before .args in
     let k = came (c .before .before .before .before .before .before .before .before .before .before .before .before .before) in
-    ((passed (good-both (a .s) (a .words .now) (a .second .now) (a .list .now) (c .before .before .before .before .before .before .before .before .before .before .before .before .before .before .before .before .before .before .before .before .good-setup .ensures)) (c .before .before .before .before .before .before .before .before .before .before .before .before .before .before .before .before .before .before .before .if1 .left)), (came-left (passed (good-both (a .s) (a .words .now) (a .second .now) (a .list .now) (c .before .before .before .before .before .before .before .before .before .before .before .before .before .before .before .before .before .before .before .before .good-setup .ensures)) (c .before .before .before .before .before .before .before .before .before .before .before .before .before .before .before .before .before .before .before .if1 .left)) (sym (c .before .before .before .before .before .before .before .before .before .before .before .before .before .before .before .before .before .before .unmap-tests .ensures) ∙ c .before .before .before .before .before .before .before .before .before .before .before .before .before .before .before .before .before .if2 .left) k (omega (arith, length-append (a .words .now) (a .second .now), c .before .before .before .before .before .before .before .before .before .before .before .before .if3 .left)), (omega (arith, length-append (a .words .now) (a .second .now), c .before .before .before .before .before .before .before .before .before .before .before .before .if3 .left), k .place (omega (arith, length-append (a .words .now) (a .second .now), c .before .before .before .before .before .before .before .before .before .before .before .before .if3 .left)))))
+    (good (c .before .before .before .before .before .before .before .before .before .before .before .before .before .before .before .before .before .before .before), (came-left (good (c .before .before .before .before .before .before .before .before .before .before .before .before .before .before .before .before .before .before .before)) (tests (c .before .before .before .before .before .before .before .before .before .before .before .before .before .before .before .before .before)) k (inside (c .before .before .before .before .before .before .before .before .before .before .before .before)), (inside (c .before .before .before .before .before .before .before .before .before .before .before .before), k .place (inside (c .before .before .before .before .before .before .before .before .before .before .before .before)))))
 
 enum-told : tie.Need-enum-told
 enum-told c = search needs
 
 unmap-hole-requires : tie.Need-unmap-hole-requires
-unmap-hole-requires c κs = search needs
+unmap-hole-requires c κs = omega (arith, granule-sane (c .before .before .before .before .before .before .before .before .before .before .before .before .before .before .before .before .before .before .before .before .args .s .granule), good-setup (good (c .before .before .before .before .before .before .before .before .before .before .before .before .before .before .before)), came-left (good (c .before .before .before .before .before .before .before .before .before .before .before .before .before .before .before)) (tests (c .before .before .before .before .before .before .before .before .before .before .before .before .before)) (came (c .before .before .before .before .before .before .before .before .before)) (inside (c .before .before .before .before .before .before .before .before)))
 
 enum-told-2 : tie.Need-enum-told-2
 enum-told-2 c = search needs
@@ -125,9 +137,8 @@ same-length-5 c = search needs
 
 returns-4 : tie.Need-returns-4
 returns-4 c =
-    let a = c .before .before .before .before .before .before .before .before .before .before .before .before .before .before .before .before .before .before .before .before .before .before .before .before .before .before .before .before .before .before .before .args in
     c .before .before .before .before .before .before .unmap-frame .ensures
-    ∙ came-at (passed (good-both (a .s) (a .words .now) (a .second .now) (a .list .now) (c .before .before .before .before .before .before .before .before .before .before .before .before .before .before .before .before .before .before .before .before .before .before .before .before .before .before .before .good-setup .ensures)) (c .before .before .before .before .before .before .before .before .before .before .before .before .before .before .before .before .before .before .before .before .before .before .before .before .before .before .if1 .left)) (sym (c .before .before .before .before .before .before .before .before .before .before .before .before .before .before .before .before .before .before .before .before .before .before .before .before .before .unmap-tests .ensures) ∙ c .before .before .before .before .before .before .before .before .before .before .before .before .before .before .before .before .before .before .before .before .before .before .before .before .if2 .left) (came (c .before .before .before .before .before .before .before .before .before .before .before .before .before .before .before .before .before .before .before .before)) (omega (arith, length-append (a .words .now) (a .second .now), c .before .before .before .before .before .before .before .before .before .before .before .before .before .before .before .before .before .before .before .if3 .left)) (c .before .before .before .before .before .before .before .before .before .before .before .before .before .before .before .before .word .ensures) (c .before .before .before .before .before .before .before .before .before .before .before .before .before .read-word .ensures) (c .before .before .before .before .before .before .before .before .before .before .before .e .given .1)
+    ∙ came-at (good (c .before .before .before .before .before .before .before .before .before .before .before .before .before .before .before .before .before .before .before .before .before .before .before .before .before .before)) (tests (c .before .before .before .before .before .before .before .before .before .before .before .before .before .before .before .before .before .before .before .before .before .before .before .before)) (came (c .before .before .before .before .before .before .before .before .before .before .before .before .before .before .before .before .before .before .before .before)) (inside (c .before .before .before .before .before .before .before .before .before .before .before .before .before .before .before .before .before .before .before)) (c .before .before .before .before .before .before .before .before .before .before .before .before .before .before .before .before .word .ensures) (c .before .before .before .before .before .before .before .before .before .before .before .before .before .read-word .ensures) (c .before .before .before .before .before .before .before .before .before .before .before .e .given .1)
 
 same-length-6 : tie.Need-same-length-6
 same-length-6 c = search needs
@@ -140,7 +151,7 @@ unfolding unmapAt
 returns-5 c =
     let a = c .before .before .before .before .before .before .before .before .before .before .before .before .before .before .before .before .before .before .before .before .before .args in
     refusing (a .words .now ++ a .second .now) (length (a .words .now)) (a .list .now) (c .unmap-hole .ensures)
-    ∙ came-at (passed (good-both (a .s) (a .words .now) (a .second .now) (a .list .now) (c .before .before .before .before .before .before .before .before .before .before .before .before .before .before .before .before .before .good-setup .ensures)) (c .before .before .before .before .before .before .before .before .before .before .before .before .before .before .before .before .if1 .left)) (sym (c .before .before .before .before .before .before .before .before .before .before .before .before .before .before .before .unmap-tests .ensures) ∙ c .before .before .before .before .before .before .before .before .before .before .before .before .before .before .if2 .left) (came (c .before .before .before .before .before .before .before .before .before .before)) (omega (arith, length-append (a .words .now) (a .second .now), c .before .before .before .before .before .before .before .before .before .if3 .left)) (c .before .before .before .before .before .before .word .ensures) (c .before .before .before .read-word .ensures) (c .before .enum-told .given .1)
+    ∙ came-at (good (c .before .before .before .before .before .before .before .before .before .before .before .before .before .before .before .before)) (tests (c .before .before .before .before .before .before .before .before .before .before .before .before .before .before)) (came (c .before .before .before .before .before .before .before .before .before .before)) (inside (c .before .before .before .before .before .before .before .before .before)) (c .before .before .before .before .before .before .word .ensures) (c .before .before .before .read-word .ensures) (c .before .enum-told .given .1)
 
 same-length-8 : tie.Need-same-length-8
 same-length-8 c = search needs
@@ -153,7 +164,7 @@ unfolding unmapAt
 returns-6 c =
     let a = c .before .before .before .before .before .before .before .before .before .before .before .before .before .before .before .before .before .before .before .before .before .args in
     refusing (a .words .now ++ a .second .now) (length (a .words .now)) (a .list .now) (c .unmap-refused4 .ensures)
-    ∙ came-at (passed (good-both (a .s) (a .words .now) (a .second .now) (a .list .now) (c .before .before .before .before .before .before .before .before .before .before .before .before .before .before .before .before .before .good-setup .ensures)) (c .before .before .before .before .before .before .before .before .before .before .before .before .before .before .before .before .if1 .left)) (sym (c .before .before .before .before .before .before .before .before .before .before .before .before .before .before .before .unmap-tests .ensures) ∙ c .before .before .before .before .before .before .before .before .before .before .before .before .before .before .if2 .left) (came (c .before .before .before .before .before .before .before .before .before .before)) (omega (arith, length-append (a .words .now) (a .second .now), c .before .before .before .before .before .before .before .before .before .if3 .left)) (c .before .before .before .before .before .before .word .ensures) (c .before .before .before .read-word .ensures) (c .before .enum-told2 .given .1)
+    ∙ came-at (good (c .before .before .before .before .before .before .before .before .before .before .before .before .before .before .before .before)) (tests (c .before .before .before .before .before .before .before .before .before .before .before .before .before .before)) (came (c .before .before .before .before .before .before .before .before .before .before)) (inside (c .before .before .before .before .before .before .before .before .before)) (c .before .before .before .before .before .before .word .ensures) (c .before .before .before .read-word .ensures) (c .before .enum-told2 .given .1)
 
 same-length-10 : tie.Need-same-length-10
 same-length-10 c = search needs
@@ -166,7 +177,7 @@ unfolding unmapAt
 returns-7 c =
     let a = c .before .before .before .before .before .before .before .before .before .before .before .before .before .before .before .before .before .before .before .before .before .args in
     refusing (a .words .now ++ a .second .now) (length (a .words .now)) (a .list .now) (c .unmap-refused5 .ensures)
-    ∙ came-at (passed (good-both (a .s) (a .words .now) (a .second .now) (a .list .now) (c .before .before .before .before .before .before .before .before .before .before .before .before .before .before .before .before .before .good-setup .ensures)) (c .before .before .before .before .before .before .before .before .before .before .before .before .before .before .before .before .if1 .left)) (sym (c .before .before .before .before .before .before .before .before .before .before .before .before .before .before .before .unmap-tests .ensures) ∙ c .before .before .before .before .before .before .before .before .before .before .before .before .before .before .if2 .left) (came (c .before .before .before .before .before .before .before .before .before .before)) (omega (arith, length-append (a .words .now) (a .second .now), c .before .before .before .before .before .before .before .before .before .if3 .left)) (c .before .before .before .before .before .before .word .ensures) (c .before .before .before .read-word .ensures) (c .before .enum-told3 .given .1)
+    ∙ came-at (good (c .before .before .before .before .before .before .before .before .before .before .before .before .before .before .before .before)) (tests (c .before .before .before .before .before .before .before .before .before .before .before .before .before .before)) (came (c .before .before .before .before .before .before .before .before .before .before)) (inside (c .before .before .before .before .before .before .before .before .before)) (c .before .before .before .before .before .before .word .ensures) (c .before .before .before .read-word .ensures) (c .before .enum-told3 .given .1)
 
 pub unmap-spec : {M : Type 1} → statement M
 unmap-spec =
@@ -185,8 +196,8 @@ unmap-spec =
     same-length-2
     returns-3
     word-requires
-    cast-read-word
-    cast-read-word-2
+    cast-tables
+    cast-tables2
     read-word-requires
     enum-known-e
     unmap-frame-requires

@@ -5,8 +5,8 @@ use mathlib.Core.List.{_++_}
 use lib.ListN.{length}
 use native.Mathlib.Omega.{arith}
 use borrow.Author.Needs.{needs}
-use Rattle.path.specs.Laws.{four-sane, good-setup}
-use Rattle.path.specs.Geometry.{four}
+use Rattle.path.specs.Geometry.{granuleOf}
+use Rattle.path.specs.Laws.{granule-sane, good-setup}
 use Rattle.model.specs.Refusing.{refusing}
 use Rattle.unmaps.proofs.Frees.{freed-most}
 use Rattle.unmaps.proofs.Unmaps.{size-known, there-full, there-done, freed-first}
@@ -21,37 +21,37 @@ path-of-requires c κs = search needs
 
 sub-top : tie.Need-sub-top
 sub-top c =
-    let g = good-setup {G = four} (c .before .before .before .before .before .before .pre .0) in
-    omega (arith, g, c .before .before .before .before .before .before .pre .1 .0)
+    let g = good-setup (c .before .before .before .before .before .before .pre .0) in
+    omega (arith, granule-sane (c .before .before .before .before .before .before .args .s .granule), g, c .before .before .before .before .before .before .pre .1 .0)
 
 add-count-freed : tie.Need-add-count-freed
 add-count-freed c =
-    let g = good-setup {G = four} (c .before .before .before .before .before .before .before .before .pre .0) in
-    omega (arith, g, c .before .before .before .before .before .before .before .before .pre .1 .0)
+    let g = good-setup (c .before .before .before .before .before .before .before .before .pre .0) in
+    omega (arith, granule-sane (c .before .before .before .before .before .before .before .before .args .s .granule), g, c .before .before .before .before .before .before .before .before .pre .1 .0)
 
 count-freed-requires : tie.Need-count-freed-requires
 count-freed-requires c κs =
-    let g = good-setup {G = four} (c .before .before .before .before .before .before .before .before .pre .0) in
-    omega (arith, g, c .before .before .before .before .before .before .before .before .pre .1 .0)
+    let g = good-setup (c .before .before .before .before .before .before .before .before .pre .0) in
+    omega (arith, granule-sane (c .before .before .before .before .before .before .before .before .args .s .granule), g, c .before .before .before .before .before .before .before .before .pre .1 .0)
 
 add-given : tie.Need-add-given
 add-given c =
     let a = c .before .before .before .before .before .before .before .before .before .args in
-    let g = good-setup {G = four} (c .before .before .before .before .before .before .before .before .before .pre .0) in
-    omega (arith, g, c .before .before .before .before .before .before .before .before .before .pre .1 .0, c .count-freed .ensures (a .s .tables) (g .numbers .cut-is), freed-most four (a .words .now ++ a .second .now) (a .way) (c .before .before .before .before .path-of .result) (a .left + 1) (a .s .levels - 1 - (a .left + 1)))
+    let g = good-setup (c .before .before .before .before .before .before .before .before .before .pre .0) in
+    omega (arith, granule-sane (a .s .granule), g, c .before .before .before .before .before .before .before .before .before .pre .1 .0, c .count-freed .ensures (a .s .tables) (g .numbers .cut-is), freed-most (granuleOf (a .s .granule)) (a .words .now ++ a .second .now) (a .way) (c .before .before .before .before .path-of .result) (a .left + 1) (a .s .levels - 1 - (a .left + 1)))
 
 add-free : tie.Need-add-free
 add-free c =
     let a = c .before .before .before .before .before .before .before .before .before .before .args in
-    let g = good-setup {G = four} (c .before .before .before .before .before .before .before .before .before .before .pre .0) in
-    omega (arith, g, c .before .before .before .before .before .before .before .before .before .before .pre .1 .0, c .before .count-freed .ensures (a .s .tables) (g .numbers .cut-is), freed-most four (a .words .now ++ a .second .now) (a .way) (c .before .before .before .before .before .path-of .result) (a .left + 1) (a .s .levels - 1 - (a .left + 1)))
+    let g = good-setup (c .before .before .before .before .before .before .before .before .before .before .pre .0) in
+    omega (arith, granule-sane (a .s .granule), g, c .before .before .before .before .before .before .before .before .before .before .pre .1 .0, c .before .count-freed .ensures (a .s .tables) (g .numbers .cut-is), freed-most (granuleOf (a .s .granule)) (a .words .now ++ a .second .now) (a .way) (c .before .before .before .before .before .path-of .result) (a .left + 1) (a .s .levels - 1 - (a .left + 1)))
 
 add-most : tie.Need-add-most
-add-most c = omega (arith, good-setup {G = four} (c .before .before .before .before .before .before .before .before .before .before .before .pre .0))
+add-most c = omega (arith, good-setup (c .before .before .before .before .before .before .before .before .before .before .before .pre .0))
 
 sub-most : tie.Need-sub-most
 sub-most c =
-    let g = good-setup {G = four} (c .before .before .before .before .before .before .before .before .before .before .before .pre .0) in
+    let g = good-setup (c .before .before .before .before .before .before .before .before .before .before .before .pre .0) in
     omega (arith, g, c .before .before .before .before .before .before .before .before .before .before .before .pre .1 .0)
 
 unmap-refused-requires : tie.Need-unmap-refused-requires
@@ -66,15 +66,15 @@ same-length-2 c = search needs
 returns : tie.Need-returns
 returns c =
     let a = c .before .before .before .before .before .before .before .before .before .before .before .before .before .args in
-    let g = good-setup {G = four} (c .before .before .before .before .before .before .before .before .before .before .before .before .before .pre .0) in
+    let g = good-setup (c .before .before .before .before .before .before .before .before .before .before .before .before .before .pre .0) in
     refusing (a .words .now ++ a .second .now) (length (a .words .now)) (a .list .now) (c .unmap-refused .ensures)
-    ∙ there-full four (a .s) (a .words .now ++ a .second .now) (length (a .words .now)) (a .list .now) (a .address) (a .frame) (a .attributes) (a .left) (a .way) (c .before .before .before .before .before .before .before .before .before .before .before .before .before .pre .1 .1 .0) (size-known four-sane g (omega (arith, c .before .before .before .before .before .before .before .before .before .before .before .before .before .pre .1 .0)) (c .before .before .before .before .before .before .before .before .before .size-at .ensures)) (c .before .before .before .before .before .before .before .before .path-of .ensures) (freed-first four (a .words .now ++ a .second .now) (a .way) (a .address) (a .left) (a .s .levels - 1) (c .before .before .before .before .before .before .before .before .path-of .ensures) (c .before .before .before .before .before .before .before .before .before .before .before .before .before .pre .1 .0) (c .before .before .before .before .before .before .before .before .before .before .before .before .before .pre .1 .1 .1) (c .before .before .before .before .count-freed .ensures (a .s .tables) (g .numbers .cut-is))) (c .before .if1 .taken)
+    ∙ there-full (granuleOf (a .s .granule)) (a .s) (a .words .now ++ a .second .now) (length (a .words .now)) (a .list .now) (a .address) (a .frame) (a .attributes) (a .left) (a .way) (c .before .before .before .before .before .before .before .before .before .before .before .before .before .pre .1 .1 .0) (size-known (granule-sane (a .s .granule)) g (omega (arith, c .before .before .before .before .before .before .before .before .before .before .before .before .before .pre .1 .0)) (c .before .before .before .before .before .before .before .before .before .size-at .ensures)) (c .before .before .before .before .before .before .before .before .path-of .ensures) (freed-first (granuleOf (a .s .granule)) (a .words .now ++ a .second .now) (a .way) (a .address) (a .left) (a .s .levels - 1) (c .before .before .before .before .before .before .before .before .path-of .ensures) (c .before .before .before .before .before .before .before .before .before .before .before .before .before .pre .1 .0) (c .before .before .before .before .before .before .before .before .before .before .before .before .before .pre .1 .1 .1) (c .before .before .before .before .count-freed .ensures (a .s .tables) (g .numbers .cut-is))) (c .before .if1 .taken)
 
 unmap-plan-requires : tie.Need-unmap-plan-requires
 unmap-plan-requires c κs =
     let a = c .before .before .before .before .before .before .before .before .before .before .before .before .args in
-    let g = good-setup {G = four} (c .before .before .before .before .before .before .before .before .before .before .before .before .pre .0) in
-    omega (arith, g, c .before .before .before .before .before .before .before .before .before .before .before .before .pre .1 .0, c .before .before .before .count-freed .ensures (a .s .tables) (g .numbers .cut-is), freed-most four (a .words .now ++ a .second .now) (a .way) (c .before .before .before .before .before .before .before .path-of .result) (a .left + 1) (a .s .levels - 1 - (a .left + 1)))
+    let g = good-setup (c .before .before .before .before .before .before .before .before .before .before .before .before .pre .0) in
+    omega (arith, granule-sane (a .s .granule), g, c .before .before .before .before .before .before .before .before .before .before .before .before .pre .1 .0, c .before .before .before .count-freed .ensures (a .s .tables) (g .numbers .cut-is), freed-most (granuleOf (a .s .granule)) (a .words .now ++ a .second .now) (a .way) (c .before .before .before .before .before .before .before .path-of .result) (a .left + 1) (a .s .levels - 1 - (a .left + 1)))
 
 write-all-requires : tie.Need-write-all-requires
 write-all-requires c κs = search needs
@@ -94,13 +94,13 @@ same-length-5 c = search needs
 returns-2 : tie.Need-returns-2
 returns-2 c =
     let a = c .before .before .before .before .before .before .before .before .before .before .before .before .before .before .before .before .before .before .before .before .before .before .before .before .args in
-    let g = good-setup {G = four} (c .before .before .before .before .before .before .before .before .before .before .before .before .before .before .before .before .before .before .before .before .before .before .before .before .pre .0) in
-    there-done four (a .s) (a .words .now ++ a .second .now) (length (a .words .now)) (a .list .now) (a .address) (a .frame) (a .attributes) (a .left) (a .way) (c .before .before .before .before .before .before .before .before .before .before .before .before .before .before .before .before .before .before .before .before .before .before .before .before .pre .1 .1 .0) (size-known four-sane g (omega (arith, c .before .before .before .before .before .before .before .before .before .before .before .before .before .before .before .before .before .before .before .before .before .before .before .before .pre .1 .0)) (c .before .before .before .before .before .before .before .before .before .before .before .before .before .before .before .before .before .before .before .before .size-at .ensures)) (c .before .before .before .before .before .before .before .before .before .before .before .before .before .before .before .before .before .before .before .path-of .ensures) (freed-first four (a .words .now ++ a .second .now) (a .way) (a .address) (a .left) (a .s .levels - 1) (c .before .before .before .before .before .before .before .before .before .before .before .before .before .before .before .before .before .before .before .path-of .ensures) (c .before .before .before .before .before .before .before .before .before .before .before .before .before .before .before .before .before .before .before .before .before .before .before .before .pre .1 .0) (c .before .before .before .before .before .before .before .before .before .before .before .before .before .before .before .before .before .before .before .before .before .before .before .before .pre .1 .1 .1) (c .before .before .before .before .before .before .before .before .before .before .before .before .before .before .before .count-freed .ensures (a .s .tables) (g .numbers .cut-is)))
+    let g = good-setup (c .before .before .before .before .before .before .before .before .before .before .before .before .before .before .before .before .before .before .before .before .before .before .before .before .pre .0) in
+    there-done (granuleOf (a .s .granule)) (a .s) (a .words .now ++ a .second .now) (length (a .words .now)) (a .list .now) (a .address) (a .frame) (a .attributes) (a .left) (a .way) (c .before .before .before .before .before .before .before .before .before .before .before .before .before .before .before .before .before .before .before .before .before .before .before .before .pre .1 .1 .0) (size-known (granule-sane (a .s .granule)) g (omega (arith, c .before .before .before .before .before .before .before .before .before .before .before .before .before .before .before .before .before .before .before .before .before .before .before .before .pre .1 .0)) (c .before .before .before .before .before .before .before .before .before .before .before .before .before .before .before .before .before .before .before .before .size-at .ensures)) (c .before .before .before .before .before .before .before .before .before .before .before .before .before .before .before .before .before .before .before .path-of .ensures) (freed-first (granuleOf (a .s .granule)) (a .words .now ++ a .second .now) (a .way) (a .address) (a .left) (a .s .levels - 1) (c .before .before .before .before .before .before .before .before .before .before .before .before .before .before .before .before .before .before .before .path-of .ensures) (c .before .before .before .before .before .before .before .before .before .before .before .before .before .before .before .before .before .before .before .before .before .before .before .before .pre .1 .0) (c .before .before .before .before .before .before .before .before .before .before .before .before .before .before .before .before .before .before .before .before .before .before .before .before .pre .1 .1 .1) (c .before .before .before .before .before .before .before .before .before .before .before .before .before .before .before .count-freed .ensures (a .s .tables) (g .numbers .cut-is)))
     (c .before .before .before .before .before .before .before .before .before .before .before .before .if1 .left)
     (c .before .before .before .before .before .before .before .before .before .before .before .unmap-plan .result)
     (c .before .before .before .before .before .before .before .before .before .before .before .unmap-plan .ensures)
     (c .before .before .before .before .before .before .before .write-all .ensures (a .s .tables) (g .numbers .cut-is))
-    (c .before .before .before .before .before .before .before .write-all .kept .0)
+    (c .before .before .before .before .before .before .before .write-all .kept .1 .0)
     (c .with-free .ensures)
 
 pub unmap-more-spec : {M : Type 1} → statement M

@@ -1,16 +1,16 @@
 -- `unmaps::unmap_plan`: the steps so far and the writes still to come are those of the unmap.
 use Prim.Native.Nat.{_-_}
 use native.Mathlib.Omega.{arith}
-use Rattle.path.specs.Geometry.{four}
+use Rattle.path.specs.Geometry.{granuleOf}
 use Rattle.unmaps.proofs.Prunes.{Pruning, pruning-start, pruning-next, pruning-end}
 use Rattle.unmaps.proofs.unmap_plan.Statement.{statement}
 use Rattle.unmaps.proofs.unmap_plan.Tie as tie
 
 abbrev Inv-loop : tie.InvT-loop
-Inv-loop left free given way path plan₀ at place k₀ plan k = Pruning four way path left free given plan k
+Inv-loop granule left free given way path plan₀ at place k₀ plan k = Pruning (granuleOf granule) way path left free given plan k
 
 abbrev μ-loop : tie.MeasureT-loop
-μ-loop left free given way path plan₀ at place k₀ plan k = given - k
+μ-loop granule left free given way path plan₀ at place k₀ plan k = given - k
 
 sub-at : tie.Need-sub-at Inv-loop μ-loop
 sub-at c = omega arith
@@ -36,7 +36,7 @@ array-set-from-plan c = omega arith
 loop-holds : tie.Need-loop-holds Inv-loop μ-loop
 loop-holds c =
     let a = c .before .args in
-    pruning-start four (a .t1) (a .t2) (a .left) (a .free) (a .given) (c .entry-place .ensures)
+    pruning-start (granuleOf (a .granule)) (a .t2) (a .t3) (a .left) (a .free) (a .given) (c .entry-place .ensures)
 
 add-at : tie.Need-add-at Inv-loop μ-loop
 add-at c = omega arith

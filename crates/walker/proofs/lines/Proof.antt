@@ -6,10 +6,10 @@ use Rattle.walker.proofs.lines.Statement.{statement}
 use Rattle.walker.proofs.lines.Tie as tie
 
 abbrev Inv-loop : tie.InvT-loop
-Inv-loop title addresses words levels i₀ i = i ≤ length addresses
+Inv-loop title addresses granule words levels i₀ i = i ≤ length addresses
 
 abbrev μ-loop : tie.MeasureT-loop
-μ-loop title addresses words levels i₀ i = length addresses - i
+μ-loop title addresses granule words levels i₀ i = length addresses - i
 
 title-requires : tie.Need-title-requires Inv-loop μ-loop
 title-requires c κs = search needs

@@ -5,10 +5,10 @@ use Rattle.cases.proofs.calls.same.Statement.{statement}
 use Rattle.cases.proofs.calls.same.Tie as tie
 
 abbrev Inv-loop : tie.InvT-loop
-Inv-loop line told i₀ i = i ≤ 11
+Inv-loop line told i₀ i = i ≤ 12
 
 abbrev μ-loop : tie.MeasureT-loop
-μ-loop line told i₀ i = 11 - i
+μ-loop line told i₀ i = 12 - i
 
 loop-holds : tie.Need-loop-holds Inv-loop μ-loop
 loop-holds c = search needs
