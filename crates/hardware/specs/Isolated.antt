@@ -14,7 +14,7 @@ use Rattle.path.specs.Areas.{Area, areaOf, total, InArea}
 use Rattle.path.specs.Laws.{four-sane}
 use Rattle.path.specs.Numbers.{goodNumbers}
 use Rattle.path.specs.declared.Setup.{Setup}
-use Rattle.model.specs.Answers.{Mapping, mapping, formatted, took, gave, refused, Pool}
+use Rattle.model.specs.Answers.{Mapping, mapping, formatted, took, gave, refused, accepts, Pool}
 use Rattle.model.specs.Writes.{Write, performAll}
 use Rattle.model.specs.Calls.{mapTests, unmapTests}
 use Rattle.model.specs.Adds.{lent}
@@ -24,7 +24,7 @@ use Rattle.demand.specs.Holds.{Holds}
 use Rattle.demand.specs.Sims.{holds-sim, sim-holds}
 use Rattle.demand.specs.Theorem.{after-sim, step-holds}
 use Rattle.demand.specs.Demand3.{Call, formatC, addC, mapC, unmapC, askC, auditC, stepW, stepL, poolAfter, ledgerAfter}
-use Rattle.hardware.specs.Machine.{Translation, saysOf, told, stage2, Stands, writesOf, accepts, memoryOf, wordsAfter, visible, AtOnce, Machine}
+use Rattle.hardware.specs.Machine.{Translation, saysOf, told, stage2, Stands, writesOf, memoryOf, wordsAfter, visible, AtOnce, Machine}
 use Rattle.hardware.specs.Theorem.{promise}
 use Rattle.hardware.specs.Views.{add-live}
 use Rattle.hardware.specs.Isolation.{Reaches, During, OffOwn, OffLater, Sealed, Held, InFrame, OffBoth, KeptApart, OffOther, Apart, Isolation}

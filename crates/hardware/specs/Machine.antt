@@ -22,7 +22,7 @@ use Rattle.path.specs.Areas.{Area, areaOf, total, tableAt}
 use Rattle.path.specs.Paths.{pathOf}
 use Rattle.path.specs.declared.Setup.{Setup}
 use Rattle.entry.specs.Words.{frameWord}
-use Rattle.model.specs.Answers.{Mapping, mapping, Answer, answered, refusal, Pool}
+use Rattle.model.specs.Answers.{Mapping, mapping, Answer, accepts, tablesIn, Pool}
 use Rattle.model.specs.Walk.{slot, atHeight}
 use Rattle.model.specs.Writes.{Write, store, wipe, give, memory, performAll, mapWrites, unmapWrites}
 use Rattle.model.specs.Calls.{walkTo}
@@ -278,21 +278,6 @@ single G (give i t) = give i t ∷ []
 unfoldable pub singles : Granule → List Write → List Write
 singles G [] = []
 singles G (w ∷ ws) = single G w ++ singles G ws
-
--- whether an answer is no refusal
-abbrev pub accepts : Answer → Bool
-accepts (answered values) = true
-accepts (refusal k values) = false
-
--- the tables that map or unmap says it took or gave back: the last of the values that it answers
-abbrev pub lastOf : List ℕ → ℕ
-lastOf [] = 0
-lastOf (x ∷ []) = x
-lastOf (x ∷ y ∷ l) = lastOf (y ∷ l)
-
-abbrev pub tablesIn : Answer → ℕ
-tablesIn (answered values) = lastOf values
-tablesIn (refusal k values) = 0
 
 -- the single writes of an accepted call that takes or gives back t tables
 abbrev pub plan : Granule → Pool → Call → ℕ → List Write

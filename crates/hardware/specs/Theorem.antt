@@ -14,7 +14,7 @@ use Rattle.path.specs.Geometry.{Granule, Sane, entries, four}
 use Rattle.path.specs.Areas.{Area, areaOf, total, tableAt, GoodArea}
 use Rattle.path.specs.Laws.{four-sane}
 use Rattle.path.specs.Numbers.{GoodNumbers}
-use Rattle.model.specs.Answers.{Mapping, mapping, Answer, Pool, Done}
+use Rattle.model.specs.Answers.{Mapping, mapping, Answer, accepts, tablesIn, Pool, Done}
 use Rattle.model.specs.Walk.{slot}
 use Rattle.model.specs.Writes.{Write, Memory, memory, performAll}
 use Rattle.model.specs.Ledger.{Ledger, coverOf, dropAt, freeTables}
@@ -31,7 +31,7 @@ use Rattle.demand.specs.Queries.{n, k₀, X, R, own, ledger-is, root-at}
 use Rattle.demand.specs.Maps.{own-sim}
 use Rattle.demand.specs.Theorem.{step-alike, after-sim}
 use Rattle.demand.specs.Demand3.{Call, formatC, addC, mapC, unmapC, askC, askW, goBack, stepW, stepL}
-use Rattle.hardware.specs.Machine.{told, Stands, Reads, zerosFrom, placesFrom, placesAbove, accepts, tablesIn, plan, writesOf, writtenTo, memoryOf, wordsAfter, visible}
+use Rattle.hardware.specs.Machine.{told, Stands, Reads, zerosFrom, placesFrom, placesAbove, plan, writesOf, writtenTo, memoryOf, wordsAfter, visible}
 use Rattle.hardware.specs.Machine.{AtOnce, concerns, Machine, Promise}
 use Rattle.hardware.specs.Trees.{Within, within-same}
 use Rattle.hardware.specs.Plans.{Each, each-append, each-take, each-visible, each-zeros, Beyond, beyond-leave, places-beyond, left, Sound, Clears, clears-sound, places-clear}

@@ -20,7 +20,7 @@ use Rattle.entry.specs.Words.{frameWord}
 use Rattle.entry.specs.declared.Entry.{Entry}
 use Rattle.entry.specs.declared.Entry.the-variants.{Empty, Table, Frame, Damaged}
 use Rattle.model.specs.declared.Walked.{Walked}
-use Rattle.model.specs.Answers.{Mapping, mapping, formatted, added, took, gave, refusal, refused, Pool, pool, Done, done, refuse}
+use Rattle.model.specs.Answers.{Mapping, mapping, formatted, added, took, gave, refusal, refused, accepts, tablesIn, Pool, pool, Done, done, refuse}
 use Rattle.model.specs.Walk.{atHeight}
 use Rattle.model.specs.Writes.{Write, memory, performAll, mapWrites, mayTake, freed, unmapWrites}
 use Rattle.model.specs.Calls.{goodPool, written, walkTo, formatW, mapTests, mapHere, mapAt, mapW, unmapTests, unmapHere, unmapAt, unmapW}
@@ -30,7 +30,7 @@ use Rattle.model.specs.Audit.{noneInside}
 use Rattle.model.specs.Adds.{lent, grown, addW}
 use Rattle.model.specs.AddLaws.{AddView, add-grows, add-refuses, add-view, may-add}
 use Rattle.demand.specs.Demand3.{Call, formatC, addC, mapC, unmapC, askC, askW, goOn, goBack, stepW}
-use Rattle.hardware.specs.Machine.{zerosFrom, placesFrom, placesAbove, accepts, tablesIn, plan, writesOf, writtenTo, memoryOf}
+use Rattle.hardware.specs.Machine.{zerosFrom, placesFrom, placesAbove, plan, writesOf, writtenTo, memoryOf}
 use Rattle.hardware.specs.Plans.{Each, InRange, perform-append, zeros-carried, singles-carried, places-carried, above-carried, map-range, prune-range}
 
 -- the single writes of a call that came to d

@@ -21,3 +21,6 @@ pub mod DescentLaws
 pub mod Refusals
 pub mod RefusalLaws
 pub mod LeftLaws
+pub mod Ranges
+pub mod RangeLaws
+pub mod RangeWalks
