@@ -21,6 +21,8 @@ pub mod DescentLaws
 pub mod Refusals
 pub mod RefusalLaws
 pub mod LeftLaws
+pub mod WordLaws
 pub mod Ranges
 pub mod RangeLaws
 pub mod RangeWalks
+pub mod RangeMapped

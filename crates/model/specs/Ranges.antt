@@ -92,12 +92,18 @@ probe a o = record { at = a; end = o }
 abbrev pub walkFor : Granule → Pool → Mapping → Walked
 walkFor G p m = walkTo G p (heightOf G (m .size)) (m .at)
 
+abbrev pub pieceWalk : Granule → Pool → Mapping → Probe
+pieceWalk G p m = probe (m .at) (walkFor G p m)
+
 abbrev pub pieceWalks : Granule → Pool → List Mapping → List Probe
-pieceWalks G p ms = map (λ m. probe (m .at) (walkFor G p m)) ms
+pieceWalks G p ms = map (pieceWalk G p) ms
 
 -- a page's walk is that of unmap, to the last level
+abbrev pub pageWalk : Granule → Pool → ℕ → Probe
+pageWalk G p x = probe x (walkTo G p 0 x)
+
 abbrev pub pageWalks : Granule → Pool → List ℕ → List Probe
-pageWalks G p xs = map (λ x. probe x (walkTo G p 0 x)) xs
+pageWalks G p xs = map (pageWalk G p) xs
 
 -- some walk ends at such an entry
 unfoldable pub anyEnds : (Entry → Bool) → List Probe → Bool

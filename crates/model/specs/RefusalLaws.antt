@@ -308,7 +308,7 @@ module _ (levels x : ℕ) where
 -- ---- the free list
 
 -- one place further from the end of the list
-further : (list : List ℕ) (free j : ℕ) → taken list (free - 1) j ≡ taken list free (suc j)
+pub further : (list : List ℕ) (free j : ℕ) → taken list (free - 1) j ≡ taken list free (suc j)
 further list free j = ap (λ (i : ℕ). getD list i 0) (omega arith)
 
 module _ (list : List ℕ) (n : ℕ) where
