@@ -26,3 +26,4 @@ pub mod Ranges
 pub mod RangeLaws
 pub mod RangeWalks
 pub mod RangeMapped
+pub mod RangeCases
