@@ -14,6 +14,7 @@ use Rattle.model.specs.Audit.{auditW, freeOf}
 use Rattle.model.specs.Adds.{lent, addW}
 use Rattle.model.specs.Sound.{reachedOf}
 use Rattle.model.specs.Ledger.{Ledger, region, regionsNeeded, freeTables, Entered, entered, formatL, addL, queryL, mapL, unmapL, auditL}
+use Rattle.model.specs.Ranges.{mapRangeW, unmapRangeW, mapRangeL, unmapRangeL}
 use Rattle.model.specs.Holes.{IsHole}
 use Rattle.laws.specs.Lists.{Distinct}
 use Rattle.demand.specs.Holds.{Holds}
@@ -34,6 +35,10 @@ pub data Call : Type 0 where
   mapC : ℕ → ℕ → ℕ → ℕ → Call
   -- address
   unmapC : ℕ → Call
+  -- address, frame base, length, attributes
+  mapRangeC : ℕ → ℕ → ℕ → ℕ → Call
+  -- address, length
+  unmapRangeC : ℕ → ℕ → Call
   askC : Ask → Call
 
 abbrev pub queryC : ℕ → Call
@@ -67,6 +72,8 @@ stepW G p (formatC l r) = let d = formatW G l r (p .words) (p .cut) (p .list) in
 stepW G p (addC q m second rest) = let d = addW G (lent p second rest) q m in goBack p d (d .answer)
 stepW G p (mapC a b s k) = mapW G p a b s k
 stepW G p (unmapC a) = unmapW G p a
+stepW G p (mapRangeC a b l k) = mapRangeW G p a b l k
+stepW G p (unmapRangeC a l) = unmapRangeW G p a l
 stepW G p (askC q) = done (askW G p q) p
 
 -- one call on a ledger
@@ -75,6 +82,8 @@ stepL G A (formatC l r) = formatL G A l r
 stepL G A (addC q m second rest) = addL G A q m (length second) (freeTables G A + length rest)
 stepL G A (mapC a b s k) = mapL G A a b s k
 stepL G A (unmapC a) = unmapL G A a
+stepL G A (mapRangeC a b l k) = mapRangeL G A a b l k
+stepL G A (unmapRangeC a l) = unmapRangeL G A a l
 stepL G A (askC q) = entered (askL G A q) A
 
 -- a sequence of calls: the answers, and what is left

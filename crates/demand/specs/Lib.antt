@@ -9,6 +9,10 @@ pub mod Sims
 pub mod Queries
 pub mod Maps
 pub mod Unmaps
+pub mod Steps
+pub mod RangeWays
+pub mod RangeMaps
+pub mod RangeUnmaps
 pub mod Others
 pub mod Demand3
 pub mod Adds

@@ -246,7 +246,7 @@ tiles-inside {a = a} (piece {h = h} F most t) m i =
 -- ---- each piece passes map's tests
 
 -- a part of bytes that share none with the tables shares none
-part-outside : {G : Granule} {area : Area} {b len c size : ℕ} → (¬ areas.Shares G area b len) → b ≤ c → c + size ≤ b + len → ¬ areas.Shares G area c size
+pub part-outside : {G : Granule} {area : Area} {b len c size : ℕ} → (¬ areas.Shares G area b len) → b ≤ c → c + size ≤ b + len → ¬ areas.Shares G area c size
 part-outside f l r S = f (record { byte = S .byte; starts = omega (arith, S .starts); ends = omega (arith, S .ends); inside = S .inside })
 
 pub fits-tests : (G : Granule) → Sane G → (levels : ℕ) (area : Area) (a b left h k : ℕ) → Fits G a b left h → k < 16 → a + left ≤ spaceOf G levels
