@@ -29,6 +29,7 @@ use Rattle.model.specs.Holes.{Within, Shares}
 use Rattle.model.specs.DescentLaws.{clash}
 use Rattle.model.specs.Unique.{found-same}
 use Rattle.model.specs.Ranges.{unmapRangeTests, pagesFrom, pagesOf, Probe, pageWalk, pageWalks, spoiled, inside, cutAt, anyCutBy, answersOf, leftBy, sumOf, acceptedIn, refusesWith, anyRefused, unmapRangeHere, unmapRangeAt, unmapRangeW, anyCut, dropIn, clearOf, unmapRangeL}
+use Rattle.model.specs.RangeUnmapped.{unmap-tests}
 use Rattle.model.specs.RangeLaws.{page-next, pages-from, pages-has, FineUnmap, unmap-fine, Clear, inside-so, cut-clear, cut-some, dropped-from, drop-absent, drop-none, drop-step, false-or}
 use Rattle.tree.specs.Region.{anc, page}
 use Rattle.tree.specs.Inv.{Mapping, mapping}
@@ -79,11 +80,6 @@ unmap-free G p x = go (goodPool G p) (eqb (unmapTests G (p .numbers .levels) x) 
     go true true e = at e
     go true false e = omega arith
     go false z e = omega arith
-
--- an address that passes its tests
-unmap-tests : (G : Granule) (levels x : ℕ) → x < spaceOf G levels → x % pageSize G ≡ 0 → unmapTests G levels x ≡ 0
-unfolding unmapTests
-unmap-tests G levels x l e = rw (lt-leb (spaceOf G levels) x l, eq-eqb _ _ e) refl
 
 within-holds : (x : ℕ) (m : answers.Mapping) → Within x m → holdsAddress x m ≡ true
 within-holds x m w = true-and (le-leb _ _ (w .0)) (lt-ltb _ _ (w .1))

@@ -18,8 +18,7 @@ use Rattle.model.specs.Answers.{Answer, formatted, added, took, gave, cleared, 
 use Rattle.model.specs.Calls.{walkTo, formatW, queryW, mapTests, mapAt, mapW, unmapTests, unmapAt, unmapW}
 use Rattle.model.specs.Audit.{auditW, noneInside}
 use Rattle.model.specs.Sound.{mappingsOf}
-use Rattle.model.specs.Ledger.{Ledger, ledger, withLive, anyOverlap, coverOf, dropAt, freeTables, tablesLacking, Entered, entered, formatL, addL, queryOf, queryL, mapL, unmapOf, unmapL, auditL}
-use Rattle.model.specs.Ledger.{tablesNeeded}
+use Rattle.model.specs.Ledger.{Ledger, ledger, withLive, anyOverlap, coverOf, dropAt, tablesNeeded, freeTables, tablesLacking, Entered, entered, formatL, addL, queryOf, queryL, mapL, unmapOf, unmapL, auditL}
 use Rattle.model.specs.Ranges.{goodLength, mapRangeTests, unmapRangeTests, pieces, gain, gainOf, mapRangeL, anyCut, dropIn, clearOf, unmapRangeL}
 use Rattle.demand.specs.Holds.{Holds}
 use Rattle.demand.specs.Sims.{Sim, holds-sim, sim-holds}

@@ -26,4 +26,6 @@ pub mod Ranges
 pub mod RangeLaws
 pub mod RangeWalks
 pub mod RangeMapped
+pub mod RangeUnmapped
+pub mod RangeLeft
 pub mod RangeCases

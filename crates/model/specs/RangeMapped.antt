@@ -817,7 +817,7 @@ pub data MapRangeView (G : Granule) (p : Pool) (a b len k : ℕ) : Done → Type
   range-refuses : (j : ℕ) → MapRangeView G p a b len k (refuse j p)
 
 -- a test chooses between two
-chosen : (P : Done → Type 0) (y : Bool) (d e : Done) → (y ≡ true → P d) → (y ≡ false → P e) → P (cond y d e)
+pub chosen : (P : Done → Type 0) (y : Bool) (d e : Done) → (y ≡ true → P d) → (y ≡ false → P e) → P (cond y d e)
 chosen P true d e f g = f refl
 chosen P false d e f g = g refl
 

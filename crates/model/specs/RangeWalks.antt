@@ -328,22 +328,42 @@ module _ {G : Granule} {area : Area} {ws : List ℕ} {target : ℕ} {path : List
       named : readBy G area new path (suc s) (E .table) ≡ Table c
       named = ap (readBy G area new path (suc s)) (sym stopped-last ∙ ap (atHeight (o .tables)) z) ∙ r
 
-  -- where an entry on the way becomes empty, and those above it stay, the walk ends there
-  pub stopped-cut : (new : List ℕ) (e : ℕ) → target ≤ o .left → (a : o .left ≤ e) (b : e ≤ h)
-      → ((j : ℕ) → e < j → j ≤ h → Says new path j)
-      → readBy G area new path e (atHeight (o .tables) e) ≡ Empty
-      → let T = stopped-through e a b in Stopped G area new target path h way t (stop Empty e (set (T .mid) (3 - e) (T .table)))
-  stopped-cut new e m a b f q =
-      let T = stopped-through e a b in
-      record {
-        seen = T .mid;
-        table = T .table;
-        came = came-moved (T .above) new target path l four (omega arith)
-            (λ j u v. subst (λ (x : ℕ). readBy G area new path j x ≡ readBy G area ws path j x) (stopped-above j (omega arith) (omega arith) ∙ came-kept (T .below) j u (omega arith)) (f j u v));
-        tables-are = refl;
-        reads = ap (readBy G area new path e) (sym (through-table e a b)) ∙ q;
-        last = λ d w. clash (cc);
+  -- where an entry on the way becomes empty, and those above it stay, the walk ends there, with the same tables down to it
+  pub record Shorter (new : List ℕ) (e : ℕ) : Type 0 where
+    pub end : Walked
+    pub stops-there : Stopped G area new target path h way t end
+    pub empty : end .entry ≡ Empty
+    pub left-is : end .left ≡ e
+    pub same : (j : ℕ) → e ≤ j → j ≤ h → atHeight (end .tables) j ≡ atHeight (o .tables) j
+
+  pub stopped-cut : (new : List ℕ) (e : ℕ) → target ≤ o .left → o .left ≤ e → e ≤ h → ((j : ℕ) → e < j → j ≤ h → Says new path j)
+      → readBy G area new path e (atHeight (o .tables) e) ≡ Empty → Shorter new e
+  stopped-cut new e m a b f q = from (stopped-through e a b) (through-table e a b)
+    where
+      from : (T : Through G area ws target path h way t e (o .left) (E .seen) (E .table)) → atHeight (o .tables) e ≡ T .table → Shorter new e
+      from T z = record {
+        end = stop Empty e (set (T .mid) (3 - e) (T .table));
+        stops-there = record {
+          seen = T .mid;
+          table = T .table;
+          came = came-moved (T .above) new target path l four (omega arith) (λ j u v. subst (λ (x : ℕ). readBy G area new path j x ≡ readBy G area ws path j x) (above j u v) (f j u v));
+          tables-are = refl;
+          reads = ap (readBy G area new path e) (sym z) ∙ q;
+          last = λ d w. clash (cc);
+        };
+        empty = refl;
+        left-is = refl;
+        same = λ j u v. on j u v (ℕ-discrete e j);
       }
+        where
+          above : (j : ℕ) → e < j → j ≤ h → atHeight (o .tables) j ≡ atHeight (T .mid) j
+          above j u v = stopped-above j (omega arith) (omega arith) ∙ came-kept (T .below) j u (omega arith)
+
+          on : (j : ℕ) → e ≤ j → j ≤ h → Dec (e ≡ j) → atHeight (set (T .mid) (3 - e) (T .table)) j ≡ atHeight (o .tables) j
+          on j u v (yes y) =
+              ap (atHeight (set (T .mid) (3 - e) (T .table))) (sym y) ∙ getD-set-same (T .mid) (3 - e) (T .table) 0 (omega (arith, came-long (T .above), four))
+              ∙ sym z ∙ ap (atHeight (o .tables)) y
+          on j u v (no y) = getD-set-other (T .mid) (3 - e) (3 - j) (T .table) 0 (λ w. omega arith) ∙ sym (above j (omega arith) v)
 
 -- ---- the walks of a pool
 
