@@ -10,11 +10,11 @@ pub mod Queries
 pub mod Maps
 pub mod Unmaps
 pub mod Steps
+pub mod Demand3
 pub mod RangeWays
 pub mod RangeMaps
 pub mod RangeUnmaps
 pub mod Others
-pub mod Demand3
 pub mod Adds
 pub mod Rest
 pub mod Theorem

@@ -9,7 +9,7 @@ use native.Mathlib.Omega.{arith}
 use native.Mathlib.Decide.{ℕ-discrete}
 use lib.Dec.{ltb, leb, eqb}
 use lib.ListN.{length, length-append}
-use borrow.Author.Tests.{ltb-true, ltb-false, eqb-true, le-ltb}
+use borrow.Author.Tests.{ltb-true, ltb-false, eqb-true, le-ltb, eq-eqb}
 use Rattle.path.specs.Geometry.{Granule, pageSize, entries, sizeAt, spaceOf, physical, heightOf, Sane}
 use Rattle.path.specs.Areas as areas
 use Rattle.path.specs.Areas.{Area, areaOf, total}
@@ -18,7 +18,7 @@ use Rattle.path.specs.Paths.{baseAt}
 use Rattle.entry.specs.declared.Entry.{Entry}
 use Rattle.entry.specs.declared.Entry.the-variants.{Empty, Table, Frame, Damaged}
 use Rattle.model.specs.Answers as answers
-use Rattle.model.specs.Answers.{took, refused, Pool, done, refuse}
+use Rattle.model.specs.Answers.{took, refused, Pool, Done, done, refuse}
 use Rattle.model.specs.declared.Walked.{Walked}
 use Rattle.model.specs.Writes.{mayTake}
 use Rattle.model.specs.Calls.{walkTo, mapTests, mapW}
@@ -27,7 +27,8 @@ use Rattle.model.specs.LedgerLaws.{or-true}
 use Rattle.model.specs.Holes.{Shares}
 use Rattle.model.specs.Ranges.{mapRangeTests, pieces, Probe, walkFor, pieceWalk, pieceWalks, isTaken, anyEnds, spoiled, lacked, ways, mapPiece, leftBy, mapRangeHere, mapRangeAt, mapRangeW, gain, gainOf, mapRangeL}
 use Rattle.model.specs.RangeLaws.{Tiles, over, piece, FineRange, range-fine, tiles, fits-tests, tiles-tests, tiles-inside, tiles-overlap, overlap-less, overlaps-none, none-overlaps, part-outside}
-use Rattle.model.specs.RangeMapped.{or-assoc, has-append, none-ends, neither}
+use Rattle.model.specs.RangeMapped.{or-assoc, has-append, none-ends, neither, MapRangeView, range-takes, range-refuses, map-range-view}
+use Rattle.model.specs.DescentLaws.{clash}
 use Rattle.tree.specs.Region.{anc}
 use Rattle.tree.specs.Tree.{empty, table, table≢empty}
 use Rattle.tree.specs.Walk.{chain}
@@ -40,6 +41,7 @@ use Rattle.demand.specs.Sims.{Sim}
 use Rattle.demand.specs.Queries.{area, n, k₀, al, R, own, ledger-is, pool-good, few, root-at, walk-ended, tables-above, entry-empty, entry-frame}
 use Rattle.demand.specs.Maps.{Fine, Alike, own-sim, free-is, count-is, tests-fine, low, met-any, none-overlap}
 use Rattle.demand.specs.Steps.{map-step}
+use Rattle.demand.specs.Demand3.{mapOf, poolAfter, ledgerAfter}
 use Rattle.demand.specs.RangeWays.{Made, not-damaged, around, never-spoiled, may-take-all}
 
 -- ---- the ledger
@@ -252,17 +254,29 @@ module _ (G : Granule) (Z : Sane G) {p : Pool} {A : Ledger} (I : Sim G Z p A) wh
 
 -- ---- one by one
 
+-- what the pieces leave is what their calls leave
+pub pieces-left : (G : Granule) (p : Pool) (ms : List answers.Mapping) → leftBy (mapPiece G) p ms ≡ poolAfter G p (map mapOf ms)
+unfolding leftBy
+pieces-left G p [] = refl
+pieces-left G p (m ∷ ms) = pieces-left G (mapPiece G p m .after) ms
+
 module _ (G : Granule) (Z : Sane G) where
-  -- pieces that overlap nothing, and whose tables are there: the pool with them holds the ledger with them
-  pub each-sim : {p : Pool} {A : Ledger} {k a b left : ℕ} {ms : List answers.Mapping} → Sim G Z p A → Tiles G k a b left ms → k < 16 → a + left ≤ spaceOf G (A .levels)
+  -- the pool holds the ledger after each map
+  pieces-sim : (ms : List answers.Mapping) {p : Pool} {A : Ledger} → Sim G Z p A → Sim G Z (leftBy (mapPiece G) p ms) (ledgerAfter G A (map mapOf ms))
+  unfolding leftBy
+  pieces-sim [] I = I
+  pieces-sim (m ∷ ms) I = pieces-sim ms (map-step G Z I (m .at) (m .frame) (m .size) (m .attributes) .sim)
+
+  -- pieces that overlap nothing, and whose tables are there: the ledger gains them one after the other
+  pieces-gain : (A : Ledger) {k a b left : ℕ} {ms : List answers.Mapping} → Tiles G k a b left ms → k < 16 → a + left ≤ spaceOf G (A .levels)
       → b + left ≤ physical → (¬ areas.Shares G (A .area) b left) → anyOverlap a left (A .live) ≡ false
       → tablesNeeded G (A .levels) (gain ms (A .live)) ≤ total (A .area) - 1
-      → Sim G Z (leftBy (mapPiece G) p ms) (withLive A (gain ms (A .live)))
-  unfolding leftBy gain freeTables
-  each-sim I over few l r out e c = I
-  each-sim {p} {A} {k} {a} {b} {left} I (piece {h = h} {ms = ms} F most t) few l r out e c =
-      each-sim (subst (λ (B : Ledger). Sim G Z (mapW G p a b (sizeAt G h) k .after) B) (ap (λ (x : Entered). x .after) enters) (map-step G Z I a b (sizeAt G h) k .sim))
-      t few (omega (arith, F .small)) (omega (arith, F .small)) (part-outside out (omega arith) (omega (arith, F .small))) rest c
+      → ledgerAfter G A (map mapOf ms) ≡ withLive A (gain ms (A .live))
+  unfolding gain freeTables
+  pieces-gain A over few l r out e c = refl
+  pieces-gain A {k} {a} {b} {left} (piece {h = h} {ms = ms} F most t) few l r out e c =
+      ap (λ (x : Entered). ledgerAfter G (x .after) (map mapOf ms)) enters
+      ∙ pieces-gain (withLive A (m ∷ A .live)) t few (omega (arith, F .small)) (omega (arith, F .small)) (part-outside out (omega arith) (omega (arith, F .small))) rest c
     where
       m : answers.Mapping
       m = answers.mapping a b (sizeAt G h) k
@@ -312,8 +326,11 @@ module _ (G : Granule) (Z : Sane G) {p : Pool} {A : Ledger} (I : Sim G Z p A) wh
       need-is : tablesNeeded G (p .numbers .levels) (gain ms (live G Z I)) - tablesNeeded G (p .numbers .levels) (live G Z I) ≡ need
       need-is = omega (arith, needs-more)
 
+      gains : need ≤ p .numbers .free → ledgerAfter G (own G Z I) (map mapOf ms) ≡ withLive (own G Z I) (gain ms (live G Z I))
+      gains l = pieces-gain G Z (own G Z I) tiled (F .some-attributes) (F .in-space) (F .in-physical) (F .outside) e (omega (arith, needs-more, count-is G Z I tt tt))
+
       after : need ≤ p .numbers .free → Sim G Z (leftBy (mapPiece G) p ms) (withLive (own G Z I) (gain ms (live G Z I)))
-      after l = each-sim G Z (own-sim G Z I) tiled (F .some-attributes) (F .in-space) (F .in-physical) (F .outside) e (omega (arith, needs-more, count-is G Z I tt tt))
+      after l = subst (λ (B : Ledger). Sim G Z (leftBy (mapPiece G) p ms) B) (gains l) (pieces-sim G Z ms (own-sim G Z I))
 
     range-at : Alike G Z (mapRangeAt G p ms) (gainOf G (own G Z I) a len (gain ms (live G Z I)))
     unfolding mapRangeAt mapRangeHere gainOf
@@ -355,3 +372,30 @@ module _ (G : Granule) (Z : Sane G) {p : Pool} {A : Ledger} (I : Sim G Z p A) wh
 
   pub map-range-step : (a b len k : ℕ) → Alike G Z (mapRangeW G p a b len k) (mapRangeL G A a b len k)
   map-range-step a b len k = subst (λ (B : Ledger). Alike G Z (mapRangeW G p a b len k) (mapRangeL G B a b len k)) (sym (ledger-is G Z I)) (range-own a b len k)
+
+  -- an accepted range leaves the ledger that its pieces leave, one after the other
+  parts-own : (a b len k t : ℕ) → mapRangeW G p a b len k .answer ≡ took t
+      → mapRangeL G (own G Z I) a b len k .after ≡ ledgerAfter G (own G Z I) (map mapOf (pieces G a b len k))
+  unfolding mapRangeL gainOf
+  parts-own a b len k t e = at (mapRangeW G p a b len k) (map-range-view G p a b len k) e
+    where
+      L : List answers.Mapping
+      L = gain (pieces G a b len k) (live G Z I)
+
+      at : (d : Done) → MapRangeView G p a b len k d → d .answer ≡ took t
+          → cond (eqb (mapRangeTests G (p .numbers .levels) (areaOf (p .numbers)) a b len k) 0) (gainOf G (own G Z I) a len L) (entered (refused (mapRangeTests G (p .numbers .levels) (areaOf (p .numbers)) a b len k)) (own G Z I)) .after
+          ≡ ledgerAfter G (own G Z I) (map mapOf (pieces G a b len k))
+      at d (range-refuses j) e = clash (cc)
+      at d (range-takes B) e =
+          rw (eq-eqb _ _ (B .tests), apart, need-is a b len k F apart, free-is G Z I tt tt, le-ltb (p .numbers .free) (need a b len k F) (B .room)) (sym (gains a b len k F apart (B .room)))
+        where
+          F : FineRange G (p .numbers .levels) (areaOf (p .numbers)) a b len k
+          F = range-fine G (p .numbers .levels) (areaOf (p .numbers)) a b len k (B .tests)
+
+          apart : anyOverlap a len (live G Z I) ≡ false
+          apart = sym (any-taken G Z I (tiled a b len k F) (F .long .some-bytes) (fine a b len k F)) ∙ B .untaken
+
+  pub map-range-parts : (a b len k t : ℕ) → mapRangeW G p a b len k .answer ≡ took t
+      → mapRangeL G A a b len k .after ≡ ledgerAfter G A (map mapOf (pieces G a b len k))
+  map-range-parts a b len k t e =
+      subst (λ (B : Ledger). mapRangeL G B a b len k .after ≡ ledgerAfter G B (map mapOf (pieces G a b len k))) (sym (ledger-is G Z I)) (parts-own a b len k t e)

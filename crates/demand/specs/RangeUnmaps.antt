@@ -29,7 +29,7 @@ use Rattle.model.specs.Holes.{Within, Shares}
 use Rattle.model.specs.DescentLaws.{clash}
 use Rattle.model.specs.Unique.{found-same}
 use Rattle.model.specs.Ranges.{unmapRangeTests, pagesFrom, pagesOf, Probe, pageWalk, pageWalks, spoiled, inside, cutAt, anyCutBy, answersOf, leftBy, sumOf, acceptedIn, refusesWith, anyRefused, unmapRangeHere, unmapRangeAt, unmapRangeW, anyCut, dropIn, clearOf, unmapRangeL}
-use Rattle.model.specs.RangeUnmapped.{unmap-tests}
+use Rattle.model.specs.RangeUnmapped.{unmap-tests, UnmapRangeView, range-clears, range-stays, unmap-range-view}
 use Rattle.model.specs.RangeLaws.{page-next, pages-from, pages-has, FineUnmap, unmap-fine, Clear, inside-so, cut-clear, cut-some, dropped-from, drop-absent, drop-none, drop-step, false-or}
 use Rattle.tree.specs.Region.{anc, page}
 use Rattle.tree.specs.Inv.{Mapping, mapping}
@@ -42,8 +42,15 @@ use Rattle.demand.specs.Sims.{Sim}
 use Rattle.demand.specs.Queries.{area, k₀, al, R, own, ledger-is, pool-good, few, root-at, walk-ended, query-own}
 use Rattle.demand.specs.Maps.{Alike, own-sim, free-is}
 use Rattle.demand.specs.Steps.{unmap-step}
+use Rattle.demand.specs.Demand3.{unmapC, poolAfter, ledgerAfter}
 use Rattle.demand.specs.RangeWays.{Made, never-spoiled}
 use Rattle.demand.specs.RangeMaps.{live-some}
+
+-- what the pages leave is what their calls leave
+pub pages-left : (G : Granule) (p : Pool) (xs : List ℕ) → leftBy (unmapW G) p xs ≡ poolAfter G p (map unmapC xs)
+unfolding leftBy
+pages-left G p [] = refl
+pages-left G p (x ∷ xs) = pages-left G (unmapW G p x .after) xs
 
 -- ---- unmap, on any pool
 
@@ -322,6 +329,18 @@ module _ (G : Granule) (Z : Sane G) where
         fine = false-or (ap (refusesWith 8) said ∙ S .fine) (O .fine);
       }
 
+  -- the ledger loses what is inside, page after page
+  pages-drop : (k : ℕ) {p : Pool} {A : Ledger} → Sim G Z p A → (x : ℕ) → Before A x k
+      → ledgerAfter G A (map unmapC (pagesFrom G x k)) ≡ withLive A (dropIn x (k * pageSize G) (A .live))
+  unfolding pagesFrom
+  pages-drop zero {p} {A} I x B =
+      ap (withLive A) (sym (ap (λ (y : ℕ). dropIn x y (A .live)) (omega arith) ∙ drop-none x (A .live) (λ m i. live-some G Z I m (subst (λ (L : List answers.Mapping). List·Memᴰ m L) (I .live-is) i))))
+  pages-drop (suc k) {p} {A} I x B =
+      let S = step-first I x k B in
+      let J = subst (λ (C : Ledger). Sim G Z (unmapW G p x .after) C) (S .after) (unmap-step G Z I x .sim) in
+      ap (λ (C : Ledger). ledgerAfter G C (map unmapC (pagesFrom G (x + pageSize G) k))) (S .after)
+      ∙ pages-drop k J (x + pageSize G) (before-next I x k B) ∙ ap (withLive A) (drop-first I x k B)
+
   -- ---- the call
 
   module _ {p : Pool} {A : Ledger} (I : Sim G Z p A) (a len : ℕ) (F : FineUnmap G (p .numbers .levels) a len) where
@@ -472,3 +491,26 @@ module _ (G : Granule) (Z : Sane G) where
 
     pub unmap-range-step : (a len : ℕ) → Alike G Z (unmapRangeW G p a len) (unmapRangeL G A a len)
     unmap-range-step a len = subst (λ (B : Ledger). Alike G Z (unmapRangeW G p a len) (unmapRangeL G B a len)) (sym (ledger-is G Z I)) (clear-own a len)
+
+    -- an accepted range leaves the ledger that its pages leave, one after the other
+    parts-own : (a len m t : ℕ) → unmapRangeW G p a len .answer ≡ cleared m t
+        → unmapRangeL G (own G Z I) a len .after ≡ ledgerAfter G (own G Z I) (map unmapC (pagesOf G a len))
+    unfolding unmapRangeL clearOf
+    parts-own a len m t e = at (unmapRangeW G p a len) (unmap-range-view G p a len) e
+      where
+        no : ℕ
+        no = unmapRangeTests G (p .numbers .levels) a len
+
+        at : (d : Done) → UnmapRangeView G p a len d → d .answer ≡ cleared m t
+            → cond (eqb no 0) (clearOf G (own G Z I) a len) (entered (refused no) (own G Z I)) .after ≡ ledgerAfter G (own G Z I) (map unmapC (pagesOf G a len))
+        at d (range-stays j) e = clash (cc)
+        at d (range-clears B) e =
+            let F = unmap-fine G (p .numbers .levels) a len (B .tests) in
+            let uncut : anyCut a len (live I) ≡ false = sym (cut-same I a len F) ∙ B .uncut in
+            rw (eq-eqb _ _ (B .tests), uncut)
+            (ap (λ (y : ℕ). withLive (own G Z I) (dropIn a y (live I))) (sym (pages-long I a len F)) ∙ sym (pages-drop (len / pageSize G) (own-sim G Z I) a (before-range I a len F uncut)))
+
+    pub unmap-range-parts : (a len m t : ℕ) → unmapRangeW G p a len .answer ≡ cleared m t
+        → unmapRangeL G A a len .after ≡ ledgerAfter G A (map unmapC (pagesOf G a len))
+    unmap-range-parts a len m t e =
+        subst (λ (B : Ledger). unmapRangeL G B a len .after ≡ ledgerAfter G B (map unmapC (pagesOf G a len))) (sym (ledger-is G Z I)) (parts-own a len m t e)

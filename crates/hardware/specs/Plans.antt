@@ -18,6 +18,7 @@ use Rattle.model.specs.Walk.{slot}
 use Rattle.model.specs.Writes.{Write, store, wipe, give, Memory, memory, perform, performAll, mapWrites, mayTake, pruneWrites}
 use Rattle.model.specs.Adds.{appended}
 use Rattle.model.specs.LeftLaws.{perform-length}
+pub use Rattle.model.specs.LeftLaws.{perform-append}
 use Rattle.model.specs.LedgerLaws.{and-true}
 use Rattle.demand.specs.Memories.{table-ends}
 use Rattle.hardware.specs.Machine.{zerosFrom, placesFrom, placesAbove, single, singles, visible}
@@ -157,11 +158,6 @@ places-beyond c n (suc k) i = (tt, places-beyond c n k (suc i))
 -- ---- carried out
 
 module _ (G : Granule) where
-  pub perform-append : (xs ys : List Write) (m : Memory) → performAll G (xs ++ ys) m ≡ performAll G ys (performAll G xs m)
-  unfolding performAll
-  perform-append [] ys m = refl
-  perform-append (x ∷ xs) ys m = perform-append xs ys (perform G x m)
-
   pub zeros-carried : (k i : ℕ) (ws l : List ℕ) → i + k ≤ length ws → performAll G (zerosFrom i k) (memory ws l) ≡ memory (zeroed ws i k) l
   unfolding performAll zerosFrom
   zeros-carried zero i ws l b = ap (λ (x : List ℕ). memory x l) (sym (zeroed-none ws i))
