@@ -23,11 +23,10 @@ use Rattle.model.specs.declared.Walked.{Walked}
 use Rattle.model.specs.Writes.{mayTake}
 use Rattle.model.specs.Calls.{walkTo, mapTests, mapW}
 use Rattle.model.specs.Ledger.{Ledger, withLive, anyOverlap, Region, region, regionsOf, hasRegion, newRegions, regionsNeeded, tablesNeeded, tablesLacking, freeTables, Entered, entered, mapL}
-use Rattle.model.specs.LedgerLaws.{or-true}
 use Rattle.model.specs.Holes.{Shares}
 use Rattle.model.specs.Ranges.{mapRangeTests, pieces, Probe, walkFor, pieceWalk, pieceWalks, isTaken, anyEnds, spoiled, lacked, ways, mapPiece, leftBy, mapRangeHere, mapRangeAt, mapRangeW, gain, gainOf, mapRangeL}
 use Rattle.model.specs.RangeLaws.{Tiles, over, piece, FineRange, range-fine, tiles, fits-tests, tiles-tests, tiles-inside, tiles-overlap, overlap-less, overlaps-none, none-overlaps, part-outside}
-use Rattle.model.specs.RangeMapped.{or-assoc, has-append, none-ends, neither, MapRangeView, range-takes, range-refuses, map-range-view}
+use Rattle.model.specs.RangeMapped.{or-assoc, has-append, some-ends, none-ends, neither, MapRangeView, range-takes, range-refuses, map-range-view}
 use Rattle.model.specs.DescentLaws.{clash}
 use Rattle.tree.specs.Region.{anc}
 use Rattle.tree.specs.Tree.{empty, table, table≢empty}
@@ -190,12 +189,6 @@ module _ (G : Granule) (Z : Sane G) {p : Pool} {A : Ledger} (I : Sim G Z p A) wh
         new-same = ap (λ (j : ℕ). newRegions (regionsOf G m j) Q) (omega (arith, E .ends .low)) ∙ new-above (k₀ G Z I - s) (omega (arith, E .ends .low))
 
 -- ---- all pieces
-
--- some walk ends at such an entry
-some-ends : (such : Entry → Bool) (ws : List Probe) → anyEnds such ws ≡ true → (w : Probe) × List·Memᴰ w ws × (such (w .end .entry) ≡ true)
-unfolding anyEnds
-some-ends such [] e = absurd (false≢true e)
-some-ends such (w ∷ ws) e = ⊎-elim (λ q. (w, here refl, q)) (λ q. let (x, i, t) = some-ends such ws q in (x, there i, t)) (or-true _ _ e)
 
 module _ (G : Granule) (Z : Sane G) {p : Pool} {A : Ledger} (I : Sim G Z p A) where
   abbrev AllFine : List answers.Mapping → Type 0

@@ -91,13 +91,13 @@ module _ (G : Granule) (Z : Sane G) {p : Pool} {B : Ledger} (I : Sim G Z p B) (a
   abbrev freed : ℕ
   freed = given G p a
 
-  abbrev planned : List Write
+  abbrev pub planned : List Write
   planned = unmapWrites G (o .tables) (pathOf G a) h f freed
 
-  abbrev ws : List Write
+  abbrev pub ws : List Write
   ws = singles G planned
 
-  abbrev new : List ℕ
+  abbrev pub new : List ℕ
   new = performAll G planned m₀ .words
 
   abbrev Tables : Store (X G Z I)
@@ -113,16 +113,16 @@ module _ (G : Granule) (Z : Sane G) {p : Pool} {B : Ledger} (I : Sim G Z p B) (a
   unfolding loose
   N = cut (X G Z I) Tables v way (k₀ G Z I - h) (suc h) cleared₁
 
-  abbrev T′ : ℕ → ℕ → ℕ
+  abbrev pub T′ : ℕ → ℕ → ℕ
   T′ = N .pruned .T
 
-  abbrev S′ : ℕ → ℕ → Ent
+  abbrev pub S′ : ℕ → ℕ → Ent
   S′ = N .pruned .S
 
   abbrev L′ : List Mapping
   L′ = without h r (I .L)
 
-  R′ : Rendered (X G Z I) (readAt G new) T′ S′
+  pub R′ : Rendered (X G Z I) (readAt G new) T′ S′
   unfolding loose
   R′ =
       subst (λ (q : prunes.Pool Tables). Rendered (X G Z I) (readAt G (q .m)) T′ S′) (sym (carried G Z I a here b k more (Y .starts)))
@@ -137,7 +137,7 @@ module _ (G : Granule) (Z : Sane G) {p : Pool} {B : Ledger} (I : Sim G Z p B) (a
   H′ : Holds S′ L′
   H′ = N .pruned .inv .holds
 
-  Q : Within T′ S′ (I .T) (I .S)
+  pub Q : Within T′ S′ (I .T) (I .S)
   unfolding loose
   Q = within-both (N .within) (within-less h r 0)
 
@@ -152,6 +152,10 @@ module _ (G : Granule) (Z : Sane G) {p : Pool} {B : Ledger} (I : Sim G Z p B) (a
 
   clears : Each Clears rest
   clears = prune-clears G (o .tables) (pathOf G a) freed h f
+
+  pub all-clear : Each Clears ws
+  unfolding singles
+  all-clear = (refl, clears)
 
   sound : Each (Sound (p .words) new) ws
   unfolding singles

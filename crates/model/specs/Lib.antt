@@ -26,6 +26,8 @@ pub mod Ranges
 pub mod RangeLaws
 pub mod RangeWalks
 pub mod RangeMapped
+pub mod RangeRefusals
 pub mod RangeUnmapped
+pub mod RangeRefusalLaws
 pub mod RangeLeft
 pub mod RangeCases

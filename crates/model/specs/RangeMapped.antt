@@ -34,7 +34,7 @@ use Rattle.model.specs.Walk.{slot, atHeight, noWay, stop, walkFrom}
 use Rattle.model.specs.Writes.{Memory, memory, wipe, store, performAll, mapWrites, mayTake}
 use Rattle.model.specs.Calls.{goodPool, walkTo, written, mapTests, mapHere, mapAt, mapW}
 use Rattle.model.specs.Ledger.{Region, region, regionsOf, hasRegion, newRegions}
-use Rattle.model.specs.LedgerLaws.{and-true}
+use Rattle.model.specs.LedgerLaws.{and-true, or-true}
 use Rattle.model.specs.Sound.{wordAt}
 use Rattle.model.specs.DescentLaws.{clash}
 use Rattle.model.specs.LeftLaws.{Leaves, after-writes, leaves-good}
@@ -173,6 +173,12 @@ tables-in [] w i x j = absurd (List·Memᴰ·not-nil i)
 tables-in (q ∷ ws) w i x j =
     ⊎-elim (λ z. Memᴰ·append-left (ways ws) (subst (λ (y : Probe). List·Memᴰ x (y .end .tables)) z j)) (λ k. Memᴰ·append-right (q .end .tables) (tables-in ws w k x j))
     (List·Memᴰ·cases-cons i)
+
+-- some walk ends at such an entry
+pub some-ends : (such : Entry → Bool) (ws : List Probe) → anyEnds such ws ≡ true → (w : Probe) × List·Memᴰ w ws × (such (w .end .entry) ≡ true)
+unfolding anyEnds
+some-ends such [] e = absurd (false≢true e)
+some-ends such (w ∷ ws) e = ⊎-elim (λ q. (w, here refl, q)) (λ q. let (x, i, t) = some-ends such ws q in (x, there i, t)) (or-true _ _ e)
 
 -- no walk ends at such an entry
 pub none-ends : (such : Entry → Bool) (ws : List Probe) → anyEnds such ws ≡ false → (w : Probe) → List·Memᴰ w ws → such (w .end .entry) ≡ false

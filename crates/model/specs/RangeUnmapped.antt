@@ -36,6 +36,7 @@ use Rattle.model.specs.LeftLaws.{unmap-leaves, leaves-good}
 use Rattle.model.specs.LedgerLaws.{and-true, true-or}
 use Rattle.model.specs.WordLaws.{word-other}
 use Rattle.model.specs.Ranges.{unmapRangeTests, pagesFrom, pagesOf, Probe, probe, pageWalk, pageWalks, anyEnds, isDamaged, Standing, standing, onWays, oneRegionEach, spoiled, inside, cutAt, anyCutBy, answersOf, leftBy, sumOf, acceptedIn, refusesWith, anyRefused, unmapRangeHere, unmapRangeAt, unmapRangeW}
+use Rattle.model.specs.RangeRefusals.{givenAt, Full}
 use Rattle.model.specs.RangeLaws.{FineUnmap, unmap-fine, page-next, pages-from, inside-is, or-false, false-or}
 use Rattle.model.specs.RangeWalks.{readBy, Stopped, left-low, stopped-walk, stopped-apart, stopped-moved, Shorter, stopped-cut, walk-stopped, walk-region, same-index}
 use Rattle.model.specs.RangeMapped.{chosen, each-so, standingAt, ways-has, none-ends}
@@ -96,20 +97,11 @@ unmap-range-view G p a len =
 
 -- ---- one unmap
 
--- the tables that an unmap at x gives back, and the pool that it leaves
-abbrev pub givenAt : Granule → Pool → ℕ → ℕ
-givenAt G p x = let o = walkTo G p 0 x in freed G (p .words) (o .tables) (pathOf G x) (o .left) (p .numbers .levels - 1 - o .left)
-
+-- the pool that an unmap at x leaves
 abbrev pub removedAt : Granule → Pool → ℕ → Pool
 removedAt G p x =
     let o = walkTo G p 0 x in
     written G p (unmapWrites G (o .tables) (pathOf G x) (o .left) (p .numbers .free) (givenAt G p x)) (p .numbers .free + givenAt G p x)
-
--- the walk found a frame whose mapping starts at x, and there is no room for the tables that would come back
-pub record Full (G : Granule) (p : Pool) (x : ℕ) : Type 0 where
-  pub frame : (b : ℕ) × (k : ℕ) × (walkTo G p 0 x .entry ≡ Frame b k)
-  pub starts : x % sizeAt G (walkTo G p 0 x .left) ≡ 0
-  pub over : total (areaOf (p .numbers)) - 1 < p .numbers .free + givenAt G p x
 
 -- what an unmap comes to where its walk finds neither damage nor a mapping that starts elsewhere
 pub data Goes (G : Granule) (p : Pool) (x : ℕ) : Done → Type 0 where
