@@ -29,5 +29,6 @@ pub mod RangeMapped
 pub mod RangeRefusals
 pub mod RangeUnmapped
 pub mod RangeRefusalLaws
+pub mod RangeSkips
 pub mod RangeLeft
 pub mod RangeCases

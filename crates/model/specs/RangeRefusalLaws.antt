@@ -32,7 +32,6 @@ use Rattle.model.specs.RangeLaws.{FineLength, length-fine, FineUnmap, pa
 use Rattle.model.specs.RangeMapped.{standingAt, each-so, ways-has, none-ends, some-ends}
 use Rattle.model.specs.RangeRefusals.{NotGood, NoLength, nothing, part-page, too-long, PastSpace, starts-past, ends-past, RangeOutside, Spoils, meets-damage, two-regions, SomeOccupied, tablesFor, BadRange, Cuts, givenAt, Full, FullRange, mapRangeTable, unmapRangeTable, MapRangeNumbers, UnmapRangeNumbers}
 use Rattle.model.specs.RangeUnmapped.{unmap-tests, start, only-full}
-use Rattle.model.specs.RangeLeft.{left-leaves}
 
 -- ---- the arguments
 
@@ -79,13 +78,13 @@ agrees-not s (q ∷ l) e = go (agree s q) refl e (agrees-not s l)
     go false a e ih = (q, here refl, a)
     go true a e ih = let (r, i, b) = ih e in (r, there i, b)
 
-each-not : (l : List Standing) → oneRegionEach l ≡ false → (s q : Standing) × List·Memᴰ s l × List·Memᴰ q l × (agree s q ≡ false)
+each-not : (l : List Standing) → oneRegionEach l ≡ false → (s : Standing) × (q : Standing) × List·Memᴰ s l × List·Memᴰ q l × (agree s q ≡ false)
 unfolding oneRegionEach
 each-not [] e = absurd (true≢false e)
 each-not (x ∷ l) e = go (agrees x l) refl e (each-not l)
   where
-    go : (y : Bool) → agrees x l ≡ y → (y && oneRegionEach l) ≡ false → (oneRegionEach l ≡ false → (s q : Standing) × List·Memᴰ s l × List·Memᴰ q l × (agree s q ≡ false))
-        → (s q : Standing) × List·Memᴰ s (x ∷ l) × List·Memᴰ q (x ∷ l) × (agree s q ≡ false)
+    go : (y : Bool) → agrees x l ≡ y → (y && oneRegionEach l) ≡ false → (oneRegionEach l ≡ false → (s : Standing) × (q : Standing) × List·Memᴰ s l × List·Memᴰ q l × (agree s q ≡ false))
+        → (s : Standing) × (q : Standing) × List·Memᴰ s (x ∷ l) × List·Memᴰ q (x ∷ l) × (agree s q ≡ false)
     go false a e ih = let (q, i, b) = agrees-not x l a in (x, q, here refl, there i, b)
     go true a e ih = let (s, q, i, j, b) = ih e in (s, q, there i, there j, b)
 
@@ -171,6 +170,12 @@ module _ (G : Granule) (p : Pool) (a b len k : ℕ) where
       ∷ row 8 (BadRange G p ms)
       ∷ []
 
+  abbrev Places : List Row
+  Places = row 5 (Misplaced a b (pageSize G)) ∷ row 11 (Shares G (areaOf (p .numbers)) b len) ∷ Walks
+
+  abbrev Arguments : List Row
+  Arguments = row 2 (NoLength G len) ∷ row 3 (NoAttributes k) ∷ row 4 (RangeOutside G (p .numbers .levels) a b len) ∷ Places
+
   walks-told : Told Walks bare p Took (mapRangeAt G p ms)
   unfolding mapRangeAt mapRangeHere
   walks-told =
@@ -216,32 +221,32 @@ module _ (G : Granule) (p : Pool) (a b len k : ℕ) where
       by : ℕ → Done
       by n = cond (eqb n 0) (mapRangeAt G p ms) (refuse n p)
 
-      Places : List Row
-      Places = row 5 (Misplaced a b (pageSize G)) ∷ row 11 (Shares G (areaOf (p .numbers)) b len) ∷ Walks
+      pooled : Bool
+      pooled = meetsArea G (areaOf (p .numbers)) b len
 
-      Arguments : List Row
-      Arguments = row 2 (NoLength G len) ∷ row 3 (NoAttributes k) ∷ row 4 (RangeOutside G l a b len) ∷ Places
-
-      placed : (x₆ x₇ x₈ : Bool) → eqb (a % pageSize G) 0 ≡ x₆ → eqb (b % pageSize G) 0 ≡ x₇ → meetsArea G (areaOf (p .numbers)) b len ≡ x₈
-          → Told (row 5 (Misplaced a b (pageSize G)) ∷ row 11 (Shares G (areaOf (p .numbers)) b len) ∷ Walks) bare p Took (by (cond x₆ (cond x₇ (cond x₈ 11 0) 5) 5))
+      placed : (x₆ x₇ x₈ : Bool) → eqb (a % pageSize G) 0 ≡ x₆ → eqb (b % pageSize G) 0 ≡ x₇ → pooled ≡ x₈
+          → Told Places bare p Took (by (cond x₆ (cond x₇ (cond x₈ 11 0) 5) 5))
       placed false x₇ x₈ e₆ e₇ e₈ = hit (inl (eqb-false _ 0 e₆))
       placed true false x₈ e₆ e₇ e₈ = hit (inr (eqb-false _ 0 e₇))
       placed true true true e₆ e₇ e₈ = miss (⊎-elim (λ z. z (eqb-true _ 0 e₆)) (λ z. z (eqb-true _ 0 e₇))) (hit (meets-shares e₈))
       placed true true false e₆ e₇ e₈ = miss (⊎-elim (λ z. z (eqb-true _ 0 e₆)) (λ z. z (eqb-true _ 0 e₇))) (miss (meets-apart e₈) walks-told)
 
       range : (x₃ x₄ x₅ : Bool) → leb space a ≡ x₃ → ltb space (a + len) ≡ x₄ → ltb physical (b + len) ≡ x₅
-          → Told (row 4 (RangeOutside G l a b len) ∷ row 5 (Misplaced a b (pageSize G)) ∷ row 11 (Shares G (areaOf (p .numbers)) b len) ∷ Walks) bare p Took
-          (by (cond x₃ 4 (cond x₄ 4 (cond x₅ 4 (cond (eqb (a % pageSize G) 0) (cond (eqb (b % pageSize G) 0) (cond (meetsArea G (areaOf (p .numbers)) b len) 11 0) 5) 5)))))
+          → Told (row 4 (RangeOutside G l a b len) ∷ Places) bare p Took
+          (by (cond x₃ 4 (cond x₄ 4 (cond x₅ 4 (cond (eqb (a % pageSize G) 0) (cond (eqb (b % pageSize G) 0) (cond pooled 11 0) 5) 5)))))
       range true x₄ x₅ e₃ e₄ e₅ = hit (inl (starts-past (leb-true space a e₃)))
       range false true x₅ e₃ e₄ e₅ = hit (inl (ends-past (ltb-true space (a + len) e₄)))
       range false false true e₃ e₄ e₅ = hit (inr (ltb-true physical (b + len) e₅))
       range false false false e₃ e₄ e₅ =
           miss (⊎-elim (not-past G l a len e₃ e₄) (λ z. let m = ltb-false physical (b + len) e₅ in omega arith))
-          (placed (eqb (a % pageSize G) 0) (eqb (b % pageSize G) 0) (meetsArea G (areaOf (p .numbers)) b len) refl refl refl)
+          (placed (eqb (a % pageSize G) 0) (eqb (b % pageSize G) 0) pooled refl refl refl)
 
       tests : (x₁ x₂ : Bool) → goodLength G len ≡ x₁ → ltb 15 k ≡ x₂
-          → Told (row 2 (NoLength G len) ∷ row 3 (NoAttributes k) ∷ row 4 (RangeOutside G l a b len) ∷ row 5 (Misplaced a b (pageSize G)) ∷ row 11 (Shares G (areaOf (p .numbers)) b len) ∷ Walks) bare p Took
-          (by (cond x₁ (cond x₂ 3 (cond (leb space a) 4 (cond (ltb space (a + len)) 4 (cond (ltb physical (b + len)) 4 (cond (eqb (a % pageSize G) 0) (cond (eqb (b % pageSize G) 0) (cond (meetsArea G (areaOf (p .numbers)) b len) 11 0) 5) 5))))) 2))
+          → Told Arguments bare p Took
+          (by (cond x₁
+          (cond x₂ 3 (cond (leb space a) 4 (cond (ltb space (a + len)) 4 (cond (ltb physical (b + len)) 4
+          (cond (eqb (a % pageSize G) 0) (cond (eqb (b % pageSize G) 0) (cond pooled 11 0) 5) 5)))))
+          2))
       tests false x₂ e₁ e₂ = hit (bad-length G len e₁)
       tests true true e₁ e₂ = miss (good-length G len e₁) (hit (ltb-true 15 k e₂))
       tests true false e₁ e₂ =

@@ -110,7 +110,7 @@ pub data Goes (G : Granule) (p : Pool) (x : ℕ) : Done → Type 0 where
   passes : walkTo G p 0 x .entry ≡ Empty → Goes G p x (done (hole (baseAt G x (walkTo G p 0 x .left)) (sizeAt G (walkTo G p 0 x .left))) p)
   fills : Full G p x → Goes G p x (refuse 8 p)
 
-few-levels : (G : Granule) → Sane G → (p : Pool) → goodPool G p ≡ true → p .numbers .levels ≤ 4
+pub few-levels : (G : Granule) → Sane G → (p : Pool) → goodPool G p ≡ true → p .numbers .levels ≤ 4
 few-levels G Z p good = omega (arith, good-setup good .numbers .not-more, Z .most-four)
 
 -- at the last level no entry is a table
