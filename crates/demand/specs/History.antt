@@ -1,19 +1,19 @@
 -- History does not matter: what is promised of two pools whose ledgers are the same, however each came to it; and which calls may change places.
 use mathlib.Core.Path.{_≡_}
 use mathlib.Core.Logic.{_↔_}
-use mathlib.Core.Bool.{cond}
+use mathlib.Core.Bool.{true, cond}
 use mathlib.Core.List.{List, [], _∷_, List·Memᴰ}
-use Prim.Native.Nat.{ℕ, _<_}
+use Prim.Native.Nat.{ℕ, _+_, _<_}
 use lib.Dec.{ltb}
 use Rattle.path.specs.Geometry.{Granule, entries}
-use Rattle.path.specs.Areas.{Area, areaOf, total}
+use Rattle.path.specs.Areas.{Area, total}
 use Rattle.entry.specs.Words.{tableWord, childAt}
-use Rattle.model.specs.Answers.{Answer, Mapping, Pool}
+use Rattle.model.specs.Answers.{Answer, took, gave, refused, Mapping, Pool}
 use Rattle.model.specs.Calls.{queryW}
 use Rattle.model.specs.Audit.{freeOf}
 use Rattle.model.specs.Sound.{reachedOf, wordAt}
-use Rattle.model.specs.Ledger.{Ledger}
-use Rattle.demand.specs.Demand3.{Call, mapC, stepW, answersW, poolAfter, ledgerAfter, StandsFor, NeededBy}
+use Rattle.model.specs.Ledger.{Ledger, overlaps, tablesLacking, freeTables}
+use Rattle.demand.specs.Demand3.{Call, mapC, unmapC, stepW, answersW, poolAfter, ledgerAfter, StandsFor, NeededBy}
 
 -- two lists have the same members, in whatever order
 abbrev pub SameMembers : {X : Type 0} → List X → List X → Type 0
@@ -59,18 +59,49 @@ pub record AsOne (G : Granule) (p q : Pool) (A : Ledger) : Type 0 where
   -- and the words differ, now and after them, only by which table number stands for which region
   pub words : (cs : List Call) → Renaming G (poolAfter G p cs) (poolAfter G q cs) (ledgerAfter G A cs)
 
--- the call that maps m
+-- the call that maps m, and the answer of one that removes it and gives so many tables back
 abbrev pub mapOf : Mapping → Call
 mapOf m = mapC (m .at) (m .frame) (m .size) (m .attributes)
 
--- Two calls may be made in either order: each is accepted first and last, and in the end the ledgers are the same and the free counts equal. An accepted
--- answer is here a function of the tables that the call took or gave: t by the first call and u by the second, t′ and u′ where the second is made first.
-pub record EitherOrder (G : Granule) (p : Pool) (A : Ledger) (c d : Call) (x y : ℕ → Answer) : Type 0 where
+abbrev pub gaveOf : Mapping → ℕ → Answer
+gaveOf m t = gave (m .frame) (m .size) (m .attributes) t
+
+-- Two calls may be made in either order: c answers a and then d answers b, or d answers b′ and then c answers a′; in the end the ledgers are the same and
+-- the free counts equal.
+pub record EitherOrder (G : Granule) (p : Pool) (A : Ledger) (c d : Call) (a b a′ b′ : Answer) : Type 0 where
+  pub in-order : answersW G p (c ∷ d ∷ []) ≡ a ∷ b ∷ []
+  pub turned : answersW G p (d ∷ c ∷ []) ≡ b′ ∷ a′ ∷ []
+  pub same : Same (ledgerAfter G A (c ∷ d ∷ [])) (ledgerAfter G A (d ∷ c ∷ []))
+  pub free : poolAfter G p (c ∷ d ∷ []) .numbers .free ≡ poolAfter G p (d ∷ c ∷ []) .numbers .free
+
+-- Two maps: each is accepted first and last, and as many tables are taken in all.
+pub record MapsTurn (G : Granule) (p : Pool) (A : Ledger) (m k : Mapping) : Type 0 where
   pub t : ℕ
   pub u : ℕ
   pub t′ : ℕ
   pub u′ : ℕ
-  pub in-order : answersW G p (c ∷ d ∷ []) ≡ x t ∷ y u ∷ []
-  pub turned : answersW G p (d ∷ c ∷ []) ≡ y u′ ∷ x t′ ∷ []
-  pub same : Same (ledgerAfter G A (c ∷ d ∷ [])) (ledgerAfter G A (d ∷ c ∷ []))
-  pub free : poolAfter G p (c ∷ d ∷ []) .numbers .free ≡ poolAfter G p (d ∷ c ∷ []) .numbers .free
+  pub either : EitherOrder G p A (mapOf m) (mapOf k) (took t) (took u) (took t′) (took u′)
+  pub total : t + u ≡ t′ + u′
+
+-- Two unmaps, of the mappings m and k: each is accepted first and last, and as many tables are given back in all.
+pub record UnmapsTurn (G : Granule) (p : Pool) (A : Ledger) (m k : Mapping) : Type 0 where
+  pub t : ℕ
+  pub u : ℕ
+  pub t′ : ℕ
+  pub u′ : ℕ
+  pub either : EitherOrder G p A (unmapC (m .at)) (unmapC (k .at)) (gaveOf m t) (gaveOf k u) (gaveOf m t′) (gaveOf k u′)
+  pub total : t + u ≡ t′ + u′
+
+-- A map of m and an unmap of k: each is accepted first and last, and what is taken less what is given back is the same.
+pub record MapUnmapTurn (G : Granule) (p : Pool) (A : Ledger) (m k : Mapping) : Type 0 where
+  pub t : ℕ
+  pub u : ℕ
+  pub t′ : ℕ
+  pub u′ : ℕ
+  pub either : EitherOrder G p A (mapOf m) (unmapC (k .at)) (took t) (gaveOf k u) (took t′) (gaveOf k u′)
+  pub total : t + u′ ≡ t′ + u
+
+-- Why a map of m that was accepted after an unmap of k is refused before it: its addresses or its tables were not free.
+pub data Waited (G : Granule) (p : Pool) (A : Ledger) (m k : Mapping) : Type 0 where
+  for-addresses : overlaps (m .at) (m .size) k ≡ true → stepW G p (mapOf m) .answer ≡ refused 6 → Waited G p A m k
+  for-tables : freeTables G A < tablesLacking G (A .levels) (A .live) m → stepW G p (mapOf m) .answer ≡ refused 7 → Waited G p A m k

@@ -19,6 +19,8 @@ pub mod Members
 pub mod SameLaws
 pub mod Renames
 pub mod Histories
+pub mod Orders
+pub mod HistoryCases
 pub mod Story
 pub mod Clauses
 pub mod ClauseLaws

@@ -14,7 +14,7 @@ use Rattle.path.specs.Geometry.{Granule, sizeAt, Sane}
 use Rattle.path.specs.Paths.{baseAt}
 use Rattle.path.specs.Laws.{size-rises, same-truth}
 use Rattle.model.specs.Answers.{Mapping}
-use Rattle.model.specs.Ledger.{overlaps, anyOverlap, coverOf, Region, region, regionsOf, hasRegion, newRegions, regionsNeeded, tablesNeeded, tablesLacking}
+use Rattle.model.specs.Ledger.{anyOverlap, coverOf, Region, region, regionsOf, hasRegion, newRegions, regionsNeeded, tablesNeeded, tablesLacking}
 use Rattle.model.specs.Holes.{Within, Shares}
 use Rattle.model.specs.LedgerLaws.{and-true, true-and, or-true, true-or, any-overlap, cover-some, cover-none}
 use Rattle.tree.specs.Count.{length-within, distinct-append}
@@ -208,3 +208,11 @@ module _ (G : Granule) where
 
     pub same-needed : (levels : ℕ) (L M : List Mapping) → SameMembers L M → tablesNeeded G levels L ≡ tablesNeeded G levels M
     same-needed levels L M e = omega (arith, needed-within levels L M (λ m. e m .0), needed-within levels M L (λ m. e m .1))
+
+    -- a mapping lacks no more tables than it needs by itself
+    pub lacking-most : (levels : ℕ) (L : List Mapping) (m : Mapping) → tablesLacking G levels L m ≤ tablesNeeded G levels (m ∷ [])
+    unfolding tablesLacking tablesNeeded
+    lacking-most levels L m =
+        length-within (newRegions (regionsOf G m (levels - 1)) (regionsNeeded G (levels - 1) L)) (regionsNeeded G (levels - 1) (m ∷ []))
+        (new-distinct (regionsOf G m (levels - 1)) (regionsNeeded G (levels - 1) L) (regions-distinct m (levels - 1)))
+        (λ r i. by-needed (levels - 1) (m ∷ []) r m (here refl) (new-from (regionsOf G m (levels - 1)) (regionsNeeded G (levels - 1) L) r i .0))

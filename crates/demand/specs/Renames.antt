@@ -2,17 +2,16 @@
 use mathlib.Core.Path.{_≡_, refl, ap, sym, _∙_, subst}
 use mathlib.Core.Logic.{_≢_, _⊎_, inl, inr, ⊎-elim, _↔_}
 use mathlib.Core.Bool.{Bool, true, false, cond}
-use mathlib.Core.List.{List, [], _∷_, _++_, map, List·Memᴰ, List·Memᴰ·head as here, List·Memᴰ·tail as there, List·Memᴰ·not-nil, List·Memᴰ·cases-cons, List·Memᴰ·append-cases, Memᴰ·cast, Memᴰ·map, Memᴰ·of-map}
+use mathlib.Core.List.{List, [], _∷_, _++_, map, List·Memᴰ, List·Memᴰ·head as here, List·Memᴰ·tail as there, List·Memᴰ·not-nil, List·Memᴰ·cases-cons, List·Memᴰ·append-cases, Memᴰ·cast, Memᴰ·of-map}
 use Prim.Native.Nat.{ℕ, zero, suc, _+_, _-_, _*_, _/_, _%_, _≤_, _<_}
-use native.Mathlib.Nat.{mul-div-cancel}
 use native.Mathlib.Omega.{arith}
 use native.Mathlib.Decide.{decLt}
 use lib.Arith.{digits-div, digits-mod}
-use lib.Dec.{ltb, eqb}
+use lib.Dec.{eqb}
 use lib.ListN.{length}
 use borrow.Author.Tests.{eq-eqb, eqb-true, lt-ltb}
 use Rattle.laws.specs.Lists.{Distinct}
-use Rattle.path.specs.Geometry.{Granule, entries, sizeAt, Sane}
+use Rattle.path.specs.Geometry.{Granule, entries, Sane}
 use Rattle.path.specs.Areas.{Area, areaOf, total, GoodArea}
 use Rattle.entry.specs.Words.{frameWord, tableWord, childAt, Framed}
 use Rattle.entry.specs.Laws.{child-back, child-none, not-both, table-word-ge}
@@ -21,7 +20,7 @@ use Rattle.entry.specs.declared.Entry.the-variants.{Table}
 use Rattle.model.specs.Answers as answers
 use Rattle.model.specs.Answers.{Pool}
 use Rattle.model.specs.Audit.{freeOf}
-use Rattle.model.specs.Sound.{reachedOf, wordAt, EmptyTable}
+use Rattle.model.specs.Sound.{reachedOf, wordAt}
 use Rattle.model.specs.Ledger.{Ledger}
 use Rattle.tree.specs.Tree.{Ent, empty, frame, table, table≢empty, empty≢frame}
 use Rattle.tree.specs.Inv.{Mapping, mapping}
@@ -29,7 +28,7 @@ use Rattle.tree.specs.Count.{below, below-lt, below-has, places, places-length}
 use Rattle.tree.specs.Walk.{nonzero}
 use Rattle.tree.specs.Ledger.{inside-table, table-inside}
 use Rattle.tree.specs.Needed.{Reg, reg, needed, needed-has, needed-tables, is-table, tables, tables-distinct, tables-all, tables-low}
-use Rattle.demand.specs.Shown.{shown, baseOf, attrsOf}
+use Rattle.demand.specs.Shown.{shown}
 use Rattle.demand.specs.Arm.{wordOf}
 use Rattle.demand.specs.Memories.{placeAt}
 use Rattle.demand.specs.Holds.{Holds}

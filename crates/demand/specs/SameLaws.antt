@@ -1,11 +1,10 @@
 -- Ledgers that are the same: what holds the one holds the other, and they have as many tables free.
 use mathlib.Core.Path.{_≡_, ap, sym, _∙_, subst}
-use mathlib.Core.List.{List, List·Memᴰ}
 use Prim.Native.Nat.{ℕ, suc, _+_}
 use native.Mathlib.Omega.{arith}
 use Rattle.laws.specs.Lists.{Distinct}
 use Rattle.path.specs.Geometry.{Granule, spaceOf, Sane}
-use Rattle.path.specs.Areas.{Area, total}
+use Rattle.path.specs.Areas.{total}
 use Rattle.path.specs.Laws.{setup-good}
 use Rattle.model.specs.Answers.{Pool}
 use Rattle.model.specs.Sound.{mappingsOf}
