@@ -14,6 +14,13 @@ pub mod Demand3
 pub mod Adds
 pub mod Rest
 pub mod Theorem
+pub mod History
+pub mod Members
+pub mod SameLaws
+pub mod Renames
+pub mod Histories
+pub mod Orders
+pub mod HistoryCases
 pub mod Story
 pub mod Clauses
 pub mod ClauseLaws

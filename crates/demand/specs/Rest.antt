@@ -96,11 +96,11 @@ module _ (G : Granule) (Z : Sane G) {p : Pool} {A : Ledger} (I : Sim G Z p A) wh
       let u = size-injective G Z q.h h (ap (λ (z : Region). z .size) e) in
       (q, b, u, ap (λ (j : ℕ). q.r * sizeAt G j) (sym u) ∙ ap (λ (z : Region). z .first) e)
 
-  needed-region : (q : Reg) → List·Memᴰ q (needed (entries G) (k₀ G Z I) (I .L)) → NeededBy G (own G Z I) q.h (q.r * sizeAt G q.h)
+  pub needed-region : (q : Reg) → List·Memᴰ q (needed (entries G) (k₀ G Z I) (I .L)) → NeededBy G (own G Z I) q.h (q.r * sizeAt G q.h)
   needed-region q m = subst (λ (l : List Region). List·Memᴰ (shownRegion G Z q) l) (sym (needed-shown G Z (k₀ G Z I) (I .L))) (Memᴰ·map (shownRegion G Z) m)
 
   -- its table
-  region-table : (h a : ℕ) → NeededBy G (own G Z I) h a → (r : ℕ) × (h ≤ (k₀ G Z I)) × (r * sizeAt G h ≡ a) × (I .S h r ≡ table) × List·Memᴰ (I .T h r) (needed-tables (I .inv) (k₀ G Z I) (root-at G Z I))
+  pub region-table : (h a : ℕ) → NeededBy G (own G Z I) h a → (r : ℕ) × (h ≤ (k₀ G Z I)) × (r * sizeAt G h ≡ a) × (I .S h r ≡ table) × List·Memᴰ (I .T h r) (needed-tables (I .inv) (k₀ G Z I) (root-at G Z I))
   region-table h a m = let (q, b, e, f) = region-needed h a m in let (l, _) = needed-from (entries G) (k₀ G Z I) (I .L) q b in
       (q.r, omega arith, f, subst (λ (j : ℕ). I .S j q.r ≡ table) e (is-table (I .inv) (k₀ G Z I) (root-at G Z I) q b), subst (λ (j : ℕ). List·Memᴰ (I .T j q.r) (needed-tables (I .inv) (k₀ G Z I) (root-at G Z I))) e (Memᴰ·map (λ (z : Reg). I .T z.h z.r) b))
 

@@ -1,14 +1,15 @@
 -- The ledger's tests, as facts about its mappings.
 use mathlib.Core.Path.{_≡_, refl, ap, sym, _∙_}
-use mathlib.Core.Logic.{_⊎_, inl, inr, ⊎-elim, _↔_}
+use mathlib.Core.Logic.{_≢_, _⊎_, inl, inr, ⊎-elim, _↔_}
 use mathlib.Core.Bool.{Bool, true, false, cond, _&&_, _||_, false≢true}
 use mathlib.Core.List.{List, [], _∷_, List·Memᴰ, List·Memᴰ·head as here, List·Memᴰ·tail as there, List·Memᴰ·not-nil, List·Memᴰ·cases-cons}
 use mathlib.Core.Option.{some, none}
 use Prim.Native.Nat.{ℕ}
 use native.Mathlib.Omega.{arith}
-use borrow.Author.Tests.{ltb-true, leb-true, lt-ltb, le-leb}
+use lib.Dec.{eqb}
+use borrow.Author.Tests.{ltb-true, leb-true, eqb-true, eqb-false, lt-ltb, le-leb}
 use Rattle.model.specs.Answers.{Mapping}
-use Rattle.model.specs.Ledger.{overlaps, anyOverlap, holdsAddress, coverOf}
+use Rattle.model.specs.Ledger.{overlaps, anyOverlap, holdsAddress, coverOf, dropAt}
 use Rattle.model.specs.Holes.{Within, Shares}
 
 pub and-true : (a b : Bool) → (a && b) ≡ true → (a ≡ true) × (b ≡ true)
@@ -60,3 +61,20 @@ cover-none a (k ∷ L) e m i w = go (holdsAddress a k) refl e (cover-none a L)
     go : (b : Bool) → holdsAddress a k ≡ b → cond b (some k) (coverOf a L) ≡ none → (coverOf a L ≡ none → (m : Mapping) → List·Memᴰ m L → Within a m → ⊥) → ⊥
     go true q e ih = let z : _≡_ {A = ℕ} 0 1 = cc in omega arith
     go false q e ih = ⊎-elim (λ z. false≢true (sym q ∙ rw (← z) (true-and (le-leb _ _ (w .0)) (lt-ltb _ _ (w .1))))) (λ j. ih e m j w) (List·Memᴰ·cases-cons i)
+
+-- the ledger without the mapping at an address has the others, and nothing else
+pub drop-has : (a : ℕ) (L : List Mapping) (m : Mapping) → List·Memᴰ m (dropAt a L) ↔ (List·Memᴰ m L × (m .at ≢ a))
+unfolding dropAt
+drop-has a [] m = (λ i. absurd (List·Memᴰ·not-nil i), λ i. i .0)
+drop-has a (k ∷ L) m = go (eqb (k .at) a) refl (drop-has a L m)
+  where
+    go : (b : Bool) → eqb (k .at) a ≡ b → List·Memᴰ m (dropAt a L) ↔ (List·Memᴰ m L × (m .at ≢ a))
+        → List·Memᴰ m (cond b (dropAt a L) (k ∷ dropAt a L)) ↔ (List·Memᴰ m (k ∷ L) × (m .at ≢ a))
+    go true q ih = (
+      λ i. let (x, y) = ih .0 i in (there x, y),
+      λ (i, d). ⊎-elim (λ e. absurd (d (ap (λ (z : Mapping). z .at) e ∙ eqb-true _ _ q))) (λ j. ih .1 (j, d)) (List·Memᴰ·cases-cons i),
+    )
+    go false q ih = (
+      λ i. ⊎-elim (λ e. (here e, λ z. eqb-false _ _ q (ap (λ (z : Mapping). z .at) (sym e) ∙ z))) (λ j. let (x, y) = ih .0 j in (there x, y)) (List·Memᴰ·cases-cons i),
+      λ (i, d). ⊎-elim (λ e. here e) (λ j. there (ih .1 (j, d))) (List·Memᴰ·cases-cons i),
+    )

@@ -7,6 +7,7 @@ pub mod Adds
 pub mod Ledger
 pub mod Holes
 pub mod LedgerLaws
+pub mod StepLaws
 pub mod HoleLaws
 pub mod Refusing
 pub mod Unique

@@ -3,7 +3,7 @@ use Prim.Native.Nat.{ℕ, zero, suc, _+_, _-_, _*_, _%_, _≤_}
 use mathlib.Core.Path.{_≡_, refl, sym, ap, subst, _∙_}
 use mathlib.Core.Logic.{_⊎_, inl, inr, ⊎-elim}
 use mathlib.Core.Bool.{true, false, and-false}
-use mathlib.Core.List.{List, [], _∷_, _++_, List·Memᴰ·head as here, List·Memᴰ·tail as there}
+use mathlib.Core.List.{List, [], _∷_, _++_, List·Memᴰ, List·Memᴰ·head as here, List·Memᴰ·tail as there, List·Memᴰ·not-nil, List·Memᴰ·cases-cons}
 use native.Mathlib.Nat.{suc-mul, mul-le-mul-right, zero-mod, add-mod-right, mod-mod-of-dvd, dvd-of-mod-eq-zero}
 use native.Mathlib.Omega.{arith}
 use lib.Dec.{ltb}
@@ -23,6 +23,7 @@ use Rattle.model.specs.Walk.{slot}
 use Rattle.model.specs.Calls.{goodPool}
 use Rattle.model.specs.Audit.{Found, nothing, tableWords, ofEntry, ofEntries, ofTable}
 use Rattle.model.specs.Ledger.{overlaps, anyOverlap}
+use Rattle.model.specs.Holes.{Shares}
 use Rattle.model.specs.Sound.{Each, mappingsOf, Rising, WellFormed}
 use Rattle.model.specs.AuditLaws.{each-nil, each-append, each-one, each-cons, node}
 
@@ -56,6 +57,24 @@ pub rising-split : (lo hi : ℕ) (a : List Mapping) (m : Mapping) (b : List Mapp
 unfolding Rising
 rising-split lo hi [] m b p = p
 rising-split lo hi (k ∷ a) m b p = let (q, r) = rising-split (k .at + k .size) hi a m b (p .1) in ((p .0, q), r)
+
+-- of mappings that rise, two that share a byte are one
+pub rising-one : (lo hi : ℕ) (l : List Mapping) → Rising lo hi l → (m k : Mapping) → List·Memᴰ m l → List·Memᴰ k l → Shares (k .at) (k .size) m → m ≡ k
+unfolding Rising
+rising-one lo hi [] r m k i j o = absurd (List·Memᴰ·not-nil i)
+rising-one lo hi (x ∷ l) r m k i j o = go (List·Memᴰ·cases-cons i) (List·Memᴰ·cases-cons j) (rising-one (x .at + x .size) hi l (r .1) m k)
+  where
+    end : {y : Mapping} → y ≡ x → y .at + y .size ≡ x .at + x .size
+    end e = ap (λ (z : Mapping). z .at + z .size) e
+
+    later : (y : Mapping) → List·Memᴰ y l → x .at + x .size ≤ y .at
+    later y i = rising-within (x .at + x .size) hi l (r .1) y i .0
+
+    go : (m ≡ x) ⊎ List·Memᴰ m l → (k ≡ x) ⊎ List·Memᴰ k l → (List·Memᴰ m l → List·Memᴰ k l → Shares (k .at) (k .size) m → m ≡ k) → m ≡ k
+    go (inl e) (inl f) ih = e ∙ sym f
+    go (inl e) (inr j) ih = absurd (omega (arith, later k j, o .1, end e))
+    go (inr i) (inl f) ih = absurd (omega (arith, later m i, o .0, end f))
+    go (inr i) (inr j) ih = ih i j o
 
 no-overlap : (x size : ℕ) (l : List Mapping) → Each (λ k. (k .at + k .size ≤ x) ⊎ (x + size ≤ k .at)) l → anyOverlap x size l ≡ false
 unfolding anyOverlap

@@ -1,7 +1,6 @@
 -- Upstream's statements, for our pools and ledgers. A module or more for each upstream file; a law that gives an upstream lemma has its name, and each
 -- says above it which clause it gives. They follow from crates `demand`, `tree` and `model` by short arguments.
 --   State   pt_trait.rs: a state of mappings, when it is well-formed, and what map, unmap and query may do to it
---   Facts   the ledger's tests as facts about its mappings
 --   Calls   pt.rs: what a call does to any pool, sound or not
 --   Trait   pt_trait.rs: preconditions and refusals; the ledger of a pool is well-formed and stays so; the three refinements
 --   Visit   tree.rs: visit and real_path, which are the walk
@@ -10,7 +9,6 @@
 --   Remove  tree.rs: remove and prune of such a tree
 --   Memory  pt_mem.rs, table.rs: where tables stand, what a write changes, which tables are taken and given back
 pub mod State
-pub mod Facts
 pub mod Calls
 pub mod Trait
 pub mod Visit

@@ -29,6 +29,7 @@ use Rattle.model.specs.Writes.{Memory, memory, performAll, pruneWrites, unmapWr
 use Rattle.model.specs.Calls.{goodPool, walkTo, written, unmapW}
 use Rattle.model.specs.Sound.{SoundEntry, SoundTable, wordAt}
 use Rattle.model.specs.Ledger.{withLive, dropAt}
+use Rattle.model.specs.LedgerLaws.{drop-has}
 use Rattle.tree.specs.Region.{anc, Same, upd}
 use Rattle.tree.specs.Tree.{Ent, empty, frame, table, empty≢frame, table≢frame}
 use Rattle.tree.specs.Inv.{Mapping, mapping, InvIf, without, without-keeps, without-gives, clear, excuse, reword}
@@ -47,7 +48,6 @@ use Rattle.demand.specs.Maps.{low}
 use Rattle.demand.specs.Unmaps as unmaps
 use Rattle.demand.specs.Unmaps.{distinct-without, unmap-after}
 use Rattle.upstream.specs.State.{UnmapPre}
-use Rattle.upstream.specs.Facts.{drop-has}
 use Rattle.upstream.specs.Calls.{giving, writesOfUnmap, unmap-gave, gave-passed}
 use Rattle.upstream.specs.Trait.{unmap-pre}
 use Rattle.upstream.specs.Tree.{InTree, path-mappings-has-at-most-one-path-for-vbase}

@@ -2,7 +2,7 @@
 use mathlib.Core.Path.{_≡_, refl, ap, sym, _∙_, subst}
 use mathlib.Core.Logic.{_≢_, _⊎_, inl, inr, ⊎-elim, _↔_, Iff·trans}
 use mathlib.Core.Bool.{Bool, true, false, cond, false≢true}
-use mathlib.Core.List.{List, [], _∷_, List·Memᴰ, List·Memᴰ·head as here, List·Memᴰ·tail as there, List·Memᴰ·not-nil, List·Memᴰ·cases-cons}
+use mathlib.Core.List.{List, [], _∷_, List·Memᴰ, List·Memᴰ·head as here, List·Memᴰ·tail as there, List·Memᴰ·cases-cons}
 use mathlib.Core.Option.{Option, some, none}
 use Prim.Native.Nat.{ℕ, _+_, _-_, _%_, _≤_, _<_}
 use native.Mathlib.Omega.{arith}
@@ -14,8 +14,8 @@ use Rattle.path.specs.Laws.{size-pos, size-divides, height-size, size-height, s
 use Rattle.path.specs.RegionLaws.{multiple-gap}
 use Rattle.model.specs.Answers.{Mapping, Answer, formatted, took, gave, found, refused, Pool, Done, refuse}
 use Rattle.model.specs.Calls.{goodPool, walkTo, formatW, mapTests, mapAt, mapW, unmapTests, unmapAt, unmapW, queryW}
-use Rattle.model.specs.Sound.{Rising, mappingsOf}
-use Rattle.model.specs.MappingLaws.{rising-within, pool-rises, pool-within, pool-well}
+use Rattle.model.specs.Sound.{mappingsOf}
+use Rattle.model.specs.MappingLaws.{rising-one, pool-rises, pool-within, pool-well}
 use Rattle.model.specs.Ledger.{Ledger, ledger, withLive, anyOverlap, coverOf, dropAt, tablesLacking, freeTables, Entered, entered, mapL, unmapOf, unmapL, queryOf, queryL, auditL}
 use Rattle.demand.specs.Holds.{Holds}
 use Rattle.demand.specs.Sims.{holds-sim}
@@ -24,26 +24,7 @@ use Rattle.demand.specs.Others.{accepted-holds}
 use Rattle.demand.specs.Demand3.{mapC, unmapC, queryC}
 use Rattle.demand.specs.Theorem.{rests, step-holds, from-format}
 use Rattle.upstream.specs.State.{Has, StartsAt, Overlap, Within, OverlapsVmem, SameMappings, SameConstants, Mappable, MapPre, Wf, Maps, UnmapPre, Unmaps, Queries}
-use Rattle.model.specs.LedgerLaws.{any-overlap, cover-some, cover-none}
-use Rattle.upstream.specs.Facts.{drop-has}
-
--- of mappings that rise, two that share a byte are one
-rising-one : (lo hi : ℕ) (l : List Mapping) → Rising lo hi l → (m k : Mapping) → List·Memᴰ m l → List·Memᴰ k l → Overlap (m .at) (m .size) (k .at) (k .size) → m ≡ k
-unfolding Rising
-rising-one lo hi [] r m k i j o = absurd (List·Memᴰ·not-nil i)
-rising-one lo hi (x ∷ l) r m k i j o = go (List·Memᴰ·cases-cons i) (List·Memᴰ·cases-cons j) (rising-one (x .at + x .size) hi l (r .1) m k)
-  where
-    end : {y : Mapping} → y ≡ x → y .at + y .size ≡ x .at + x .size
-    end e = ap (λ (z : Mapping). z .at + z .size) e
-
-    later : (y : Mapping) → List·Memᴰ y l → x .at + x .size ≤ y .at
-    later y i = rising-within (x .at + x .size) hi l (r .1) y i .0
-
-    go : (m ≡ x) ⊎ List·Memᴰ m l → (k ≡ x) ⊎ List·Memᴰ k l → (List·Memᴰ m l → List·Memᴰ k l → Overlap (m .at) (m .size) (k .at) (k .size) → m ≡ k) → m ≡ k
-    go (inl e) (inl f) ih = e ∙ sym f
-    go (inl e) (inr j) ih = absurd (omega (arith, later k j, o .1, end e))
-    go (inr i) (inl f) ih = absurd (omega (arith, later m i, o .0, end f))
-    go (inr i) (inr j) ih = ih i j o
+use Rattle.model.specs.LedgerLaws.{any-overlap, cover-some, cover-none, drop-has}
 
 -- the trait's `view`: the pool's numbers, and the mappings in its words
 abbrev pub view : Granule → Pool → Ledger
