@@ -12,6 +12,7 @@ pub mod Unmaps
 pub mod Others
 pub mod Pages
 pub mod Listings
+pub mod Saves
 pub mod Demand3
 pub mod Adds
 pub mod Rest
@@ -23,6 +24,8 @@ pub mod Renames
 pub mod Histories
 pub mod Orders
 pub mod HistoryCases
+pub mod Remade
+pub mod Restores
 pub mod Story
 pub mod Clauses
 pub mod ClauseLaws

@@ -6,15 +6,16 @@ use mathlib.Core.List.{List, [], _∷_, _++_, List·Memᴰ, List·Memᴰ·head a
 use mathlib.Core.Option.{Option, some, none}
 use Prim.Native.Nat.{ℕ, zero, suc, _+_, _-_, _≤_, _<_}
 use native.Mathlib.Omega.{arith}
-use lib.Dec.{ltb}
+use lib.Dec.{ltb, leb}
 use lib.ListN.{length, length-append}
 use borrow.Author.Tests.{eqb-true, eq-eqb}
 use Rattle.laws.specs.Lists.{Distinct}
-use Rattle.path.specs.Geometry.{Granule, sizeAt, Sane}
+use Rattle.path.specs.Geometry.{Granule, sizeAt, spaceOf, Sane}
+use Rattle.path.specs.Areas.{Area}
 use Rattle.path.specs.Paths.{baseAt}
 use Rattle.path.specs.Laws.{size-rises, same-truth}
-use Rattle.model.specs.Answers.{Mapping}
-use Rattle.model.specs.Ledger.{anyOverlap, coverOf, Region, region, regionsOf, hasRegion, newRegions, regionsNeeded, tablesNeeded, tablesLacking}
+use Rattle.model.specs.Answers.{refused, Mapping}
+use Rattle.model.specs.Ledger.{ledger, anyOverlap, coverOf, Region, region, regionsOf, hasRegion, newRegions, regionsNeeded, tablesNeeded, tablesLacking, holeFrom, holeOf, holeAt, queryOf, queryL}
 use Rattle.model.specs.Holes.{Within, Shares}
 use Rattle.model.specs.LedgerLaws.{and-true, true-and, or-true, true-or, any-overlap, cover-some, cover-none}
 use Rattle.tree.specs.Count.{length-within, distinct-append}
@@ -83,6 +84,27 @@ same-cover a L M d e = go (coverOf a L) refl
     go : (o : Option Mapping) → coverOf a L ≡ o → o ≡ coverOf a M
     go none q = sym (none-is a M (λ m i. cover-none a L q m (e m .1 i)))
     go (some m) q = let (i, w) = cover-some a L m q in sym (cover-is a M m d (e m .0 i) w)
+
+-- ---- query
+
+same-hole : (G : Granule) (a : ℕ) (L M : List Mapping) → SameMembers L M → (k : ℕ) → holeFrom G a L k ≡ holeFrom G a M k
+unfolding holeFrom
+same-hole G a L M e zero = refl
+same-hole G a L M e (suc k) =
+    let o = same-overlap (baseAt G a (suc k)) (sizeAt G (suc k)) L M e in
+    let ih = same-hole G a L M e k in
+    λ i. cond (o i) (ih i) (region (sizeAt G (suc k)) (baseAt G a (suc k)))
+
+-- where the tables stand does not matter to it either
+pub same-query : (G : Granule) (levels : ℕ) (r s : Area) (L M : List Mapping) → Apart M → SameMembers L M → (a : ℕ)
+    → queryL G (ledger levels r L) a ≡ queryL G (ledger levels s M) a
+unfolding queryL holeOf
+same-query G levels r s L M d e a =
+    ap (cond (leb (spaceOf G levels) a) (refused 4)) (ap (queryOf G (ledger levels r L) a) (same-cover a L M d e) ∙ go (coverOf a M))
+  where
+    go : (o : Option Mapping) → queryOf G (ledger levels r L) a o ≡ queryOf G (ledger levels s M) a o
+    go none = ap holeAt (same-hole G a L M e (levels - 1))
+    go (some m) = refl
 
 -- ---- tables needed
 

@@ -2,7 +2,7 @@
 -- behind a map that followed it where the map would have been accepted by itself: it may have waited for the unmap's tables (7) or for its addresses (6).
 use mathlib.Core.Path.{_≡_, refl, ap, sym, _∙_, subst}
 use mathlib.Core.Logic.{_≢_, _⊎_, inl, inr, ⊎-elim}
-use mathlib.Core.Bool.{Bool, true, false, _&&_, _||_, true≢false}
+use mathlib.Core.Bool.{Bool, true, false, _||_, true≢false, and-comm}
 use mathlib.Core.List.{List, [], _∷_, List·Memᴰ, List·Memᴰ·head as here, List·Memᴰ·tail as there, List·Memᴰ·not-nil, List·Memᴰ·cases-cons, Memᴰ·cast}
 use Prim.Native.Nat.{ℕ, _+_, _-_, _%_, _≤_, _<_}
 use native.Mathlib.Omega.{arith}
@@ -31,13 +31,7 @@ use Rattle.demand.specs.Histories.{rests-after}
 
 -- two ranges overlap either way round
 overlap-either : (m k : Mapping) → overlaps (m .at) (m .size) k ≡ overlaps (k .at) (k .size) m
-overlap-either m k = go (ltb (m .at) (k .at + k .size)) (ltb (k .at) (m .at + m .size))
-  where
-    go : (x y : Bool) → (x && y) ≡ (y && x)
-    go true true = refl
-    go true false = refl
-    go false true = refl
-    go false false = refl
+overlap-either m k = and-comm (ltb (m .at) (k .at + k .size)) (ltb (k .at) (m .at + m .size))
 
 neither : (x y : Bool) → (x || y) ≡ false → (x ≡ false) × (y ≡ false)
 neither true y q = absurd (true≢false q)

@@ -18,7 +18,7 @@ use Rattle.image.specs.Bytes.{wordsOf, bytesOfWords, bytesOfBlocks, Belo
 use Rattle.image.specs.ByteLaws.{below-take, below-drop, bytes-back, words-below, length-words, length-bytes-block, length-bytes-blocks, block-back}
 use Rattle.image.specs.Check.{weigh, checkOf, Checked, DifferAt}
 use Rattle.image.specs.CheckLaws.{one-change}
-use Rattle.image.specs.Layout.{Rec, rec, wordsOfRecs, padded, blockOf, headBlock, recBlock, blocksFor, recBlocks, imageBlocks, imageOf, Reading, block, bad, ended, recordsIn, badIn, recsIn, rises, lowAfter, whole, goodHead, goodBlock, readBlocks, readImage, Recs, Savable, stopped}
+use Rattle.image.specs.Layout.{Rec, rec, wordsOfRecs, padded, blockOf, headBlock, recBlock, blocksFor, recBlocks, imageBlocks, imageOf, Reading, block, bad, ended, recordsIn, badIn, recsIn, rises, lowAfter, whole, goodHead, goodBlock, readBlocks, readImage, Recs, Savable, stopped, stoppedAt}
 use Rattle.image.specs.LayoutLaws.{recs-take, recs-drop, rec-is, head-is, head-good, rises-append, read-next, read-bad, read-head, read-no-head, readingOf, reading-sound, read-back}
 
 -- an image is block 0 and the blocks of records
@@ -194,15 +194,22 @@ unfolding recBlocks
 length-rec-blocks zero k rs = refl
 length-rec-blocks (suc n) k rs = ap suc (length-rec-blocks n (suc k) (drop 31 rs))
 
--- so the first bad block is that one
+-- so with every block
 pub change-found : (levels granule : ℕ) (rs : List Rec) → Savable levels granule rs
     → (j i : ℕ) (c : List ℕ) → j < length (imageBlocks levels granule rs) → Block c → i < 64 → DifferAt i (getD (imageBlocks levels granule rs) j []) c
-    → badIn (readImage levels granule (bytesOfBlocks (set (imageBlocks levels granule rs) j c))) ≡ some j
+    → (readImage levels granule (bytesOfBlocks (set (imageBlocks levels granule rs) j c)) ≡ stoppedAt j (readImage levels granule (imageOf levels granule rs)))
+    × (badIn (stoppedAt j (readImage levels granule (imageOf levels granule rs))) ≡ some j)
 unfolding imageBlocks
-change-found levels granule rs s zero i c l C x d = ap badIn (change-head levels granule rs s i c C x d)
-change-found levels granule rs s (suc j) i c l C x d =
-    ap badIn (change-block levels granule rs s j i c l C x d ∙ ap (stopped j (suc j)) (read-back levels granule rs s))
-    ∙ stopped-bad (blocksFor (length rs)) j (suc j) rs (omega (arith, length-rec-blocks (blocksFor (length rs)) 1 rs))
+change-found levels granule rs s zero i c l C x d = (change-head levels granule rs s i c C x d, refl)
+change-found levels granule rs s (suc j) i c l C x d = (
+  change-block levels granule rs s j i c l C x d,
+  ap (λ (R : Reading). badIn (stopped j (suc j) R)) (read-back levels granule rs s)
+      ∙ stopped-bad (blocksFor (length rs)) j (suc j) rs (omega (arith, length-rec-blocks (blocksFor (length rs)) 1 rs)),
+)
+
+pub stopped-at-before : (j : ℕ) (R : Reading) → (x : List Rec) × (recordsIn R ≡ recordsIn (stoppedAt j R) ++ x)
+stopped-at-before zero R = (recordsIn R, refl)
+stopped-at-before (suc j) R = stopped-before j (suc j) R
 
 -- ---- nothing but images is read to the end
 
@@ -444,14 +451,19 @@ block-at (b ∷ Bs) (suc j) f l = block-at Bs j (λ x i. f x (there i)) (omega a
     later : drop (512 * j) (bytesOfBlocks Bs) ≡ drop (512 * suc j) (bytesOfWords b ++ bytesOfBlocks Bs)
     later = sym (drop-append-add (bytesOfWords b) (bytesOfBlocks Bs) (512 * j)) ∙ ap (λ (x : ℕ). drop x (bytesOfWords b ++ bytesOfBlocks Bs)) long
 
--- In a run of bytes that is read to the end, let the 512 bytes of block j be those of another block that differs in one word alone: the run is then bad,
--- and its first bad block is j.
+-- In a run of bytes that is read to the end, let the 512 bytes of block j be those of another block that differs in one word alone: what stands before
+-- block j is read as it was, and block j is bad.
 pub run-change : (levels granule : ℕ) (bs : List ℕ) → Below 256 bs → badIn (readImage levels granule bs) ≡ none
     → (j i : ℕ) (c : List ℕ) → 512 * j < length bs → Block c → i < 64 → DifferAt i (wordsOf 64 (take 512 (drop (512 * j) bs))) c
-    → badIn (readImage levels granule (take (512 * j) bs ++ (bytesOfWords c ++ drop (512 * j + 512) bs))) ≡ some j
+    → (readImage levels granule (take (512 * j) bs ++ (bytesOfWords c ++ drop (512 * j + 512) bs)) ≡ stoppedAt j (readImage levels granule bs))
+    × (badIn (stoppedAt j (readImage levels granule bs)) ≡ some j)
 run-change levels granule bs f e j i c l C x d =
-    ap (λ (z : List ℕ). badIn (readImage levels granule z)) (ap (λ (z : List ℕ). take (512 * j) z ++ (bytesOfWords c ++ drop (512 * j + 512) z)) same ∙ sym (set-bytes Bs j c blocks inside))
-    ∙ change-found levels granule rs S j i c inside C x (subst (λ (z : List ℕ). DifferAt i z c) (ap (λ (z : List ℕ). wordsOf 64 (take 512 (drop (512 * j) z))) same ∙ sym (block-at Bs j blocks inside)) d)
+    let at : DifferAt i (getD Bs j []) c = subst (λ (z : List ℕ). DifferAt i z c) (ap (λ (z : List ℕ). wordsOf 64 (take 512 (drop (512 * j) z))) same ∙ sym (block-at Bs j blocks inside)) d in
+    let (p, q) = change-found levels granule rs S j i c inside C x at in
+    let whole-read : readImage levels granule (imageOf levels granule rs) ≡ readImage levels granule bs = ap (readImage levels granule) (sym (image-only levels granule bs f e .1)) in (
+      ap (readImage levels granule) (ap (λ (z : List ℕ). take (512 * j) z ++ (bytesOfWords c ++ drop (512 * j + 512) z)) same ∙ sym (set-bytes Bs j c blocks inside)) ∙ p ∙ ap (stoppedAt j) whole-read,
+      ap (λ (R : Reading). badIn (stoppedAt j R)) (sym whole-read) ∙ q,
+    )
   where
     rs : List Rec
     rs = recordsIn (readImage levels granule bs)

@@ -138,9 +138,14 @@ pub record Savable (levels granule : ℕ) (rs : List Rec) : Type 0 where
   pub few : length rs ≤ 2 ^ 20
   pub rising : rises 0 rs ≡ true
 
--- of what is read, the first j blocks, and then block k is bad
+-- of what is read, the first j blocks of records, and then block k is bad
 unfoldable pub stopped : ℕ → ℕ → Reading → Reading
 stopped zero k R = bad k
 stopped (suc j) k (block rs R) = block rs (stopped j k R)
 stopped (suc j) k (bad i) = bad i
 stopped (suc j) k ended = ended
+
+-- of what is read, all before block j, and then that block is bad; block 0 has no records
+abbrev pub stoppedAt : ℕ → Reading → Reading
+stoppedAt zero R = bad 0
+stoppedAt (suc j) R = stopped j (suc j) R

@@ -6,3 +6,6 @@ pub mod Layout
 pub mod LayoutLaws
 pub mod Exact
 pub mod ImageCases
+pub mod Images
+pub mod RecordLaws
+pub mod RestoreLaws
