@@ -67,7 +67,7 @@ onto-has (m ∷ R) D x (inl i) = onto-has R (m ∷ D) x (⊎-elim (λ e. inr (he
 onto-has (m ∷ R) D x (inr i) = onto-has R (m ∷ D) x (inr (there i))
 
 -- they are its members
-onto-members : (R : List Mapping) → SameMembers (onto R []) R
+pub onto-members : (R : List Mapping) → SameMembers (onto R []) R
 onto-members R x = (λ i. ⊎-elim (λ a. a) (λ b. absurd (List·Memᴰ·not-nil b)) (onto-from R [] x i), λ i. onto-has R [] x (inl i))
 
 -- of mappings that are apart, one that is not in a list of others overlaps none of them
@@ -76,7 +76,7 @@ none-overlaps U D m a i f n = go (anyOverlap (m .at) (m .size) D) refl
   where
     go : (b : Bool) → anyOverlap (m .at) (m .size) D ≡ b → b ≡ false
     go false e = refl
-    go true e = let (k, j, s) = any-overlap (m .at) (m .size) D .0 e in absurd (n (Memᴰ·cast (a k m (f k j) i s) j))
+    go true e = let (k, j, s) = any-overlap (m .at) (m .size) D .0 e in absurd (n (Memᴰ·cast (sym (a k m (f k j) i s)) j))
 
 module _ (G : Granule) (Z : Sane G) where
   -- a live mapping of a held ledger would pass map's tests, with tables elsewhere too, if its frame shares no byte with those
@@ -112,7 +112,7 @@ module _ (G : Granule) (Z : Sane G) where
     next m D i f n = record {
       tests = tests m i;
       clear = none-overlaps U D m apart i f n;
-      room = omega (arith, needed-more G levels D m, needed-within G Z levels (m ∷ D) U (λ k j. ⊎-elim (λ e. Memᴰ·cast (sym e) i) (f k) (List·Memᴰ·cases-cons j)), enough);
+      room = omega (arith, needed-more G levels D m, needed-within G Z levels (m ∷ D) U (λ k j. ⊎-elim (λ e. Memᴰ·cast e i) (f k) (List·Memᴰ·cases-cons j)), enough);
     }
 
     -- what the maps of R do to a ledger whose mappings are D
@@ -134,8 +134,8 @@ module _ (G : Granule) (Z : Sane G) where
     made [] D d f g n = (λ a i. absurd (List·Memᴰ·not-nil i), refl)
     made (m ∷ R) D d f g n =
         made-next m R D (next m D (f m (here refl)) g (n m (here refl)))
-        (made R (m ∷ D) (d .1) (λ k i. f k (there i)) (λ k i. ⊎-elim (λ e. Memᴰ·cast (sym e) (f m (here refl))) (g k) (List·Memᴰ·cases-cons i))
-        (λ k i j. ⊎-elim (λ e. d .0 (Memᴰ·cast e i)) (n k (there i)) (List·Memᴰ·cases-cons j)))
+        (made R (m ∷ D) (d .1) (λ k i. f k (there i)) (λ k i. ⊎-elim (λ e. Memᴰ·cast e (f m (here refl))) (g k) (List·Memᴰ·cases-cons i))
+        (λ k i j. ⊎-elim (λ e. d .0 (Memᴰ·cast (sym e) i)) (n k (there i)) (List·Memᴰ·cases-cons j)))
 
   -- by the ledger: the live mappings of p, in any order, into an empty ledger
   pub remade-ledger : {p : Pool} {A : Ledger} → Holds G p A → (area : Area) (R : List Mapping) → total (A .area) ≤ total area
