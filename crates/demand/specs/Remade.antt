@@ -6,22 +6,21 @@ use mathlib.Core.Bool.{Bool, true, false}
 use mathlib.Core.List.{List, [], _∷_, map, List·Memᴰ, List·Memᴰ·head as here, List·Memᴰ·tail as there, List·Memᴰ·not-nil, List·Memᴰ·cases-cons, Memᴰ·cast}
 use Prim.Native.Nat.{ℕ, _+_, _%_, _≤_, _<_}
 use native.Mathlib.Omega.{arith}
-use lib.Dec.{ltb, leb, eqb}
-use borrow.Author.Tests.{le-ltb, lt-leb, eq-eqb, ltb-true}
+use borrow.Author.Tests.{le-ltb, lt-leb, eq-eqb}
 use Rattle.laws.specs.Lists.{Distinct}
 use Rattle.path.specs.Geometry.{Granule, spaceOf, physical, heightOf, Sane}
-use Rattle.path.specs.Areas.{Area, total, meetsArea}
+use Rattle.path.specs.Areas.{Area, total}
 use Rattle.path.specs.Laws.{setup-good, size-height, size-pos, apart-meets}
 use Rattle.model.specs.Answers.{Answer, took, Mapping, Pool}
 use Rattle.model.specs.Calls.{mapTests, queryW}
 use Rattle.model.specs.Sound.{WellFormed, OffTables}
 use Rattle.model.specs.MappingLaws.{pool-within, pool-well}
-use Rattle.model.specs.Ledger.{Ledger, ledger, overlaps, anyOverlap, tablesNeeded, tablesLacking, freeTables, Entered, entered}
-use Rattle.model.specs.LedgerLaws.{and-true, any-overlap}
+use Rattle.model.specs.Ledger.{Ledger, ledger, anyOverlap, tablesNeeded, tablesLacking, freeTables, Entered, entered}
+use Rattle.model.specs.LedgerLaws.{any-overlap}
 use Rattle.model.specs.StepLaws.{Accepts, accepts}
 use Rattle.demand.specs.Holds.{Holds}
 use Rattle.demand.specs.Maps.{Fine}
-use Rattle.demand.specs.Demand3.{Call, queryC, stepL, answersW, answersL, poolAfter, ledgerAfter}
+use Rattle.demand.specs.Demand3.{queryC, stepL, answersW, answersL, poolAfter, ledgerAfter}
 use Rattle.demand.specs.Theorem.{step-holds, demand3}
 use Rattle.demand.specs.History.{SameMembers, mapOf}
 use Rattle.demand.specs.Members.{AllIn, Apart, same-query, needed-more, needed-within}

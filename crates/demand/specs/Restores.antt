@@ -1,15 +1,15 @@
 -- Restore: on a pool that holds a ledger it does what the ledger says, and what was saved is restored.
 use mathlib.Core.Path.{_≡_, refl, ap, sym, _∙_, subst}
 use mathlib.Core.Bool.{true}
-use mathlib.Core.List.{List, [], _∷_, map, List·Memᴰ, List·Memᴰ·head as here, List·Memᴰ·tail as there}
 use mathlib.Core.Option.{none}
+use mathlib.Core.List.{List, [], _∷_, map, List·Memᴰ, List·Memᴰ·head as here, List·Memᴰ·tail as there}
 use Prim.Native.Nat.{ℕ, _≤_}
 use native.Mathlib.Omega.{arith}
 use lib.ListN.{length}
 use Rattle.path.specs.Geometry.{Granule, Sane}
 use Rattle.path.specs.Areas.{Area, areaOf, total}
 use Rattle.path.specs.Laws.{setup-good}
-use Rattle.model.specs.Answers.{Answer, answered, refusal, formatted, took, audited, Mapping, Pool, Done, done}
+use Rattle.model.specs.Answers.{Answer, answered, refusal, formatted, took, audited, Mapping, Pool, Done}
 use Rattle.model.specs.Calls.{formatW, queryW}
 use Rattle.model.specs.Audit.{auditW}
 use Rattle.model.specs.Sound.{Each, mappingsOf, WellFormed, OffTables}
@@ -24,8 +24,8 @@ use Rattle.image.specs.RestoreLaws.{from-alike, from-whole, record-mapped}
 use Rattle.demand.specs.Holds.{Holds}
 use Rattle.demand.specs.Listings.{good, sound}
 use Rattle.demand.specs.Others.{accepted-holds}
-use Rattle.demand.specs.Demand3.{formatC, goOn, stepL, answersL, ledgerAfter}
-use Rattle.demand.specs.Theorem.{step-holds, from-format}
+use Rattle.demand.specs.Demand3.{Call, formatC, goOn, stepL, answersL, ledgerAfter, Demand3}
+use Rattle.demand.specs.Theorem.{step-holds, demand3, from-format}
 use Rattle.demand.specs.History.{SameMembers, mapOf}
 use Rattle.demand.specs.Saves.{few-mappings}
 use Rattle.demand.specs.Remade.{onto, onto-members, remade-ledger, same-answers}
@@ -68,6 +68,29 @@ module _ (G : Granule) (Z : Sane G) where
       go (answered v) (refusal j w) x y (e, h) = let z : _≡_ {A = ℕ} 0 1 = cc in absurd (omega arith)
       go (refusal k v) (answered w) x y (e, h) = let z : _≡_ {A = ℕ} 0 1 = cc in absurd (omega arith)
 
+  -- Demand 3 from a restore, accepted or refused, whatever the memory was and whatever the image, where format's tests accept: the ledger is that of the
+  -- records that were mapped, and after a refusal it is empty.
+  pub from-restore : (levels : ℕ) (area : Area) (ws : List ℕ) (cut : ℕ) (list image : List ℕ) → formatW G levels area ws cut list .answer ≡ formatted → (cs : List Call)
+      → Demand3 G (restoreW G levels area ws cut list image .after)
+      (restoreFrom G (mapLedger G) (ledger levels area []) (ledger levels area []) (readImage levels (granuleWord G) image) .after) cs
+  unfolding restoreW
+  from-restore levels area ws cut list image f cs = demand3 G Z (subst (λ (a : Answer). Holds G (readInto G levels image D a .after) after) (sym f) (read-alike (D .after) empty R fresh .1)) cs
+    where
+      D : Done
+      D = formatW G levels area ws cut list
+
+      empty : Ledger
+      empty = ledger levels area []
+
+      R : Reading
+      R = readImage levels (granuleWord G) image
+
+      after : Ledger
+      after = restoreFrom G (mapLedger G) empty empty R .after
+
+      fresh : Holds G (D .after) empty
+      fresh = from-format G Z levels area ws cut list f [] .after 0 .holds
+
   -- ---- the round trip
 
   -- records of well-formed mappings whose maps are all accepted
@@ -81,6 +104,20 @@ module _ (G : Granule) (Z : Sane G) where
       let one : restoreOne G (mapLedger G) A (meant G (recordOf G m)) ≡ mapLedger G A m = record-mapped G (mapLedger G) Z A m (w m (here refl)) in
       let takes : accepted (mapLedger G A m .answer) ≡ true = ap accepted e in
       rw (one, takes) (recs-made (stepL G A (mapOf m) .after) R (λ k i. w k (there i)) (λ a i. f a (there i)))
+
+  -- What a pool that holds a ledger saved reads back as the records of its mappings, in rising order, and no block of it is bad.
+  pub saved-read : FewEntries G → {p : Pool} {A : Ledger} → Holds G p A → (room n : ℕ) (image : List ℕ) → saveW G p room ≡ saved n image
+      → (recordsIn (readImage (A .levels) (granuleWord G) image) ≡ map (recordOf G) (mappingsOf G p)) × (badIn (readImage (A .levels) (granuleWord G) image) ≡ none)
+  saved-read small {p} {A} H room n image e = (ap recordsIn read ∙ reading-records (blocksFor (length rs)) rs refl, ap badIn read ∙ reading-sound (blocksFor (length rs)) rs)
+    where
+      rs : List Rec
+      rs = map (recordOf G) (mappingsOf G p)
+
+      S : Savable (A .levels) (granuleWord G) rs
+      S = subst (λ (x : ℕ). Savable x (granuleWord G) rs) (H .levels-are) (pool-savable Z p (setup-good (H .good)) (few-mappings G Z H small))
+
+      read : readImage (A .levels) (granuleWord G) image ≡ readingOf (blocksFor (length rs)) rs
+      read = ap (readImage (A .levels) (granuleWord G)) (saved-is G p (good G Z H) (sound G Z H) room n image e ∙ ap (λ (x : ℕ). imageOf x (granuleWord G) rs) (H .levels-are)) ∙ read-back (A .levels) (granuleWord G) rs S
 
   -- What a pool that holds a ledger saved, read with the same levels into memory with at least as many tables, in any split, and no frame under them.
   pub round-trip : FewEntries G → {p : Pool} {A : Ledger} → Holds G p A → (room n : ℕ) (image : List ℕ) → saveW G p room ≡ saved n image
@@ -100,9 +137,6 @@ module _ (G : Granule) (Z : Sane G) where
       L : List Mapping
       L = mappingsOf G p
 
-      rs : List Rec
-      rs = map (recordOf G) L
-
       D : Done
       D = formatW G (A .levels) area ws cut list
 
@@ -118,21 +152,15 @@ module _ (G : Granule) (Z : Sane G) where
       well : Each (WellFormed G) L
       well = pool-well Z p (setup-good (H .good))
 
-      S : Savable (A .levels) (granuleWord G) rs
-      S = subst (λ (x : ℕ). Savable x (granuleWord G) rs) (H .levels-are) (pool-savable Z p (setup-good (H .good)) (few-mappings G Z H small))
-
-      -- what was saved is the image of the pool's mappings, and is read back as such
-      read : R ≡ readingOf (blocksFor (length rs)) rs
-      read = ap (readImage (A .levels) (granuleWord G)) (saved-is G p (good G Z H) (sound G Z H) room n image e ∙ ap (λ (x : ℕ). imageOf x (granuleWord G) rs) (H .levels-are)) ∙ read-back (A .levels) (granuleWord G) rs S
-
       M : ((a : Answer) → List·Memᴰ a (answersL G empty (map mapOf L)) → (t : ℕ) × (a ≡ took t)) × (ledgerAfter G empty (map mapOf L) ≡ ledger (A .levels) area (onto L []))
       M = remade-ledger G Z H area L l off (climbing-distinct 0 L (pool-climbs Z p (setup-good (H .good)))) (λ m. (H .listed m, H .live m))
 
       -- by the ledger all of them are entered
       entered-all : restoreFrom G (mapLedger G) empty empty R ≡ came restored (ledger (A .levels) area (onto L []))
-      entered-all = from-whole G (mapLedger G) empty empty R (ledger (A .levels) area (onto L []))
-          (ap badIn read ∙ reading-sound (blocksFor (length rs)) rs)
-          (ap (restoreRecs G (mapLedger G) empty) (ap recordsIn read ∙ reading-records (blocksFor (length rs)) rs refl) ∙ recs-made empty L well (M .0) ∙ ap (came restored) (M .1))
+      entered-all =
+          let (records, sound) = saved-read small H room n image e in
+          from-whole G (mapLedger G) empty empty R (ledger (A .levels) area (onto L [])) sound
+          (ap (restoreRecs G (mapLedger G) empty) records ∙ recs-made empty L well (M .0) ∙ ap (came restored) (M .1))
 
       alike : (restoreFrom G (mapPool G) (D .after) (D .after) R .answer ≡ restoreFrom G (mapLedger G) empty empty R .answer)
           × Holds G (restoreFrom G (mapPool G) (D .after) (D .after) R .after) (restoreFrom G (mapLedger G) empty empty R .after)

@@ -1,7 +1,7 @@
 -- Save: on a pool that holds a ledger its answer is the ledger's, and its mappings are not too many for an image.
 use mathlib.Core.Path.{_≡_, ap, sym, _∙_}
 use mathlib.Core.List.{List}
-use Prim.Native.Nat.{ℕ, _-_, _*_, _^_, _≤_}
+use Prim.Native.Nat.{ℕ, _-_, _^_, _≤_}
 use native.Mathlib.Nat.{mul-le-mul-left}
 use native.Mathlib.Omega.{arith}
 use lib.ListN.{length}
@@ -10,7 +10,7 @@ use Rattle.path.specs.Areas.{areaOf}
 use Rattle.path.specs.Numbers.{mostTables}
 use Rattle.model.specs.Answers.{Mapping, Pool}
 use Rattle.model.specs.Sound.{mappingsOf, reachedOf}
-use Rattle.model.specs.Ledger.{Ledger, sorted}
+use Rattle.model.specs.Ledger.{Ledger}
 use Rattle.image.specs.Images.{FewEntries, savedIn, saveW, saveL}
 use Rattle.image.specs.RecordLaws.{table-count}
 use Rattle.demand.specs.Holds.{Holds}

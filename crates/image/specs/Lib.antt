@@ -9,3 +9,4 @@ pub mod ImageCases
 pub mod Images
 pub mod RecordLaws
 pub mod RestoreLaws
+pub mod RestoreCases

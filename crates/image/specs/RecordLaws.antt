@@ -1,21 +1,19 @@
 -- A mapping's record says the mapping again, and the mappings of a pool can be saved.
 use mathlib.Core.Path.{_≡_, refl, ap, sym, _∙_, subst}
-use mathlib.Core.Logic.{⊎-elim}
 use mathlib.Core.Bool.{Bool, true, false, cond}
-use mathlib.Core.List.{List, [], _∷_, _++_, map, List·Memᴰ, List·Memᴰ·head as here, List·Memᴰ·tail as there, List·Memᴰ·not-nil, List·Memᴰ·cases-cons, Memᴰ·of-map}
+use mathlib.Core.List.{List, [], _∷_, map, List·Memᴰ·head as here, List·Memᴰ·tail as there, Memᴰ·of-map}
 use Prim.Native.Nat.{ℕ, zero, suc, _+_, _-_, _*_, _%_, _^_, _≤_, _<_}
 use native.Mathlib.Nat.{mul-add, mul-suc, mul-le-mul-left}
 use native.Mathlib.Omega.{arith}
-use lib.Dec.{ltb, leb, eqb}
+use lib.Dec.{ltb, eqb}
 use lib.ListN.{length, length-append, length-map}
 use lib.Pow.{pow-lt, pow-mono}
 use borrow.Author.Tests.{le-ltb, le-leb}
 use Rattle.laws.specs.ListLaws.{length-part-le}
-use Rattle.path.specs.Geometry.{Granule, Sane, pageSize, entries, sizeAt, spaceOf, physical, heightOf}
-use Rattle.path.specs.Areas.{Area, areaOf, total}
-use Rattle.path.specs.Numbers.{mostTables}
+use Rattle.path.specs.Geometry.{Granule, Sane, four, pageSize, entries, sizeAt, spaceOf, physical, heightOf}
+use Rattle.path.specs.Areas.{Area}
 use Rattle.path.specs.Laws.{size-pos, size-height, space-some, good-setup}
-use Rattle.entry.specs.Words.{frameWord, frameAt, entryAt, Framed}
+use Rattle.entry.specs.Words.{entryAt, Framed}
 use Rattle.entry.specs.Laws.{power-down, frame-at-back, framed-below, frame-word-lt}
 use Rattle.entry.specs.declared.Entry.{Entry}
 use Rattle.entry.specs.declared.Entry.the-variants.{Empty, Table, Frame, Damaged}
@@ -24,14 +22,14 @@ use Rattle.model.specs.Calls.{goodPool}
 use Rattle.model.specs.Adds.{soundTree}
 use Rattle.model.specs.Walk.{slot}
 use Rattle.model.specs.Audit.{Found, nothing, tableWords, ofEntry, ofEntries, ofTable, ofPool}
-use Rattle.model.specs.Sound.{Each, mappingsOf, reachedOf, WellFormed}
+use Rattle.model.specs.Sound.{Each, mappingsOf, WellFormed}
 use Rattle.model.specs.LedgerLaws.{true-and}
-use Rattle.model.specs.AuditLaws.{node, pool-reached-low}
+use Rattle.model.specs.AuditLaws.{node}
 use Rattle.model.specs.MappingLaws.{pool-within, pool-well}
 use Rattle.model.specs.Listing.{powerOf, placeOf, entryOf, Climbing}
 use Rattle.model.specs.ListingLaws.{power-size, pool-climbs}
-use Rattle.image.specs.Layout.{Rec, rec, baseOf, blocksFor, imageOf, rises, Recs, Savable}
-use Rattle.image.specs.Images.{saved, badImage, means, meant, recordOf, granuleWord, savedIn, saveW}
+use Rattle.image.specs.Layout.{Rec, baseOf, blocksFor, imageOf, rises, Recs, Savable}
+use Rattle.image.specs.Images.{FewEntries, saved, badImage, means, meant, recordOf, granuleWord, savedIn, saveW}
 
 module _ {G : Granule} (Z : Sane G) where
   -- ---- one record
@@ -172,3 +170,7 @@ pub table-count : (G : Granule) (ws : List ℕ) (area : Area) (h t v : ℕ) → 
 unfolding ofTable
 table-count G ws area zero = count-node G ws area zero (λ _ _. nothing false) (λ c v. omega arith)
 table-count G ws area (suc h) = count-node G ws area (suc h) (λ c u. ofTable G ws area h c u) (table-count G ws area h)
+
+-- with 4 KiB pages there are at most 2^18
+pub few-four : FewEntries four
+few-four = omega arith

@@ -1,7 +1,7 @@
 -- What restoring comes to: the records of the good blocks mapped in their order, and then a bad block or the end.
-use mathlib.Core.Path.{_≡_, refl, ap, sym, _∙_, subst}
+use mathlib.Core.Path.{_≡_, refl, ap, sym, _∙_}
 use mathlib.Core.Bool.{Bool, true, false, cond, false≢true}
-use mathlib.Core.List.{List, [], _∷_, _++_, map, List·Memᴰ·head as here, List·Memᴰ·tail as there}
+use mathlib.Core.List.{List, [], _∷_, _++_}
 use mathlib.Core.Option.{Option, some, none}
 use Prim.Native.Nat.{ℕ, _+_, _*_, _<_}
 use native.Mathlib.Omega.{arith}
@@ -10,7 +10,7 @@ use Rattle.path.specs.Geometry.{Granule, Sane}
 use Rattle.path.specs.Areas.{Area}
 use Rattle.model.specs.Answers.{Mapping, Answer, answered, refusal, Pool, Done, done}
 use Rattle.model.specs.Calls.{formatW}
-use Rattle.model.specs.Sound.{Each, WellFormed}
+use Rattle.model.specs.Sound.{WellFormed}
 use Rattle.image.specs.Bytes.{wordsOf, bytesOfWords, Below, Block}
 use Rattle.image.specs.Check.{DifferAt}
 use Rattle.image.specs.Layout.{Rec, Reading, block, bad, ended, recordsIn, badIn, readImage, stoppedAt}

@@ -1,0 +1,83 @@
+-- Restores, computed, with the 4 KiB granule and three levels, tables from 0x40000000 on.
+use mathlib.Core.Path.{_≡_, refl}
+use mathlib.Core.List.{List, [], _∷_, _++_}
+use Prim.Native.Nat.{ℕ, zero, suc, _+_, _*_}
+use lib.ListN.{take, replicate}
+use Rattle.laws.specs.Lists.{part, allZero}
+use Rattle.path.specs.Geometry.{four}
+use Rattle.path.specs.Areas.{oneRegion}
+use Rattle.model.specs.Answers.{refused, Mapping, mapping, Done}
+use Rattle.model.specs.Cases.{format, map}
+use Rattle.image.specs.Bytes.{bytesOf, numberOf, bytesOfWords, wordsOf, bytesOfBlocks}
+use Rattle.image.specs.Check.{weigh, checkOf}
+use Rattle.image.specs.Layout.{Rec, rec, wordsOfRecs, blockOf, recBlocks, imageBlocks, imageOf, recsIn, rises, lowAfter, whole, goodHead, goodBlock, readBlocks, readImage}
+use Rattle.image.specs.Images.{restored, badImage, recordOf, meant, restoreRecs, restoreFrom, restoreW}
+
+-- a pool of n tables, and what it answers to an image
+abbrev reads : ℕ → List ℕ → Done
+reads n image = restoreW four 3 (oneRegion 0x40000000 n) (replicate (512 * n) 7) (512 * n) (replicate n 9) image
+
+-- a page at 4096
+abbrev page : Mapping
+page = mapping 0x1000 0x80000000 4096 3
+
+-- its image: two blocks
+abbrev image : List Rec → List ℕ
+image rs = imageOf 3 0 rs
+
+-- so many pages from 0 on, one after the other
+abbrev pages : ℕ → List Rec
+pages zero = []
+pages (suc n) = pages n ++ recordOf four (mapping (4096 * n) 0x80000000 4096 3) ∷ []
+
+-- an image of 32 of them, three blocks, with another last byte: the check of block 2 is wrong
+abbrev wrong : List ℕ
+wrong = take 1535 (image (pages 32)) ++ 255 ∷ []
+
+pub record RestoreCases : Type 0 where
+  -- it takes two tables
+  pub takes : reads 3 (image (recordOf four page ∷ [])) .answer ≡ restored
+  pub free : reads 3 (image (recordOf four page ∷ [])) .after .numbers .free ≡ 0
+  -- with one table it is 7, and the pool is fresh
+  pub short : reads 1 (image (recordOf four page ∷ [])) .answer ≡ refused 7
+  pub fresh : reads 1 (image (recordOf four page ∷ [])) .after .numbers .free ≡ 0
+  -- what was mapped before a refusal is gone
+  pub undone : reads 3 (image (recordOf four page ∷ rec 0x200015 0 ∷ [])) .answer ≡ refused 8
+  pub undone-free : reads 3 (image (recordOf four page ∷ rec 0x200015 0 ∷ [])) .after .numbers .free ≡ 2
+  -- a power of two that no frame has goes before a word that is none
+  pub power : reads 3 (image (rec 0x100D 0 ∷ [])) .answer ≡ refused 2
+  -- a frame in the pool
+  pub inside : reads 3 (image (recordOf four (mapping 0 0x40000000 4096 3) ∷ [])) .answer ≡ refused 11
+  -- the records of block 1 are mapped before block 2 is looked at
+  pub later-check : reads 3 wrong .answer ≡ badImage 2
+  pub earlier-map : reads 1 wrong .answer ≡ refused 7
+  -- a byte too many, after the last record is mapped; a byte too few; nothing
+  pub more : reads 3 (image (recordOf four page ∷ []) ++ 0 ∷ []) .answer ≡ badImage 2
+  pub less : reads 3 (take 1023 (image (recordOf four page ∷ []))) .answer ≡ badImage 1
+  pub nothing : reads 3 [] .answer ≡ badImage 0
+  -- another granule, other levels
+  pub granule : reads 3 (imageOf 3 16384 []) .answer ≡ badImage 0
+  pub levels : reads 3 (imageOf 4 0 []) .answer ≡ badImage 0
+  -- bases that do not rise
+  pub order : reads 3 (image (recordOf four page ∷ recordOf four page ∷ [])) .answer ≡ badImage 1
+
+pub restore-cases : RestoreCases
+unfolding format map bytesOf numberOf bytesOfWords wordsOf bytesOfBlocks weigh checkOf wordsOfRecs blockOf recBlocks imageBlocks imageOf recsIn rises lowAfter whole goodHead goodBlock readBlocks readImage meant restoreRecs restoreFrom restoreW part allZero
+restore-cases = record {
+  takes = refl;
+  free = refl;
+  short = refl;
+  fresh = refl;
+  undone = refl;
+  undone-free = refl;
+  power = refl;
+  inside = refl;
+  later-check = refl;
+  earlier-map = refl;
+  more = refl;
+  less = refl;
+  nothing = refl;
+  granule = refl;
+  levels = refl;
+  order = refl;
+}
