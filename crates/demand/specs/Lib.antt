@@ -25,6 +25,7 @@ pub mod Histories
 pub mod Orders
 pub mod HistoryCases
 pub mod Remade
+pub mod RoundTrip
 pub mod Restores
 pub mod Story
 pub mod Clauses

@@ -10,7 +10,7 @@ use Rattle.path.specs.Geometry.{Granule, Sane}
 use Rattle.path.specs.Areas.{Area, areaOf, total}
 use Rattle.path.specs.Laws.{setup-good}
 use Rattle.model.specs.Answers.{Answer, answered, refusal, formatted, took, audited, Mapping, Pool, Done}
-use Rattle.model.specs.Calls.{formatW, queryW}
+use Rattle.model.specs.Calls.{formatW}
 use Rattle.model.specs.Audit.{auditW}
 use Rattle.model.specs.Sound.{Each, mappingsOf, WellFormed, OffTables}
 use Rattle.model.specs.MappingLaws.{pool-well}
@@ -28,15 +28,8 @@ use Rattle.demand.specs.Demand3.{Call, formatC, goOn, stepL, answersL, l
 use Rattle.demand.specs.Theorem.{step-holds, demand3, from-format}
 use Rattle.demand.specs.History.{SameMembers, mapOf}
 use Rattle.demand.specs.Saves.{few-mappings}
+use Rattle.demand.specs.RoundTrip.{RoundTrip}
 use Rattle.demand.specs.Remade.{onto, onto-members, remade-ledger, same-answers}
-
--- What was saved is restored: the image is accepted, the pool then holds the mappings that were saved, each once, and queries answer as before.
-pub record RoundTrip (G : Granule) (p : Pool) (A : Ledger) (area : Area) (d : Done) : Type 0 where
-  pub answer : d .answer ≡ restored
-  pub live : List Mapping
-  pub same : SameMembers live (A .live)
-  pub holds : Holds G (d .after) (ledger (A .levels) area live)
-  pub query : (a : ℕ) → queryW G (d .after) a ≡ queryW G p a
 
 module _ (G : Granule) (Z : Sane G) where
   -- ---- words and ledger

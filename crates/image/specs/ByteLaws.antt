@@ -1,4 +1,4 @@
--- Words come back from their bytes and bytes from their words, and so blocks and runs.
+-- Words come back from their bytes and bytes from their words, and so do blocks.
 use mathlib.Core.Path.{_≡_, refl, ap, sym, _∙_, subst}
 use mathlib.Core.Logic.{⊎-elim}
 use mathlib.Core.List.{List, [], _∷_, _++_, append-assoc, append-nil, List·Memᴰ·head as here, List·Memᴰ·tail as there, List·Memᴰ·not-nil, List·Memᴰ·cases-cons, List·Memᴰ·append-cases}
@@ -7,7 +7,7 @@ use native.Mathlib.Nat.{pow-suc}
 use native.Mathlib.Omega.{arith}
 use lib.ListN.{length, take, drop, length-append, length-drop, take-append-drop}
 use lib.Seq.{take-at, drop-at, length-take-le}
-use Rattle.image.specs.Bytes.{bytesOf, numberOf, bytesOfWords, wordsOf, bytesOfBlocks, blocksOf, Below, Block, Blocks}
+use Rattle.image.specs.Bytes.{bytesOf, numberOf, bytesOfWords, wordsOf, bytesOfBlocks, Below, Block, Blocks}
 
 -- ---- bounds
 
@@ -132,22 +132,3 @@ block-back b rest f = (
       ∙ ap (λ (n : ℕ). wordsOf n (bytesOfWords b ++ [])) (sym (f .0)) ∙ words-back b [] (f .1),
   drop-at (bytesOfWords b) rest 512 (length-bytes-block b f),
 )
-
--- blocks come back from their bytes, whatever stands after these
-pub blocks-back : (Bs : List (List ℕ)) (rest : List ℕ) → Blocks Bs → blocksOf (length Bs) (bytesOfBlocks Bs ++ rest) ≡ Bs
-unfolding blocksOf bytesOfBlocks
-blocks-back [] rest f = refl
-blocks-back (b ∷ Bs) rest f =
-    let e : (bytesOfWords b ++ bytesOfBlocks Bs) ++ rest ≡ bytesOfWords b ++ (bytesOfBlocks Bs ++ rest) = append-assoc (bytesOfWords b) (bytesOfBlocks Bs) rest in
-    let (t, d) = block-back b (bytesOfBlocks Bs ++ rest) (f b (here refl)) in
-    rw (e, t, d) (ap (λ (l : List (List ℕ)). b ∷ l) (blocks-back Bs rest (λ c i. f c (there i))))
-
--- and a run of whole blocks from its blocks
-pub run-back : (n : ℕ) (bs : List ℕ) → length bs ≡ 512 * n → Below 256 bs → bytesOfBlocks (blocksOf n bs) ≡ bs
-unfolding blocksOf bytesOfBlocks
-run-back zero [] e f = refl
-run-back zero (b ∷ bs) e f = absurd (omega arith)
-run-back (suc n) bs e f = (λ i. one i ++ run-back n (drop 512 bs) (length-drop 512 bs ∙ omega arith) (below-drop 256 512 bs f) i) ∙ take-append-drop 512 bs
-  where
-    one : bytesOfWords (wordsOf 64 (take 512 bs)) ≡ take 512 bs
-    one = bytes-back 64 (take 512 bs) (length-take-le 512 bs (omega arith)) (below-take 256 512 bs f)

@@ -29,11 +29,6 @@ unfoldable pub bytesOfBlocks : List (List ℕ) → List ℕ
 bytesOfBlocks [] = []
 bytesOfBlocks (b ∷ Bs) = bytesOfWords b ++ bytesOfBlocks Bs
 
--- the first n blocks of a run of bytes
-unfoldable pub blocksOf : ℕ → List ℕ → List (List ℕ)
-blocksOf zero bs = []
-blocksOf (suc n) bs = wordsOf 64 (take 512 bs) ∷ blocksOf n (drop 512 bs)
-
 -- each number of a list is below a bound
 abbrev pub Below : ℕ → List ℕ → Type 0
 Below top l = (x : ℕ) → List·Memᴰ x l → x < top

@@ -5,6 +5,7 @@ pub mod CheckLaws
 pub mod Layout
 pub mod LayoutLaws
 pub mod Exact
+pub mod Damage
 pub mod ImageCases
 pub mod Images
 pub mod RecordLaws

@@ -3,7 +3,7 @@ use mathlib.Core.Path.{_≡_, refl, ap, sym, _∙_}
 use mathlib.Core.Bool.{Bool, true, false, cond, false≢true}
 use mathlib.Core.List.{List, [], _∷_, _++_}
 use mathlib.Core.Option.{Option, some, none}
-use Prim.Native.Nat.{ℕ, _+_, _*_, _<_}
+use Prim.Native.Nat.{ℕ, _+_, _*_, _/_, _<_}
 use native.Mathlib.Omega.{arith}
 use lib.ListN.{length, take, drop}
 use Rattle.path.specs.Geometry.{Granule, Sane}
@@ -14,7 +14,7 @@ use Rattle.model.specs.Sound.{WellFormed}
 use Rattle.image.specs.Bytes.{wordsOf, bytesOfWords, Below, Block}
 use Rattle.image.specs.Check.{DifferAt}
 use Rattle.image.specs.Layout.{Rec, Reading, block, bad, ended, recordsIn, badIn, readImage, stoppedAt}
-use Rattle.image.specs.Exact.{run-change, stopped-at-before}
+use Rattle.image.specs.Damage.{StopsAt, stopped-at-before, run-change, run-cut, run-more}
 use Rattle.image.specs.Images.{restored, badImage, accepted, Meant, means, means-none, meant, recordOf, granuleWord, Came, came, mapPool, restoreOne, restoreRecs, restoreFrom, readInto, restoreW}
 use Rattle.image.specs.RecordLaws.{record-back}
 
@@ -51,21 +51,6 @@ module _ {S : Type 0} (G : Granule) (mapOne : S → Mapping → Came S) where
           → accepted (cond b (restoreRecs G mapOne (restoreRecs G mapOne s l .after) k) (restoreRecs G mapOne s l) .answer) ≡ true → b ≡ true
       go true q e = refl
       go false q e = absurd (false≢true (sym q ∙ e))
-
-  -- records that are all accepted answer no values
-  pub recs-answer : (s : S) (l : List Rec) → accepted (restoreRecs G mapOne s l .answer) ≡ true → restoreRecs G mapOne s l .answer ≡ restored
-  unfolding restoreRecs
-  recs-answer s [] e = refl
-  recs-answer s (r ∷ l) e = go (accepted (restoreOne G mapOne s (meant G r) .answer)) refl e (recs-answer (restoreOne G mapOne s (meant G r) .after) l)
-    where
-      c : Came S
-      c = restoreOne G mapOne s (meant G r)
-
-      go : (b : Bool) → accepted (c .answer) ≡ b → accepted (cond b (restoreRecs G mapOne (c .after) l) c .answer) ≡ true
-          → (accepted (restoreRecs G mapOne (c .after) l .answer) ≡ true → restoreRecs G mapOne (c .after) l .answer ≡ restored)
-          → cond b (restoreRecs G mapOne (c .after) l) c .answer ≡ restored
-      go true q e ih = ih e
-      go false q e ih = absurd (false≢true (sym q ∙ e))
 
   -- ---- blocks
 
@@ -167,20 +152,16 @@ module _ {S T : Type 0} (G : Granule) (mapOne : S → Mapping → Came S) (mapTw
 
 -- ---- over words
 
--- Any change confined to one word of a block is found: where an image is accepted, let the 512 bytes of block j be those of another block that differs in
--- one word alone, whichever it is. Then the answer is 12 with the block's number, and the pool is freshly formatted.
-pub change-refused : (G : Granule) (levels : ℕ) (area : Area) (ws : List ℕ) (cut : ℕ) (list image : List ℕ) → Below 256 image
+-- Where an image is accepted, another that is read like it up to block j, which is bad, gets 12 with that number, and leaves the pool freshly formatted.
+other-refused : (G : Granule) (levels : ℕ) (area : Area) (ws : List ℕ) (cut : ℕ) (list image other : List ℕ) (j : ℕ)
     → restoreW G levels area ws cut list image .answer ≡ restored
-    → (j i : ℕ) (c : List ℕ) → 512 * j < length image → Block c → i < 64 → DifferAt i (wordsOf 64 (take 512 (drop (512 * j) image))) c
-    → restoreW G levels area ws cut list (take (512 * j) image ++ (bytesOfWords c ++ drop (512 * j + 512) image)) ≡ done (badImage j) (formatW G levels area ws cut list .after)
+    → (badIn (readImage levels (granuleWord G) image) ≡ none → StopsAt levels (granuleWord G) image other j)
+    → restoreW G levels area ws cut list other ≡ done (badImage j) (formatW G levels area ws cut list .after)
 unfolding restoreW
-change-refused G levels area ws cut list image f e j i c l C x d = go (D .answer) refl e
+other-refused G levels area ws cut list image other j e s = go (D .answer) refl e
   where
     D : Done
     D = formatW G levels area ws cut list
-
-    other : List ℕ
-    other = take (512 * j) image ++ (bytesOfWords c ++ drop (512 * j + 512) image)
 
     play : Reading → Came Pool
     play R = restoreFrom G (mapPool G) (D .after) (D .after) R
@@ -190,7 +171,24 @@ change-refused G levels area ws cut list image f e j i c l C x d = go (D .answer
     go (answered v) q e =
         let R = readImage levels (granuleWord G) image in
         let all : accepted (play R .answer) ≡ true = restored-accepts e in
-        let (p, b) = run-change levels (granuleWord G) image f (from-accepted G (mapPool G) (D .after) (D .after) R all .0) j i c l C x d in
-        let (y, s) = stopped-at-before j R in
-        let r : play (readImage levels (granuleWord G) other) ≡ came (badImage j) (D .after) = ap play p ∙ from-cut G (mapPool G) (D .after) (D .after) R (stoppedAt j R) j y s b all in
+        let at = s (from-accepted G (mapPool G) (D .after) (D .after) R all .0) in
+        let (y, b) = stopped-at-before j R in
+        let r : play (readImage levels (granuleWord G) other) ≡ came (badImage j) (D .after) = ap play (at .before) ∙ from-cut G (mapPool G) (D .after) (D .after) R (stoppedAt j R) j y b (at .there) all in
         λ i. done (r i .answer) (r i .after)
+
+module _ (G : Granule) (levels : ℕ) (area : Area) (ws : List ℕ) (cut : ℕ) (list image : List ℕ) (f : Below 256 image)
+    (e : restoreW G levels area ws cut list image .answer ≡ restored) where
+  -- Any change confined to one word of a block is found, whichever word it is.
+  pub change-refused : (j i : ℕ) (c : List ℕ) → 512 * j < length image → Block c → i < 64 → DifferAt i (wordsOf 64 (take 512 (drop (512 * j) image))) c
+      → restoreW G levels area ws cut list (take (512 * j) image ++ (bytesOfWords c ++ drop (512 * j + 512) image)) ≡ done (badImage j) (formatW G levels area ws cut list .after)
+  change-refused j i c l C x d =
+      other-refused G levels area ws cut list image (take (512 * j) image ++ (bytesOfWords c ++ drop (512 * j + 512) image)) j e (λ s. run-change levels (granuleWord G) image f s j i c l C x d)
+
+  -- So is a cut, at any byte: the block where it is is missing, or short.
+  pub cut-refused : (j r : ℕ) → r < 512 → 512 * j + r < length image
+      → restoreW G levels area ws cut list (take (512 * j + r) image) ≡ done (badImage j) (formatW G levels area ws cut list .after)
+  cut-refused j r s l = other-refused G levels area ws cut list image (take (512 * j + r) image) j e (λ b. run-cut levels (granuleWord G) image f b j r s l)
+
+  -- And a byte or more past the end: the number is that of the block after the last.
+  pub more-refused : (x : ℕ) (rest : List ℕ) → restoreW G levels area ws cut list (image ++ (x ∷ rest)) ≡ done (badImage (length image / 512)) (formatW G levels area ws cut list .after)
+  more-refused x rest = other-refused G levels area ws cut list image (image ++ (x ∷ rest)) (length image / 512) e (λ b. run-more levels (granuleWord G) image f b x rest)
