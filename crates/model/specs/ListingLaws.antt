@@ -187,6 +187,23 @@ from-climbs start lo (m ∷ L) c = go (leb start (m .at)) refl (from-climbs star
     go true e ih = (leb-true _ _ e, subst (Climbing (suc (m .at))) (sym (from-low start (suc (m .at)) L (omega (arith, leb-true start (m .at) e)) (c .1))) (c .1))
     go false e ih = ih
 
+-- joined lists
+pub from-append : (start : ℕ) (L M : List Mapping) → fromOn start (L ++ M) ≡ fromOn start L ++ fromOn start M
+unfolding fromOn
+from-append start [] M = refl
+from-append start (m ∷ L) M = go (leb start (m .at)) (from-append start L M)
+  where
+    go : (b : Bool) → fromOn start (L ++ M) ≡ fromOn start L ++ fromOn start M
+        → cond b (m ∷ fromOn start (L ++ M)) (fromOn start (L ++ M)) ≡ cond b (m ∷ fromOn start L) (fromOn start L) ++ fromOn start M
+    go true e = ap (λ (k : List Mapping). m ∷ k) e
+    go false e = e
+
+-- of mappings that are all below the start none is kept
+pub from-none : (start : ℕ) (L : List Mapping) → Each (λ m. m .at < start) L → fromOn start L ≡ []
+unfolding fromOn
+from-none start [] f = refl
+from-none start (m ∷ L) f = rw (lt-leb start (m .at) (f m (here refl))) (from-none start L (λ k i. f k (there i)))
+
 -- what is kept: the mappings with base at the start or above
 pub from-all : (start : ℕ) (L : List Mapping) (x : Mapping) → List·Memᴰ x (fromOn start L) ↔ (List·Memᴰ x L × (start ≤ x .at))
 unfolding fromOn
@@ -248,11 +265,11 @@ firstBase [] = none
 firstBase (m ∷ L) = some (m .at)
 
 module _ (G : Granule) where
-  listing-places : (W R : List Mapping) → placesIn (listing G W R) ≡ map (placeOf G) W
+  pub listing-places : (W R : List Mapping) → placesIn (listing G W R) ≡ map (placeOf G) W
   listing-places W [] = take-at (map (placeOf G) W) (map (entryOf G) W) (length W) (length-map W (placeOf G))
   listing-places W (m ∷ R) = take-at (map (placeOf G) W) (map (entryOf G) W) (length W) (length-map W (placeOf G))
 
-  listing-entries : (W R : List Mapping) → entriesIn (listing G W R) ≡ map (entryOf G) W
+  pub listing-entries : (W R : List Mapping) → entriesIn (listing G W R) ≡ map (entryOf G) W
   listing-entries W [] = drop-at (map (placeOf G) W) (map (entryOf G) W) (length W) (length-map W (placeOf G))
   listing-entries W (m ∷ R) = drop-at (map (placeOf G) W) (map (entryOf G) W) (length W) (length-map W (placeOf G))
 

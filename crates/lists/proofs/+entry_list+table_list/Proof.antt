@@ -1,0 +1,245 @@
+-- `table_list` and `entry_list`, which call each other, meet their contracts.
+use Prim.Native.Nat.{ℕ, _+_, _-_, _*_, _≤_, _<_}
+use mathlib.Core.Path.{_≡_, refl, sym, ap, _∙_}
+use mathlib.Core.List.{List, _++_}
+use native.Mathlib.Omega.{arith}
+use lib.ListN.{length, length-append}
+use borrow.Author.Needs.{needs}
+use Rattle.path.specs.Geometry.{four, sizeAt}
+use Rattle.path.specs.Laws.{four-sane}
+use Rattle.lists.specs.Feeds.{areaIn}
+use Rattle.lists.proofs.Rests.{Same, words-long, loop-end, loop-stop, loop-next, left-next, entry-ends, entry-fit, entry-told, table-told, pages-sound, pages-fit, pages-told, entry-none, entry-one, child-fit, child-told}
+use borrow.Fn.Kinds.{In}
+use borrow.Fn.PlainCycle.{Measures, is, falls, and}
+use Rattle.lists.proofs.entry_list.Reads as entry-list
+use Rattle.lists.proofs.entry_list.Kinds as entry-list-kinds
+use Rattle.lists.proofs.+entry_list+table_list.Lts-entry_list as entry-list-lts
+use Rattle.lists.proofs.table_list.Reads as table-list
+use Rattle.lists.proofs.table_list.Kinds as table-list-kinds
+use Rattle.lists.proofs.+entry_list+table_list.Lts-table_list as table-list-lts
+use Rattle.entry.proofs.child_in.Reads as child-in-reads
+use Rattle.lists.proofs.entries_left.Reads as entries-left-reads
+use Rattle.lists.proofs.going.Reads as going-reads
+use Rattle.lists.proofs.pages_list.Reads as pages-list-reads
+use Rattle.lists.proofs.word_list.Reads as word-list-reads
+use Rattle.path.proofs.size_at.Reads as size-at-reads
+use Rattle.pool.proofs.table_part.Reads as table-part-reads
+use Rattle.lists.proofs.+entry_list+table_list.{statement}
+use Rattle.lists.proofs.+entry_list+table_list.Tie.{close}
+
+abbrev μ-entry-list : Measures 3 entry-list-kinds.ps ℕ
+μ-entry-list κs a = a .1 .1 .1 .1 .1 .1 .0 * 2 + 1
+
+abbrev μ-table-list : Measures 3 table-list-kinds.ps ℕ
+μ-table-list κs a = a .1 .1 .1 .1 .1 .1 .0 * 2 + 2
+
+abbrev entry-list-at : ℕ → In 3 entry-list-kinds.ps
+entry-list-at t =
+    and 3 entry-list-kinds.ps (is 3 entry-list-kinds.ps μ-entry-list t) entry-list.Pre
+
+abbrev entry-list-below : ℕ → In 3 entry-list-kinds.ps
+entry-list-below t =
+    and 3 entry-list-kinds.ps (falls 3 entry-list-kinds.ps _<_ μ-entry-list t) entry-list.Pre
+
+abbrev table-list-at : ℕ → In 3 table-list-kinds.ps
+table-list-at t =
+    and 3 table-list-kinds.ps (is 3 table-list-kinds.ps μ-table-list t) table-list.Pre
+
+abbrev table-list-below : ℕ → In 3 table-list-kinds.ps
+table-list-below t =
+    and 3 table-list-kinds.ps (falls 3 table-list-kinds.ps _<_ μ-table-list t) table-list.Pre
+
+-- what the calls of `entry_list` and of `table_list` ask and tell
+abbrev entry-claims : ℕ → entry-list-lts.Claims
+entry-claims t = (
+  going-reads.Asked,
+  going-reads.Learnt,
+  child-in-reads.Asked,
+  child-in-reads.Learnt,
+  word-list-reads.Asked,
+  word-list-reads.Learnt,
+  table-list-below t,
+  table-list.Post,
+)
+
+abbrev table-claims : ℕ → table-list-lts.Claims
+table-claims t = (
+  table-part-reads.Asked,
+  table-part-reads.Learnt,
+  entries-left-reads.Asked,
+  entries-left-reads.Learnt,
+  pages-list-reads.Asked,
+  pages-list-reads.Learnt,
+  size-at-reads.Asked,
+  size-at-reads.Learnt,
+  entry-list-below t,
+  entry-list.Post,
+  going-reads.Asked,
+  going-reads.Learnt,
+)
+
+entry-list-going-requires : (t : ℕ) → entry-list-lts.Need-going-requires (entry-claims t) (entry-list-at t) entry-list.Post
+entry-list-going-requires t c κs = ?
+
+entry-list-returns : (t : ℕ) → entry-list-lts.Need-returns (entry-claims t) (entry-list-at t) entry-list.Post
+entry-list-returns t c = ?
+
+entry-list-child-in-requires : (t : ℕ) → entry-list-lts.Need-child-in-requires (entry-claims t) (entry-list-at t) entry-list.Post
+entry-list-child-in-requires t c κs = ?
+
+entry-list-word-list-requires : (t : ℕ) → entry-list-lts.Need-word-list-requires (entry-claims t) (entry-list-at t) entry-list.Post
+entry-list-word-list-requires t c κs = ?
+
+entry-list-same-length : (t : ℕ) → entry-list-lts.Need-same-length (entry-claims t) (entry-list-at t) entry-list.Post
+entry-list-same-length t c = ?
+
+entry-list-same-length-2 : (t : ℕ) → entry-list-lts.Need-same-length-2 (entry-claims t) (entry-list-at t) entry-list.Post
+entry-list-same-length-2 t c = ?
+
+entry-list-returns-2 : (t : ℕ) → entry-list-lts.Need-returns-2 (entry-claims t) (entry-list-at t) entry-list.Post
+entry-list-returns-2 t c = ?
+
+entry-list-sub-table-list : (t : ℕ) → entry-list-lts.Need-sub-table-list (entry-claims t) (entry-list-at t) entry-list.Post
+entry-list-sub-table-list t c = ?
+
+entry-list-table-list-requires : (t : ℕ) → entry-list-lts.Need-table-list-requires (entry-claims t) (entry-list-at t) entry-list.Post
+entry-list-table-list-requires t c κs = ?
+
+entry-list-same-length-3 : (t : ℕ) → entry-list-lts.Need-same-length-3 (entry-claims t) (entry-list-at t) entry-list.Post
+entry-list-same-length-3 t c = ?
+
+entry-list-same-length-4 : (t : ℕ) → entry-list-lts.Need-same-length-4 (entry-claims t) (entry-list-at t) entry-list.Post
+entry-list-same-length-4 t c = ?
+
+entry-list-returns-3 : (t : ℕ) → entry-list-lts.Need-returns-3 (entry-claims t) (entry-list-at t) entry-list.Post
+entry-list-returns-3 t c = ?
+
+abbrev table-list-Inv-loop : table-list-lts.InvT-loop
+table-list-Inv-loop words second places₀ entries₀ tree t height first written part left₀ size n₀ places entries left n =
+    (left ≤ 512)
+    × (tree .start < first + sizeAt four height * (512 - left) + sizeAt four height)
+    × (length places ≡ length places₀)
+    × (length entries ≡ length entries₀)
+    × Same four (words ++ second) (areaIn tree) (tree .start) height first part left₀ places₀ entries₀ n₀ places entries n left
+
+abbrev table-list-μ-loop : table-list-lts.MeasureT-loop
+table-list-μ-loop words second places₀ entries₀ tree t height first written part left₀ size n₀ places entries left n = left
+
+table-list-table-part-requires : (t : ℕ) → table-list-lts.Need-table-part-requires (table-claims t) (table-list-at t) table-list.Post table-list-Inv-loop table-list-μ-loop
+table-list-table-part-requires t c κs = ?
+
+table-list-entries-left-requires : (t : ℕ) → table-list-lts.Need-entries-left-requires (table-claims t) (table-list-at t) table-list.Post table-list-Inv-loop table-list-μ-loop
+table-list-entries-left-requires t c κs = ?
+
+table-list-pages-list-requires : (t : ℕ) → table-list-lts.Need-pages-list-requires (table-claims t) (table-list-at t) table-list.Post table-list-Inv-loop table-list-μ-loop
+table-list-pages-list-requires t c κs = ?
+
+table-list-same-length : (t : ℕ) → table-list-lts.Need-same-length (table-claims t) (table-list-at t) table-list.Post table-list-Inv-loop table-list-μ-loop
+table-list-same-length t c = ?
+
+table-list-same-length-2 : (t : ℕ) → table-list-lts.Need-same-length-2 (table-claims t) (table-list-at t) table-list.Post table-list-Inv-loop table-list-μ-loop
+table-list-same-length-2 t c = ?
+
+table-list-returns : (t : ℕ) → table-list-lts.Need-returns (table-claims t) (table-list-at t) table-list.Post table-list-Inv-loop table-list-μ-loop
+table-list-returns t c = ?
+
+table-list-size-at-requires : (t : ℕ) → table-list-lts.Need-size-at-requires (table-claims t) (table-list-at t) table-list.Post table-list-Inv-loop table-list-μ-loop
+table-list-size-at-requires t c κs = ?
+
+table-list-loop-holds : (t : ℕ) → table-list-lts.Need-loop-holds (table-claims t) (table-list-at t) table-list.Post table-list-Inv-loop table-list-μ-loop
+table-list-loop-holds t c = ?
+
+table-list-sub-i : (t : ℕ) → table-list-lts.Need-sub-i (table-claims t) (table-list-at t) table-list.Post table-list-Inv-loop table-list-μ-loop
+table-list-sub-i t c = ?
+
+table-list-mul-base : (t : ℕ) → table-list-lts.Need-mul-base (table-claims t) (table-list-at t) table-list.Post table-list-Inv-loop table-list-μ-loop
+table-list-mul-base t c = ?
+
+table-list-add-base : (t : ℕ) → table-list-lts.Need-add-base (table-claims t) (table-list-at t) table-list.Post table-list-Inv-loop table-list-μ-loop
+table-list-add-base t c = ?
+
+table-list-mul-entry-list : (t : ℕ) → table-list-lts.Need-mul-entry-list (table-claims t) (table-list-at t) table-list.Post table-list-Inv-loop table-list-μ-loop
+table-list-mul-entry-list t c = ?
+
+table-list-shared-slice-read-entry-list :
+    (t : ℕ) → table-list-lts.Need-shared-slice-read-entry-list (table-claims t) (table-list-at t) table-list.Post table-list-Inv-loop table-list-μ-loop
+table-list-shared-slice-read-entry-list t c = ?
+
+table-list-entry-list-requires : (t : ℕ) → table-list-lts.Need-entry-list-requires (table-claims t) (table-list-at t) table-list.Post table-list-Inv-loop table-list-μ-loop
+table-list-entry-list-requires t c κs = ?
+
+table-list-same-length-3 : (t : ℕ) → table-list-lts.Need-same-length-3 (table-claims t) (table-list-at t) table-list.Post table-list-Inv-loop table-list-μ-loop
+table-list-same-length-3 t c = ?
+
+table-list-same-length-4 : (t : ℕ) → table-list-lts.Need-same-length-4 (table-claims t) (table-list-at t) table-list.Post table-list-Inv-loop table-list-μ-loop
+table-list-same-length-4 t c = ?
+
+table-list-returns-2 : (t : ℕ) → table-list-lts.Need-returns-2 (table-claims t) (table-list-at t) table-list.Post table-list-Inv-loop table-list-μ-loop
+table-list-returns-2 t c = ?
+
+table-list-sub-left : (t : ℕ) → table-list-lts.Need-sub-left (table-claims t) (table-list-at t) table-list.Post table-list-Inv-loop table-list-μ-loop
+table-list-sub-left t c = ?
+
+table-list-loop-less : (t : ℕ) → table-list-lts.Need-loop-less (table-claims t) (table-list-at t) table-list.Post table-list-Inv-loop table-list-μ-loop
+table-list-loop-less t c = ?
+
+table-list-loop-again : (t : ℕ) → table-list-lts.Need-loop-again (table-claims t) (table-list-at t) table-list.Post table-list-Inv-loop table-list-μ-loop
+table-list-loop-again t c = ?
+
+table-list-going-requires : (t : ℕ) → table-list-lts.Need-going-requires (table-claims t) (table-list-at t) table-list.Post table-list-Inv-loop table-list-μ-loop
+table-list-going-requires t c κs = ?
+
+table-list-same-length-5 : (t : ℕ) → table-list-lts.Need-same-length-5 (table-claims t) (table-list-at t) table-list.Post table-list-Inv-loop table-list-μ-loop
+table-list-same-length-5 t c = ?
+
+table-list-same-length-6 : (t : ℕ) → table-list-lts.Need-same-length-6 (table-claims t) (table-list-at t) table-list.Post table-list-Inv-loop table-list-μ-loop
+table-list-same-length-6 t c = ?
+
+table-list-returns-3 : (t : ℕ) → table-list-lts.Need-returns-3 (table-claims t) (table-list-at t) table-list.Post table-list-Inv-loop table-list-μ-loop
+table-list-returns-3 t c = ?
+
+pub +entry-list+table-list-spec : {M : Type 1} → statement M
++entry-list+table-list-spec = close μ-entry-list μ-table-list (λ t. entry-list-lts.spec (entry-claims t)
+    (entry-list-at t)
+    entry-list.Post
+    (entry-list-going-requires t)
+    (entry-list-returns t)
+    (entry-list-child-in-requires t)
+    (entry-list-word-list-requires t)
+    (entry-list-same-length t)
+    (entry-list-same-length-2 t)
+    (entry-list-returns-2 t)
+    (entry-list-sub-table-list t)
+    (entry-list-table-list-requires t)
+    (entry-list-same-length-3 t)
+    (entry-list-same-length-4 t)
+    (entry-list-returns-3 t))
+    λ t. table-list-lts.spec (table-claims t)
+    (table-list-at t)
+    table-list.Post
+    table-list-Inv-loop
+    table-list-μ-loop
+    (table-list-table-part-requires t)
+    (table-list-entries-left-requires t)
+    (table-list-pages-list-requires t)
+    (table-list-same-length t)
+    (table-list-same-length-2 t)
+    (table-list-returns t)
+    (table-list-size-at-requires t)
+    (table-list-loop-holds t)
+    (table-list-sub-i t)
+    (table-list-mul-base t)
+    (table-list-add-base t)
+    (table-list-mul-entry-list t)
+    (table-list-shared-slice-read-entry-list t)
+    (table-list-entry-list-requires t)
+    (table-list-same-length-3 t)
+    (table-list-same-length-4 t)
+    (table-list-returns-2 t)
+    (table-list-sub-left t)
+    (table-list-loop-less t)
+    (table-list-loop-again t)
+    (table-list-going-requires t)
+    (table-list-same-length-5 t)
+    (table-list-same-length-6 t)
+    (table-list-returns-3 t)
