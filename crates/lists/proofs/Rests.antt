@@ -35,9 +35,6 @@ use Rattle.lists.proofs.Feeding.{fed-on, fed-stop, fed-none}
 -- ---- a table's words
 
 module _ (G : Granule) (ws : List ℕ) (t : ℕ) where
-  pub words-long : (area : Area) {first second : ℕ} → RunsFit G area first second → length ws ≡ first + second → t < total area → length (tableWords G ws t) ≡ entries G
-  words-long area R e l = length-part ws (slot G t 0) (entries G) (omega (arith, e, R .long, table-ends (entries G) l))
-
   pub word-is : (i : ℕ) → i < entries G → getD (tableWords G ws t) i 0 ≡ wordAt G ws t i
   word-is i l = getD-part ws (slot G t 0) (entries G) i l ∙ ap (λ (j : ℕ). getD ws j 0) (omega arith)
 
@@ -195,6 +192,7 @@ module _ {G : Granule} (S : Sane G) where
           subst (λ (x : ℕ). EntryFit G ws area start (getD us (entries G - left) 0) h (v + x * (entries G - left))) (sym size-is)
           (record {
             above = a;
+            low = T .region .level;
             region = inner;
             sound = subst (λ (w : ℕ). SoundEntry (SoundBelow G ws area h) (entryAt G area h w)) (sym (word-is G ws t (entries G - left) (omega arith)) ∙ ap (λ (x : List ℕ). getD x (entries G - left) 0) (sym q)) (sound-entry G ws area h t (T .sound) (entries G - left) (omega arith));
           })
@@ -241,6 +239,9 @@ module _ (G : Granule) (ws : List ℕ) (area : Area) (start h v : ℕ) (us : Lis
 -- ---- a table
 
 module _ {G : Granule} (S : Sane G) (ws : List ℕ) (area : Area) (start h t v : ℕ) (T : TableFit G ws area start t h v) {us : List ℕ} (q : us ≡ tableWords G ws t) where
+  pub table-long : {first second : ℕ} → RunsFit G area first second → length ws ≡ first + second → length us ≡ entries G
+  table-long R e = ap length q ∙ length-part ws (slot G t 0) (entries G) (omega (arith, e, R .long, table-ends (entries G) (T .inside)))
+
   -- from the entry on at which the loop begins
   pub table-told : (left : ℕ) → length us ≡ entries G → LeftFrom G start h v left → fromOn start (lastOf G ws area h v us left) ≡ fromOn start (ofTable G ws area h t v .mappings)
   table-told left e F =

@@ -112,5 +112,6 @@ pub record TableFit (G : Granule) (ws : List ℕ) (area : Area) (start t h v : �
 
 pub record EntryFit (G : Granule) (ws : List ℕ) (area : Area) (start w h v : ℕ) : Type 0 where
   pub above : 1 ≤ h
+  pub low : h < G .most
   pub region : RegionFit G start h v
   pub sound : SoundEntry (SoundBelow G ws area h) (entryAt G area h w)
