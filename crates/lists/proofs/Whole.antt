@@ -45,6 +45,12 @@ module _ {G : Granule} (S : Sane G) (s : Setup) (ws us list : List ℕ) (start :
     abbrev N : GoodNumbers G (s .levels) (areaOf s) (length ws) (length (ws ++ us)) (length list)
     N = good-setup good .numbers
 
+    pub few-tables : s .tables + s .tables2 ≤ 512
+    few-tables = N .few
+
+    pub some-level : 1 ≤ s .levels
+    some-level = omega (arith, N .enough, S .large-below)
+
     -- runs of unequal length
     pub list-uneven : (length P ≡ length E → ⊥) → listDid (L.Refused 1) P E ≡ leaves (listW G p start (length P) (length E)) P E
     unfolding listW
