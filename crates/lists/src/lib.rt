@@ -145,9 +145,9 @@ fn table_list<'a>(
     let size = path::size_at(height);
     let mut n = written;
     while 0 < left {
-        let i = ENTRIES - left;
-        let base = first + size * (i as u64);
-        let at = entry_list(words, second, places, entries, tree, part[i], height, base, n);
+        let k = ENTRIES - left;
+        let base = first + size * (k as u64);
+        let at = entry_list(words, second, places, entries, tree, part[k], height, base, n);
         if at.more {
             return at;
         }

@@ -201,8 +201,8 @@ table-list-size-at-requires t c κs = tt
 table-list-loop-holds : (t : ℕ) → table-list-lts.Need-loop-holds (table-claims t) (table-list-at t) table-list.Post table-list-Inv-loop table-list-μ-loop
 table-list-loop-holds t c = (c .before .before .entries-left .ensures .few-left, c .before .before .entries-left .ensures .not-before, refl, refl, refl)
 
-table-list-sub-i : (t : ℕ) → table-list-lts.Need-sub-i (table-claims t) (table-list-at t) table-list.Post table-list-Inv-loop table-list-μ-loop
-table-list-sub-i t c = c .before .loop .inv .0
+table-list-sub-k : (t : ℕ) → table-list-lts.Need-sub-k (table-claims t) (table-list-at t) table-list.Post table-list-Inv-loop table-list-μ-loop
+table-list-sub-k t c = c .before .loop .inv .0
 
 table-list-mul-base : (t : ℕ) → table-list-lts.Need-mul-base (table-claims t) (table-list-at t) table-list.Post table-list-Inv-loop table-list-μ-loop
 table-list-mul-base t c = omega (arith, entry-ends four-sane (c .before .before .before .before .before .before .before .before .before .before .pre .1 .0) (c .before .before .size-at .ensures) (c .loop-test .taken) (c .before .loop .inv .0) (c .before .loop .inv .1))
@@ -359,7 +359,7 @@ pub +entry-list+table-list-spec : {M : Type 1} → statement M
     (table-list-returns t)
     (table-list-size-at-requires t)
     (table-list-loop-holds t)
-    (table-list-sub-i t)
+    (table-list-sub-k t)
     (table-list-mul-base t)
     (table-list-add-base t)
     (table-list-mul-entry-list t)
