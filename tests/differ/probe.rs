@@ -408,6 +408,32 @@ impl Lent {
         }
     }
 
+    // The mappings from an address on, in runs of so many places each.
+    fn listed(&self, start: u64, room: usize, other: usize) {
+        let [levels, base, tables, free, base2, tables2] = self.setup;
+        let setup = || path::Setup { levels, base, tables, free, base2, tables2 };
+        let (mut places, mut entries) = (vec![99; room], vec![44; other]);
+        let r = tried(|| pagetable::list(setup(), &self.words, &self.second, &self.list, start, &mut places, &mut entries));
+        let (all, more) = (hash(places.iter().copied()), hash(entries.iter().copied()));
+        line(&format!("{} list {start:#x} {room} {other} = {r} {all:x} {more:x}", self.name));
+    }
+
+    // Pages, the first from an address on, and whether the tree is sound.
+    fn pages(&self, address: u64) {
+        for room in [0, 1, 3, 4096] {
+            self.listed(address, room, room);
+        }
+        for (start, room, other) in [(0, 2, 2), (0, 4096, 4096), (address.wrapping_add(1), 5, 5), (address, 1, 2), (address, 2, 1)] {
+            self.listed(start, room, other);
+        }
+        let [levels, base, tables, free, base2, tables2] = self.setup;
+        let setup = || path::Setup { levels, base, tables, free, base2, tables2 };
+        for places in [self.list.len(), self.list.len() + 1] {
+            let r = tried(|| audit::tree_sound(setup(), &self.words, &self.second, places));
+            line(&format!("{} tree_sound {places} = {r}", self.name));
+        }
+    }
+
     fn audit(&self) {
         let mut answer = [55; 2];
         let r = tried(|| oakabut::oak_audit(&self.setup, &self.words, &self.second, &self.list, &mut answer));
@@ -500,6 +526,7 @@ fn go_on(mut lent: Lent, mut random: Random, steps: u64) {
         lent.asked(address);
         if step % 8 == 5 || tables < 9 {
             lent.audit();
+            lent.pages(address);
         }
         if step % 4 == 3 {
             for kind in 0..10 {
@@ -514,6 +541,7 @@ fn go_on(mut lent: Lent, mut random: Random, steps: u64) {
                 }
                 copy.random_map(&mut random);
                 copy.audit();
+                copy.pages(random.of(&[0, 0, PAGE, GIB]));
             }
         }
     }

@@ -1,10 +1,11 @@
 -- What the functions of list ask and answer. Mappings are written one after the other, from a place of the two runs on.
 use Prim.Native.Nat.{ℕ, zero, suc, _+_, _-_, _*_, _%_, _≤_, _<_}
 use mathlib.Core.Path.{_≡_}
+use mathlib.Core.Logic.{_⊎_}
 use mathlib.Core.Bool.{Bool, true, false, cond}
 use mathlib.Core.List.{List, [], _∷_}
 use lib.Dec.{ltb}
-use lib.ListN.{length, set, drop}
+use lib.ListN.{length, getD, set, drop}
 use Rattle.path.specs.Geometry.{Granule, entries, sizeAt, physical}
 use Rattle.path.specs.Areas.{Area, areaAt, total}
 use Rattle.entry.specs.Words.{frameWord, entryAt, Framed}
@@ -65,6 +66,28 @@ SoundBelow G ws area (suc h) c = SoundTable G ws area h c
 abbrev pub restOf : Granule → List ℕ → Area → ℕ → ℕ → List ℕ → ℕ → List Mapping
 restOf G ws area h v us i = ofEntries G area h (v + sizeAt G h * i) (below G ws area h) (drop i us) .mappings
 
+-- the mappings of its last entries, so many of them
+abbrev pub lastOf : Granule → List ℕ → Area → ℕ → ℕ → List ℕ → ℕ → List Mapping
+lastOf G ws area h v us left = restOf G ws area h v us (entries G - left)
+
+-- words that are sound as those of the last level
+abbrev pub SoundPages : Granule → List ℕ → Area → List ℕ → Type 0
+SoundPages G ws area us = (i : ℕ) → i < entries G → SoundEntry (SoundBelow G ws area 0) (entryAt G area 0 (getD us i 0))
+
+-- of the entries of a table, which have height h and of which the first stands for the addresses from v on, so many are left from the first on whose addresses
+-- are not all before the start
+pub record LeftFrom (G : Granule) (start h v left : ℕ) : Type 0 where
+  pub some-left : 1 ≤ left
+  pub few-left : left ≤ entries G
+  pub passed : (v + sizeAt G h * (entries G - left) ≤ start) ⊎ (left ≡ entries G)
+  pub not-before : start < v + sizeAt G h * (entries G - left) + sizeAt G h
+
+-- what is asked of the words of a table of the last level
+pub record PagesFit (G : Granule) (us : List ℕ) (left v : ℕ) : Type 0 where
+  pub whole : length us ≡ entries G
+  pub few-left : left ≤ entries G
+  pub fits : v + sizeAt G 1 ≤ physical
+
 -- what is asked of the runs that are written: they are of one length
 abbrev pub Even : List ℕ → List ℕ → Type 0
 Even places entries = length places ≡ length entries
@@ -89,5 +112,6 @@ pub record TableFit (G : Granule) (ws : List ℕ) (area : Area) (start t h v : �
 
 pub record EntryFit (G : Granule) (ws : List ℕ) (area : Area) (start w h v : ℕ) : Type 0 where
   pub above : 1 ≤ h
+  pub low : h < G .most
   pub region : RegionFit G start h v
   pub sound : SoundEntry (SoundBelow G ws area h) (entryAt G area h w)

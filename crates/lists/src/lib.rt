@@ -3,16 +3,15 @@ use model::ListAnswer;
 use path::Setup;
 ghost use mathlib.Core.Path.{_≡_};
 ghost use mathlib.Core.List.{List, _++_};
-ghost use Prim.Native.Nat.{ℕ, _+_, _≤_, _<_};
-ghost use lib.ListN.{length, getD};
-ghost use Rattle.path.specs.Geometry.{four, entries, sizeAt, physical};
+ghost use Prim.Native.Nat.{ℕ, suc, _≤_};
+ghost use lib.ListN.{length};
+ghost use Rattle.path.specs.Geometry.{four, physical};
 ghost use Rattle.path.specs.Areas.{Area};
 ghost use Rattle.entry.specs.Words.{entryAt};
 ghost use Rattle.model.specs.Answers.{Mapping, pool, listDid};
 ghost use Rattle.model.specs.Audit.{ofEntry, ofTable};
-ghost use Rattle.model.specs.Sound.{SoundEntry};
 ghost use Rattle.model.specs.Listing.{fromOn, listW, leaves};
-ghost use Rattle.lists.specs.Feeds.{fed, feed, OneOf, areaIn, below, SoundBelow, restOf, Even, RunsFit, RegionFit, TableFit, EntryFit};
+ghost use Rattle.lists.specs.Feeds.{goesOn, fed, feed, OneOf, areaIn, below, lastOf, SoundPages, LeftFrom, Even, PagesFit, RunsFit, RegionFit, TableFit, EntryFit};
 
 // The entries of a table.
 const ENTRIES: usize = path::ENTRIES as usize;
@@ -39,7 +38,7 @@ struct Tree {
 
 // So many places are written, and there was a place for each mapping.
 fn going(written: usize) -> Cursor
-    ensures { λ r. ⌜ ((places : List ℕ) (entries : List ℕ) → fed r places entries ≡ feed four [] places entries written) ⌝ }
+    ensures { λ r. ⌜ ((places : List ℕ) (entries : List ℕ) → fed r places entries ≡ goesOn places entries written) ⌝ }
 {
     Cursor {
         written,
@@ -75,36 +74,157 @@ fn word_list(
             next: base,
         };
     }
-    places[written] = base + PAGE_BITS + INDEX_BITS * (height as u64);
+    places[written] = base + (PAGE_BITS + INDEX_BITS * (height as u64));
     entries[written] = w;
     going(written + 1)
 }
 
-// Lists the words of a table of the last level from place i on. All of them are sound.
+// Lists the last words of a table of the last level, so many of them; its first word stands for the addresses from `first` on.
 fn pages_list(
     part: &[u64],
     places: &mut [u64],
     entries: &mut [u64],
     start: u64,
-    from: usize,
+    count: usize,
     first: u64,
     written: usize,
 ) -> Cursor
-    requires { ⌜ (length (now part) ≡ entries four) × (Even (now places) (now entries) × (first + sizeAt four 1 ≤ physical)) ⌝ }
-    ensures { λ r. ⌜ ((ws : List ℕ) (area : Area) → ((i : ℕ) → i < entries four → SoundEntry (SoundBelow four ws area 0) (entryAt four area 0 (getD (now (part .entry)) i 0)))
-        → fed r (now (places .exit)) (now (entries .exit))
-        ≡ feed four (fromOn start (restOf four ws area 0 first (now (part .entry)) from)) (now (places .entry)) (now (entries .entry)) written) ⌝ }
+    requires { ⌜ PagesFit four (now part) count first × Even (now places) (now entries) ⌝ }
+    ensures { λ r. ⌜ ((ws : List ℕ) (area : Area) → SoundPages four ws area (now (part .entry))
+        → fed r (now (places .exit)) (now (entries .exit)) ≡ feed four (fromOn start (lastOf four ws area 0 first (now (part .entry)) count)) (now (places .entry)) (now (entries .entry)) written) ⌝ }
 {
     let mut n = written;
-    let mut i = from;
-    while i < ENTRIES {
+    let mut left = count;
+    while 0 < left {
+        let i = ENTRIES - left;
         let base = first + path::PAGE * (i as u64);
         let at = word_list(places, entries, start, part[i], 0, base, n);
         if at.more {
             return at;
         }
         n = at.written;
-        i += 1;
+        left -= 1;
     }
     going(n)
+}
+
+// How many entries of a table are left from the first on that does not stand for addresses before the start alone. The entries have this height, and the first of
+// the table stands for the addresses from `first` on.
+fn entries_left(start: u64, height: usize, first: u64) -> usize
+    requires { ⌜ RegionFit four start (suc height) first ⌝ }
+    ensures { λ r. ⌜ LeftFrom four start height first r ⌝ }
+{
+    if first < start {
+        return ENTRIES - path::index_at(start, height) as usize;
+    }
+    ENTRIES
+}
+
+// Lists table t, whose entries have this height and whose first entry stands for the addresses from `first` on.
+fn table_list<'a>(
+    words: &'a [u64],
+    second: &'a [u64],
+    places: &mut [u64],
+    entries: &mut [u64],
+    tree: Tree,
+    t: u32,
+    height: usize,
+    first: u64,
+    written: usize,
+) -> Cursor
+    requires { ⌜ TableFit four (now words ++ now second) (areaIn tree) (tree .start) t height first
+        × (RunsFit four (areaIn tree) (length (now words)) (length (now second)) × Even (now places) (now entries)) ⌝ }
+    ensures { λ r. ⌜ fed r (now (places .exit)) (now (entries .exit))
+        ≡ feed four (fromOn (tree .start) (ofTable four (now (words .entry) ++ now (second .entry)) (areaIn tree) height t first .mappings)) (now (places .entry)) (now (entries .entry)) written ⌝ }
+{
+    let part = pool::table_part(words, second, t);
+    let mut left = entries_left(tree.start, height, first);
+    if height == 0 {
+        return pages_list(part, places, entries, tree.start, left, first, written);
+    }
+    let size = path::size_at(height);
+    let mut n = written;
+    while 0 < left {
+        let k = ENTRIES - left;
+        let base = first + size * (k as u64);
+        let at = entry_list(words, second, places, entries, tree, part[k], height, base, n);
+        if at.more {
+            return at;
+        }
+        n = at.written;
+        left -= 1;
+    }
+    going(n)
+}
+
+// Lists what a word gives whose entry has this height, above the last level's, and stands for the addresses from `first` on.
+fn entry_list<'a>(
+    words: &'a [u64],
+    second: &'a [u64],
+    places: &mut [u64],
+    entries: &mut [u64],
+    tree: Tree,
+    w: u64,
+    height: usize,
+    first: u64,
+    written: usize,
+) -> Cursor
+    requires { ⌜ EntryFit four (now words ++ now second) (areaIn tree) (tree .start) w height first
+        × (RunsFit four (areaIn tree) (length (now words)) (length (now second)) × Even (now places) (now entries)) ⌝ }
+    ensures { λ r. ⌜ fed r (now (places .exit)) (now (entries .exit))
+        ≡ feed four (fromOn (tree .start) (ofEntry four height first (below four (now (words .entry) ++ now (second .entry)) (areaIn tree) height) (entryAt four (areaIn tree) height w) .mappings))
+        (now (places .entry)) (now (entries .entry)) written ⌝ }
+{
+    if w == 0 {
+        return going(written);
+    }
+    let c = entry::child_in(w, tree.base, tree.tables, tree.base2, tree.tables2);
+    if c == 0 {
+        return word_list(places, entries, tree.start, w, height, first, written);
+    }
+    table_list(words, second, places, entries, tree, c, height - 1, first, written)
+}
+
+// Writes the mappings with base at or above the start, in rising order, as many as the two runs have places for: in the one address plus power of two of the size, in
+// the other the entry word. Answers how many, and the base of the first left out, or that none is; or a refusal: 1, 4, or 8 for a tree that is not sound.
+pub fn list<'a>(
+    s: Setup,
+    words: &'a [u64],
+    second: &'a [u64],
+    list: &[u32],
+    start: u64,
+    places: &mut [u64],
+    entries: &mut [u64],
+) -> ListAnswer
+    ensures { λ r. ⌜ listDid r (now (places .exit)) (now (entries .exit))
+        ≡ leaves (listW four (pool s (now (words .entry) ++ now (second .entry)) (length (now (words .entry))) (now (list .entry))) start (length (now (places .entry))) (length (now (entries .entry))))
+        (now (places .entry)) (now (entries .entry)) ⌝ }
+{
+    if !path::good_setup(s, words.len(), second.len(), list.len()) {
+        return ListAnswer::Refused(1);
+    }
+    if places.len() != entries.len() {
+        return ListAnswer::Refused(1);
+    }
+    if !path::in_space(s.levels, start, 1) {
+        return ListAnswer::Refused(4);
+    }
+    if !audit::tree_sound(s, words, second, list.len()) {
+        return ListAnswer::Refused(8);
+    }
+    let tree = Tree {
+        base: s.base,
+        tables: s.tables as u16,
+        base2: s.base2,
+        tables2: s.tables2 as u16,
+        start,
+    };
+    let r = table_list(words, second, places, entries, tree, 0, (s.levels - 1) as usize, 0, 0);
+    if r.more {
+        return ListAnswer::Some {
+            written: r.written as u64,
+            next: r.next,
+        };
+    }
+    ListAnswer::All(r.written as u64)
 }

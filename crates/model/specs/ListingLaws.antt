@@ -1,27 +1,29 @@
 -- Laws of list: what a mapping's two numbers say; lists whose bases rise; the ledger's order; and page by page.
-use Prim.Native.Nat.{ℕ, zero, suc, _+_, _*_, _^_, _≤_, _<_}
+use Prim.Native.Nat.{ℕ, zero, suc, _+_, _-_, _*_, _^_, _≤_, _<_}
 use mathlib.Core.Path.{_≡_, refl, sym, ap, ap₂, subst, _∙_}
 use mathlib.Core.Logic.{_↔_, _≢_, _⊎_, inl, inr, ⊎-elim}
-use mathlib.Core.Bool.{Bool, true, false, cond}
+use mathlib.Core.Bool.{Bool, true, false, cond, _&&_, true≢false, false≢true}
 use mathlib.Core.List.{List, [], _∷_, _++_, map, List·Memᴰ, List·Memᴰ·head as here, List·Memᴰ·tail as there, List·Memᴰ·not-nil, List·Memᴰ·cases-cons, Memᴰ·cast, Memᴰ·append-right}
 use mathlib.Core.Option.{Option, some, none}
 use native.Mathlib.Omega.{arith}
-use lib.Dec.{leb}
-use lib.ListN.{length, take, drop, length-map, take-append-drop, drop-of-length-le}
-use lib.Seq.{take-at, drop-at, drop-drop, take-add, take-nil, drop-nil}
-use borrow.Author.Tests.{leb-true, leb-false, le-leb, lt-leb, eq-eqb}
+use lib.Dec.{leb, eqb}
+use lib.ListN.{length, getD, take, drop, length-append, length-drop, length-map, take-append-drop, drop-of-length-le}
+use lib.Seq.{take-at, drop-at, drop-drop, take-add, take-nil, drop-nil, getD-drop}
+use borrow.Author.Tests.{leb-true, leb-false, le-leb, lt-leb, eq-eqb, ne-eqb, eqb-true, eqb-false}
 use Rattle.laws.specs.Lists.{Distinct}
+use Rattle.laws.specs.ListLaws.{getD-first, getD-later}
 use Rattle.path.specs.Geometry.{Granule, Sane, sizeAt, spaceOf, heightOf}
 use Rattle.path.specs.Laws.{size-pos, size-height, space-some, good-setup}
-use Rattle.model.specs.Answers.{Mapping, Answer, Pool}
+use Rattle.model.specs.Answers.{Mapping, Answer, refused, Pool}
 use Rattle.model.specs.Calls.{goodPool}
 use Rattle.model.specs.Audit.{ofPool}
 use Rattle.model.specs.Adds.{soundTree}
+use Rattle.model.specs.AddLaws.{tree-wf, wf-tree}
 use Rattle.model.specs.Sound.{Each, mappingsOf, Rising, WellFormed}
 use Rattle.model.specs.AuditLaws.{each-nil, each-cons}
 use Rattle.model.specs.MappingLaws.{pool-rises, pool-within, pool-well}
 use Rattle.model.specs.Ledger.{insert, sorted}
-use Rattle.model.specs.Listing.{powerOf, placeOf, entryOf, fromOn, listing, listedOf, listW, placesIn, entriesIn, nextIn, pagesFrom, startAfter, joined, placesOf, Pages, Climbing}
+use Rattle.model.specs.Listing.{powerOf, placeOf, entryOf, fromOn, listing, listedOf, listW, ListNumbers, over, placesIn, entriesIn, nextIn, pagesFrom, startAfter, joined, placesOf, Pages, Climbing}
 
 -- ---- one mapping
 
@@ -187,6 +189,23 @@ from-climbs start lo (m ∷ L) c = go (leb start (m .at)) refl (from-climbs star
     go true e ih = (leb-true _ _ e, subst (Climbing (suc (m .at))) (sym (from-low start (suc (m .at)) L (omega (arith, leb-true start (m .at) e)) (c .1))) (c .1))
     go false e ih = ih
 
+-- joined lists
+pub from-append : (start : ℕ) (L M : List Mapping) → fromOn start (L ++ M) ≡ fromOn start L ++ fromOn start M
+unfolding fromOn
+from-append start [] M = refl
+from-append start (m ∷ L) M = go (leb start (m .at)) (from-append start L M)
+  where
+    go : (b : Bool) → fromOn start (L ++ M) ≡ fromOn start L ++ fromOn start M
+        → cond b (m ∷ fromOn start (L ++ M)) (fromOn start (L ++ M)) ≡ cond b (m ∷ fromOn start L) (fromOn start L) ++ fromOn start M
+    go true e = ap (λ (k : List Mapping). m ∷ k) e
+    go false e = e
+
+-- of mappings that are all below the start none is kept
+pub from-none : (start : ℕ) (L : List Mapping) → Each (λ m. m .at < start) L → fromOn start L ≡ []
+unfolding fromOn
+from-none start [] f = refl
+from-none start (m ∷ L) f = rw (lt-leb start (m .at) (f m (here refl))) (from-none start L (λ k i. f k (there i)))
+
 -- what is kept: the mappings with base at the start or above
 pub from-all : (start : ℕ) (L : List Mapping) (x : Mapping) → List·Memᴰ x (fromOn start L) ↔ (List·Memᴰ x L × (start ≤ x .at))
 unfolding fromOn
@@ -248,11 +267,11 @@ firstBase [] = none
 firstBase (m ∷ L) = some (m .at)
 
 module _ (G : Granule) where
-  listing-places : (W R : List Mapping) → placesIn (listing G W R) ≡ map (placeOf G) W
+  pub listing-places : (W R : List Mapping) → placesIn (listing G W R) ≡ map (placeOf G) W
   listing-places W [] = take-at (map (placeOf G) W) (map (entryOf G) W) (length W) (length-map W (placeOf G))
   listing-places W (m ∷ R) = take-at (map (placeOf G) W) (map (entryOf G) W) (length W) (length-map W (placeOf G))
 
-  listing-entries : (W R : List Mapping) → entriesIn (listing G W R) ≡ map (entryOf G) W
+  pub listing-entries : (W R : List Mapping) → entriesIn (listing G W R) ≡ map (entryOf G) W
   listing-entries W [] = drop-at (map (placeOf G) W) (map (entryOf G) W) (length W) (length-map W (placeOf G))
   listing-entries W (m ∷ R) = drop-at (map (placeOf G) W) (map (entryOf G) W) (length W) (length-map W (placeOf G))
 
@@ -272,6 +291,110 @@ module _ (G : Granule) where
     listed-next : nextIn (listedOf G k L) ≡ firstBase (drop k L)
     unfolding listedOf
     listed-next = listing-next (take k L) (drop k L)
+
+-- the runs after it: their lengths stay, the first places have what was written, and the places past them what stood there
+pub over-length : (new run : List ℕ) → length new ≤ length run → length (over new run) ≡ length run
+over-length new run l = length-append new (drop (length new) run) ∙ omega (arith, length-drop (length new) run)
+
+pub over-first : (new run : List ℕ) (i : ℕ) → i < length new → getD (over new run) i 0 ≡ getD new i 0
+over-first new run i l = getD-first new (drop (length new) run) i l
+
+pub over-past : (new run : List ℕ) (i : ℕ) → length new ≤ i → getD (over new run) i 0 ≡ getD run i 0
+over-past new run i l =
+    getD-later new (drop (length new) run) i l ∙ getD-drop (length new) run (i - length new) 0 ∙ ap (λ (j : ℕ). getD run j 0) (omega arith)
+
+-- ---- the refusals
+
+-- two refusals have one number
+same-number : {m n : ℕ} → refused m ≡ refused n → m ≡ n
+same-number e = cc
+
+-- an answer that lists is no refusal
+lists-not : (G : Granule) (k : ℕ) (L : List Mapping) (n : ℕ) → listedOf G k L ≡ refused n → ⊥
+unfolding listedOf
+lists-not G k L n = go (take k L) (drop k L)
+  where
+    go : (W R : List Mapping) → listing G W R ≡ refused n → ⊥
+    go W [] e = let z : _≡_ {A = ℕ} 0 1 = cc in omega arith
+    go W (m ∷ R) e = let z : _≡_ {A = ℕ} 0 1 = cc in omega arith
+
+module _ (G : Granule) (p : Pool) (start places entries : ℕ) where
+  abbrev space : ℕ
+  space = spaceOf G (p .numbers .levels)
+
+  abbrev Bad : Type 0
+  Bad = (goodPool G p ≡ false) ⊎ (places ≢ entries)
+
+  bad-not : Bad → goodPool G p ≡ true → places ≡ entries → ⊥
+  bad-not f g e = ⊎-elim (λ b. true≢false (sym g ∙ b)) (λ n. n e) f
+
+  no-other : {m n : ℕ} {A : Type 0} → listW G p start places entries ≡ refused m → (m ≡ n → ⊥) → listW G p start places entries ≡ refused n → A
+  no-other is f e = absurd (f (same-number (sym is ∙ e)))
+
+  refuses-1 : Bad → ListNumbers G p start places entries
+  unfolding listW
+  refuses-1 f = record {
+    no-1 = (λ e. f, λ b. is);
+    no-4 = (no-other is (λ e. omega arith), λ (g, e, l). absurd (bad-not f g e));
+    no-8 = (no-other is (λ e. omega arith), λ (g, e, l, n). absurd (bad-not f g e));
+    accepted = λ g e l w. absurd (bad-not f g e);
+  }
+    where
+      is : listW G p start places entries ≡ refused 1
+      is = ⊎-elim (λ b. rw b) (λ n. go (goodPool G p) n) f
+        where
+          go : (g : Bool) → places ≢ entries
+              → cond (g && eqb places entries) (cond (leb space start) (refused 4) (cond (soundTree (ofPool G p)) (listedOf G places (fromOn start (ofPool G p .mappings))) (refused 8))) (refused 1) ≡ refused 1
+          go true n = rw (ne-eqb places entries n)
+          go false n = refl
+
+  module _ (g : goodPool G p ≡ true) (e : places ≡ entries) where
+    refuses-4 : space ≤ start → ListNumbers G p start places entries
+    unfolding listW
+    refuses-4 l = record {
+      no-1 = (no-other is (λ e. omega arith), λ f. absurd (bad-not f g e));
+      no-4 = (λ q. (g, e, l), λ b. is);
+      no-8 = (no-other is (λ e. omega arith), λ (_, _, m, n). absurd (omega arith));
+      accepted = λ _ _ m w. absurd (omega arith);
+    }
+      where
+        is : listW G p start places entries ≡ refused 4
+        is = rw (g, eq-eqb places entries e, le-leb space start l)
+
+    module _ (l : start < space) where
+      refuses-8 : soundTree (ofPool G p) ≡ false → ListNumbers G p start places entries
+      unfolding listW
+      refuses-8 t = record {
+        no-1 = (no-other is (λ e. omega arith), λ f. absurd (bad-not f g e));
+        no-4 = (no-other is (λ e. omega arith), λ (_, _, m). absurd (omega arith));
+        no-8 = (λ q. (g, e, l, λ w. true≢false (sym (wf-tree G p w) ∙ t)), λ b. is);
+        accepted = λ _ _ _ w. absurd (true≢false (sym (wf-tree G p w) ∙ t));
+      }
+        where
+          is : listW G p start places entries ≡ refused 8
+          is = rw (g, eq-eqb places entries e, lt-leb space start l, t)
+
+      lists-them : soundTree (ofPool G p) ≡ true → ListNumbers G p start places entries
+      unfolding listW
+      lists-them t = record {
+        no-1 = (λ q. absurd (lists-not G places _ 1 (sym is ∙ q)), λ f. absurd (bad-not f g e));
+        no-4 = (λ q. absurd (lists-not G places _ 4 (sym is ∙ q)), λ (_, _, m). absurd (omega arith));
+        no-8 = (λ q. absurd (lists-not G places _ 8 (sym is ∙ q)), λ (_, _, _, n). absurd (n (tree-wf G p t)));
+        accepted = λ _ _ _ w. is;
+      }
+        where
+          is : listW G p start places entries ≡ listedOf G places (fromOn start (ofPool G p .mappings))
+          is = rw (g, eq-eqb places entries e, lt-leb space start l, t)
+
+  pub list-numbers : ListNumbers G p start places entries
+  list-numbers = go (goodPool G p) (eqb places entries) (leb space start) (soundTree (ofPool G p)) refl refl refl refl
+    where
+      go : (g e s t : Bool) → goodPool G p ≡ g → eqb places entries ≡ e → leb space start ≡ s → soundTree (ofPool G p) ≡ t → ListNumbers G p start places entries
+      go false e s t a b c d = refuses-1 (inl a)
+      go true false s t a b c d = refuses-1 (inr (eqb-false places entries b))
+      go true true true t a b c d = refuses-4 a (eqb-true places entries b) (leb-true space start c)
+      go true true false false a b c d = refuses-8 a (eqb-true places entries b) (leb-false space start c) d
+      go true true false true a b c d = lists-them a (eqb-true places entries b) (leb-false space start c) d
 
 -- ---- page by page
 
