@@ -354,7 +354,7 @@ module _ (G : Granule) (Z : Sane G) (p : Pool) (a len : ℕ) where
       long = omega (arith, div-add-mod' len (pageSize G), F .long .whole-pages)
 
       uncut : anyCutBy G a len ws ≡ false → Cuts G p a len → ⊥
-      uncut e (x, i, b, k, f, c) = no-cut G p a len xs e x i b k f c
+      uncut e (x, i, (b, k, f, c)) = no-cut G p a len xs e x i b k f c
 
       roomy : anyRefused 8 answers ≡ false → FullRange G p a len → ⊥
       roomy e (j, l, f) = true≢false (sym (full-any G (len / pageSize G) p a good (F .address-aligned) (omega (arith, long, F .in-space)) j l f) ∙ e)
