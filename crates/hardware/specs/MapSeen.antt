@@ -79,13 +79,13 @@ module _ (G : Granule) (Z : Sane G) {p : Pool} {B : Ledger} (I : Sim G Z p B) (a
 
   -- ---- what the call has found
 
-  F : Fine G top (areaOf (p .numbers)) a b size k
+  pub F : Fine G top (areaOf (p .numbers)) a b size k
   F = tests-fine G top (areaOf (p .numbers)) a b size k (Y .tests)
 
   E : Ended G Z (area G Z I) top (al G Z I) (few G Z I) (p .words) (R G Z I) a g (k₀ G Z I) o
   E = walk-ended G Z I g a (low G Z I a b size k F) (F .start-in)
 
-  vacant : I .S s (anc K s v) ≡ empty
+  pub vacant : I .S s (anc K s v) ≡ empty
   vacant = entry-empty (I .S s (anc K s v)) (I .T s (anc K s v)) (ap readEntry (sym (Y .vacant)) ∙ E .ends .says-is)
 
   above : g ≤ s
@@ -109,10 +109,10 @@ module _ (G : Granule) (Z : Sane G) {p : Pool} {B : Ledger} (I : Sim G Z p B) (a
   Tables = A G Z (area G Z I) top (al G Z I)
 
   -- the tables that it takes are free
-  takes : Takes G Z I a b size k F vacant (Y .room)
+  pub takes : Takes G Z I a b size k F vacant (Y .room)
   takes = free-taken (I .inv .spare tt .free)
 
-  N : Grown (X G Z I) Tables (placeAt (p .list)) g v x (ready G Z I a b size k F vacant (Y .room) takes)
+  pub N : Grown (X G Z I) Tables (placeAt (p .list)) g v x (ready G Z I a b size k F vacant (Y .room) takes)
       (grow (X G Z I) Tables (placeAt (p .list)) g v x s (p .words) t f)
   unfolding ready
   N = grown (X G Z I) Tables (placeAt (p .list)) g v x s (ready G Z I a b size k F vacant (Y .room) takes)

@@ -17,8 +17,7 @@ use Rattle.path.specs.Areas.{Area, areaOf, total, tableAt, GoodArea}
 use Rattle.model.specs.Walk.{slot}
 use Rattle.model.specs.Writes.{Write, store, wipe, give, Memory, memory, perform, performAll, mapWrites, mayTake, pruneWrites}
 use Rattle.model.specs.Adds.{appended}
-use Rattle.model.specs.LeftLaws.{perform-length}
-pub use Rattle.model.specs.LeftLaws.{perform-append}
+use Rattle.model.specs.LeftLaws.{perform-append, perform-length}
 use Rattle.model.specs.LedgerLaws.{and-true}
 use Rattle.demand.specs.Memories.{table-ends}
 use Rattle.hardware.specs.Machine.{zerosFrom, placesFrom, placesAbove, single, singles, visible}
@@ -223,7 +222,7 @@ module _ (G : Granule) where
   unfolding performAll singles
   singles-carried [] m e = refl
   singles-carried (w ∷ ws) m e =
-      perform-append (single G w) (singles G ws) m
+      perform-append G (single G w) (singles G ws) m
       ∙ ap (performAll G (singles G ws)) (one w (e .0))
       ∙ singles-carried ws (perform G w m) (subst (λ (n : ℕ). Each (InRange n) ws) (sym (perform-length G w m)) (e .1))
     where

@@ -272,9 +272,13 @@ turn-more G p q live xs ys levels area carried S T = record {
     later j l = go xs j (omega arith)
       where
         go : (zs : List Write) (j : ℕ) → length zs ≤ j → take j (zs ++ ys) ≡ zs ++ take (j - length zs) ys
-        go [] j l = ap (λ (i : ℕ). take i ys) (omega arith)
+        go [] j l =
+            let e : j ≡ j - 0 = omega arith in
+            ap (λ (i : ℕ). take i ys) e
         go (z ∷ zs) zero l = absurd (omega arith)
-        go (z ∷ zs) (suc j) l = ap (λ (w : List Write). z ∷ w) (go zs j (omega arith) ∙ ap (λ (i : ℕ). zs ++ take i ys) (omega arith))
+        go (z ∷ zs) (suc j) l =
+            let e : j - length zs ≡ suc j - suc (length zs) = omega arith in
+            ap (λ (w : List Write). z ∷ w) (go zs j (omega arith) ∙ ap (λ (i : ℕ). zs ++ take i ys) e)
 
     through : (zs : List Write) → wordsAfter G p (xs ++ zs) ≡ wordsAfter G q zs
     through zs = ap (λ (m : Memory). m .words) (perform-append G xs zs (memory (p .words) (p .list)) ∙ ap (performAll G zs) carried)

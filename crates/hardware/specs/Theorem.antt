@@ -415,10 +415,10 @@ module _ (G : Granule) (Z : Sane G) {p : Pool} {A : Ledger} (I : Sim G Z p A) wh
   range-turns (askC q) r = absurd r
 
   range-parts : (c : Call) → Ranged c → accepts (stepW G p c .answer) ≡ true → OfParts G p A c
-  range-parts (formatC levels area) r = absurd r
-  range-parts (addC q m second rest) r = absurd r
-  range-parts (mapC a b size k) r = absurd r
-  range-parts (unmapC a) r = absurd r
+  range-parts (formatC levels area) r e = absurd r
+  range-parts (addC q m second rest) r e = absurd r
+  range-parts (mapC a b size k) r e = absurd r
+  range-parts (unmapC a) r e = absurd r
   range-parts (mapRangeC a b len k) r e = go (mapRangeW G p a b len k) refl (map-range-view G p a b len k)
     where
       c : Call
@@ -443,7 +443,7 @@ module _ (G : Granule) (Z : Sane G) {p : Pool} {A : Ledger} (I : Sim G Z p A) wh
         enters = unmap-range-parts G Z I a len _ _ (ap (λ (x : Done). x .answer) q);
       }
       go d q (range-stays j) = absurd (false≢true (sym (ap (λ (x : Done). accepts (x .answer)) q) ∙ e))
-  range-parts (askC q) r = absurd r
+  range-parts (askC q) r e = absurd r
 
   pub machine : (c : Call) → Machine G p A c
   machine c = record {

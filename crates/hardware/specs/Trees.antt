@@ -69,7 +69,7 @@ module _ {G : Geo} {W T T′ : ℕ → ℕ → ℕ} {S S′ : ℕ → ℕ → En
   read-alike table table c c′ q n = (refl, λ z. cc)
 
   agrees : (d h : ℕ) → h + d ≡ G.top → (r : ℕ) → Agrees h r
-  agrees zero h e r = subst (λ (x : ℕ). Agrees x r) (omega arith) (agrees-top r)
+  agrees zero h e r p = subst (λ (x : ℕ). Agrees x r) (omega arith) (agrees-top r) p
   agrees (suc d) h e r p =
       let u = R .up h r (omega arith) p in
       let (v, w) = agrees d (suc h) (omega arith) (r / G.K) (table≢empty u) in

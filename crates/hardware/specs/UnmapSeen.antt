@@ -76,14 +76,14 @@ module _ (G : Granule) (Z : Sane G) {p : Pool} {B : Ledger} (I : Sim G Z p B) (a
 
   -- ---- what the call has found
 
-  here : a < spaceOf G top
+  pub here : a < spaceOf G top
   here = in-space G Z I a (Y .tests)
 
   E : Ended G Z (area G Z I) top (al G Z I) (few G Z I) (p .words) (R G Z I) a 0 (k₀ G Z I) o
   E = walk-ended G Z I 0 a (omega arith) here
 
   -- the frame that goes
-  more : I .S h r ≡ frame x
+  pub more : I .S h r ≡ frame x
   more = entry-frame (I .S h r) (I .T h r) x (ap readEntry (sym (Y .framed)) ∙ E .ends .says-is)
 
   -- ---- the writes, the words that they leave, and their tree
@@ -109,7 +109,7 @@ module _ (G : Granule) (Z : Sane G) {p : Pool} {B : Ledger} (I : Sim G Z p B) (a
   abbrev cleared₁ : prunes.Loose (X G Z I) Tables v way (without h r (I .L)) (k₀ G Z I - h) (suc h)
   cleared₁ = loose G Z I a here b k more (Y .starts)
 
-  N : Cut (X G Z I) Tables v way cleared₁ (prunes.prune (X G Z I) Tables v way (k₀ G Z I - h) (suc h) (cleared₁ .m) (p .list) f)
+  pub N : Cut (X G Z I) Tables v way cleared₁ (prunes.prune (X G Z I) Tables v way (k₀ G Z I - h) (suc h) (cleared₁ .m) (p .list) f)
   unfolding loose
   N = cut (X G Z I) Tables v way (k₀ G Z I - h) (suc h) cleared₁
 

@@ -30,11 +30,12 @@ use Rattle.model.specs.Audit.{noneInside}
 use Rattle.model.specs.Adds.{lent, grown, addW}
 use Rattle.model.specs.AddLaws.{AddView, add-grows, add-refuses, add-view, may-add}
 use Rattle.model.specs.Ranges.{mapRangeTests, unmapRangeTests, pieces, pagesOf, mapPiece, leftBy, gain, gainOf, mapRangeL, anyCut, dropIn, clearOf, unmapRangeL}
+use Rattle.model.specs.LeftLaws.{perform-append}
 use Rattle.model.specs.RangeMapped.{MapRangeView, range-takes, range-refuses, map-range-view}
 use Rattle.model.specs.RangeUnmapped.{UnmapRangeView, range-clears, range-stays, unmap-range-view}
 use Rattle.demand.specs.Demand3.{Call, formatC, addC, mapC, unmapC, mapRangeC, unmapRangeC, askC, askW, goOn, goBack, stepW}
 use Rattle.hardware.specs.Machine.{zerosFrom, placesFrom, placesAbove, mapPlan, unmapPlan, planEach, plan, writesOf, writtenTo, memoryOf}
-use Rattle.hardware.specs.Plans.{Each, InRange, perform-append, zeros-carried, singles-carried, places-carried, above-carried, map-range, prune-range}
+use Rattle.hardware.specs.Plans.{Each, InRange, zeros-carried, singles-carried, places-carried, above-carried, map-range, prune-range}
 
 -- the single writes of a call that came to d
 abbrev writesBy : Granule → Pool → Call → Done → List Write
