@@ -1,17 +1,18 @@
 -- Restores, computed, with the 4 KiB granule and three levels, tables from 0x40000000 on.
 use mathlib.Core.Path.{_≡_, refl}
 use mathlib.Core.List.{List, [], _∷_, _++_}
-use Prim.Native.Nat.{ℕ, zero, suc, _+_, _*_}
+use Prim.Native.Nat.{ℕ, zero, suc, _+_, _*_, _^_}
 use lib.ListN.{take, replicate}
 use Rattle.laws.specs.Lists.{part, allZero}
 use Rattle.path.specs.Geometry.{four}
 use Rattle.path.specs.Areas.{oneRegion}
 use Rattle.model.specs.Answers.{refused, Mapping, mapping, Done}
 use Rattle.model.specs.Cases.{format, map}
+use Rattle.model.specs.Listing.{placeOf, entryOf}
 use Rattle.image.specs.Bytes.{bytesOf, numberOf, bytesOfWords, wordsOf, bytesOfBlocks}
 use Rattle.image.specs.Check.{weigh, checkOf}
-use Rattle.image.specs.Layout.{Rec, rec, wordsOfRecs, blockOf, recBlocks, imageBlocks, imageOf, recsIn, rises, lowAfter, whole, goodHead, goodBlock, readBlocks, readImage}
-use Rattle.image.specs.Images.{restored, badImage, recordOf, meant, restoreRecs, restoreFrom, restoreW}
+use Rattle.image.specs.Layout.{Rec, rec, wordsOfRecs, blockOf, headBlock, recBlocks, imageBlocks, imageOf, recsIn, rises, lowAfter, whole, goodHead, goodBlock, readBlocks, readImage}
+use Rattle.image.specs.Images.{restored, badImage, recordOf, granuleWord, meant, restoreRecs, restoreFrom, restoreW}
 
 -- a pool of n tables, and what it answers to an image
 abbrev reads : ℕ → List ℕ → Done
@@ -58,8 +59,12 @@ pub record RestoreCases : Type 0 where
   -- another granule, other levels
   pub granule : reads 3 (imageOf 3 16384 []) .answer ≡ badImage 0
   pub levels : reads 3 (imageOf 4 0 []) .answer ≡ badImage 0
-  -- bases that do not rise
+  pub word-3 : granuleWord four ≡ 0
+  -- bases that do not rise, in a block and from one block to the next
   pub order : reads 3 (image (recordOf four page ∷ recordOf four page ∷ [])) .answer ≡ badImage 1
+  pub order-later : reads 3 (image (pages 31 ++ recordOf four page ∷ [])) .answer ≡ badImage 2
+  -- a word after the last record that is not zero
+  pub padding : reads 3 (bytesOfBlocks (headBlock 3 1 0 ∷ blockOf ((1 + 2 ^ 32) ∷ placeOf four page ∷ entryOf four page ∷ 5 ∷ []) ∷ [])) .answer ≡ badImage 1
 
 pub restore-cases : RestoreCases
 unfolding format map bytesOf numberOf bytesOfWords wordsOf bytesOfBlocks weigh checkOf wordsOfRecs blockOf recBlocks imageBlocks imageOf recsIn rises lowAfter whole goodHead goodBlock readBlocks readImage meant restoreRecs restoreFrom restoreW part allZero
@@ -79,5 +84,8 @@ restore-cases = record {
   nothing = refl;
   granule = refl;
   levels = refl;
+  word-3 = refl;
   order = refl;
+  order-later = refl;
+  padding = refl;
 }

@@ -92,9 +92,9 @@ module _ (G : Granule) (ws : List ℕ) (area : Area) where
   one-before S start h u w a l =
       from-none start (ofEntry G h u (below G ws area h) (entryAt G area h w) .mappings)
       (λ m i.
-        let W = well-entry S ws area h (below G ws area h) (well-below S h) u w (entryAt G area h w) refl a m i in
-        let (x, y) = rising-within u (u + sizeAt G h) _ (rise-entry G ws area h (below G ws area h) (rise-below h) u (entryAt G area h w)) m i in
-        omega (arith, y, W .sized, size-pos G (W .height)))
+      let W = well-entry S ws area h (below G ws area h) (well-below S h) u w (entryAt G area h w) refl a m i in
+      let (x, y) = rising-within u (u + sizeAt G h) _ (rise-entry G ws area h (below G ws area h) (rise-below h) u (entryAt G area h w)) m i in
+      omega (arith, y, W .sized, size-pos G (W .height)))
 
   -- ---- entry by entry
 

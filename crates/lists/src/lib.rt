@@ -147,7 +147,17 @@ fn table_list<'a>(
     while 0 < left {
         let k = ENTRIES - left;
         let base = first + size * (k as u64);
-        let at = entry_list(words, second, places, entries, tree, part[k], height, base, n);
+        let at = entry_list(
+            words,
+            second,
+            places,
+            entries,
+            tree,
+            part[k],
+            height,
+            base,
+            n,
+        );
         if at.more {
             return at;
         }
@@ -182,7 +192,17 @@ fn entry_list<'a>(
     if c == 0 {
         return word_list(places, entries, tree.start, w, height, first, written);
     }
-    table_list(words, second, places, entries, tree, c, height - 1, first, written)
+    table_list(
+        words,
+        second,
+        places,
+        entries,
+        tree,
+        c,
+        height - 1,
+        first,
+        written,
+    )
 }
 
 // Writes the mappings with base at or above the start, in rising order, as many as the two runs have places for: in the one address plus power of two of the size, in
@@ -219,7 +239,17 @@ pub fn list<'a>(
         tables2: s.tables2 as u16,
         start,
     };
-    let r = table_list(words, second, places, entries, tree, 0, (s.levels - 1) as usize, 0, 0);
+    let r = table_list(
+        words,
+        second,
+        places,
+        entries,
+        tree,
+        0,
+        (s.levels - 1) as usize,
+        0,
+        0,
+    );
     if r.more {
         return ListAnswer::Some {
             written: r.written as u64,

@@ -120,8 +120,7 @@ entry-list-table-list-requires t c κs =
     let a = c .before .before .before .before .before .before .before .before .before .args in
     let F = c .before .before .before .before .before .before .before .before .before .pre .1 .0 in
     let ws = a .words .now ++ a .second .now in
-    let area = areaIn (a .tree) in
-    (
+    let area = areaIn (a .tree) in (
       omega (arith, F .above, c .before .before .before .before .before .before .before .before .before .pre .0),
       (child-fit four-sane ws area (a .tree .start) (a .w) (a .height) (a .first) F (c .before .before .before .child-in .ensures) (c .before .before .if2 .left), c .before .before .before .before .before .before .before .before .before .pre .1 .1),
     )
@@ -236,8 +235,7 @@ table-list-entry-list-requires t c κs =
     let us = c .before .before .before .before .before .before .before .before .table-part .result .now in
     let q = c .before .before .before .before .before .before .before .before .table-part .ensures (a .tree .tables) (R .cut-is) in
     let long = table-long four-sane ws area (a .tree .start) (a .height) (a .t) (a .first) T q R (length-append (a .words .now) (a .second .now)) in
-    let i = c .before .before .before .before .loop .inv in
-    (
+    let i = c .before .before .before .before .loop .inv in (
       omega (arith, c .before .before .before .before .before .before .before .before .before .before .before .before .before .pre .0),
       (
         entry-fit four-sane T (c .before .before .before .before .before .size-at .ensures) (c .before .before .before .loop-test .taken) (i .0) (i .1) q (omega (arith, c .before .before .before .before .before .before .if1 .left)),
@@ -295,8 +293,7 @@ table-list-loop-again t c =
     let r = c .before .before .before .before .before .entry-list in
     let P = r .last .1 .1 .0 in
     let E = r .last .1 .1 .1 .0 in
-    let told = entry-told four-sane T (c .before .before .before .before .before .before .before .before .before .before .before .size-at .ensures) some (k .inv .0) (k .inv .1) us (k .places) (k .entries) P E (k .n) (r .result) (r .ensures) in
-    (
+    let told = entry-told four-sane T (c .before .before .before .before .before .before .before .before .before .before .before .size-at .ensures) some (k .inv .0) (k .inv .1) us (k .places) (k .entries) P E (k .n) (r .result) (r .ensures) in (
       omega (arith, k .inv .0),
       left-next four-sane (a .tree .start) (a .height) (a .first) (k .left) some (k .inv .0) (k .inv .1),
       r .kept .1 .1 .0 ∙ k .inv .2,

@@ -52,8 +52,7 @@ sub-table-list c =
 
 table-list-requires : tie.Need-table-list-requires
 table-list-requires c κs =
-    let a = c .before .before .before .before .before .before .before .before .before .before .before .before .before .before .before .before .before .args in
-    (
+    let a = c .before .before .before .before .before .before .before .before .before .before .before .before .before .before .before .before .before .args in (
       root-fit four-sane (a .s) (a .words .now) (a .second .now) (a .list .now) (a .start) (a .places .now) (a .entries .now) (c .before .before .before .before .before .before .before .before .before .before .before .good-setup .ensures) (c .before .before .before .before .before .before .before .before .before .before .if1 .left) (c .before .before .before .before .before .before .before .before .before .if2 .left) (c .before .before .before .before .before .before .before .before .in-space .ensures) (c .before .before .before .before .before .before .before .if3 .left) (c .before .before .before .before .before .before .tree-sound .ensures) (c .before .before .before .before .before .if4 .left),
       (runs-fit four-sane (a .s) (a .words .now) (a .second .now) (a .list .now) (a .start) (a .places .now) (a .entries .now) (c .before .before .before .before .before .before .before .before .before .before .before .good-setup .ensures) (c .before .before .before .before .before .before .before .before .before .before .if1 .left) (c .before .before .before .before .before .before .before .before .before .if2 .left) (c .before .before .before .before .before .before .before .before .in-space .ensures) (c .before .before .before .before .before .before .before .if3 .left), c .before .before .before .before .before .before .before .before .before .if2 .left),
     )

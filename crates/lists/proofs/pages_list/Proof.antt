@@ -83,9 +83,9 @@ loop-again c =
       r .kept .0 ∙ k .inv .1,
       r .kept .1 .0 ∙ k .inv .2,
       λ ws area s.
-        loop-next four ws area (a .start) 0 (a .first) (a .part .now) (p .0 .whole) (a .count) (a .places .now) (a .entries .now) (a .written) (k .places) (k .entries) (k .n) (k .left) (k .inv .3 ws area s)
-        (c .before .before .before .before .before .before .before .before .before .loop-test .taken) (omega (arith, p .0 .few-left, k .inv .0)) (r .last .0) (r .last .1 .0) (r .result)
-        (r .ensures _ (at-word ws area (a .part .now) (a .first) (k .left) s (c .before .before .before .before .before .before .before .before .before .loop-test .taken))) (c .if1 .left),
+          loop-next four ws area (a .start) 0 (a .first) (a .part .now) (p .0 .whole) (a .count) (a .places .now) (a .entries .now) (a .written) (k .places) (k .entries) (k .n) (k .left) (k .inv .3 ws area s)
+          (c .before .before .before .before .before .before .before .before .before .loop-test .taken) (omega (arith, p .0 .few-left, k .inv .0)) (r .last .0) (r .last .1 .0) (r .result)
+          (r .ensures _ (at-word ws area (a .part .now) (a .first) (k .left) s (c .before .before .before .before .before .before .before .before .before .loop-test .taken))) (c .if1 .left),
     )
 
 going-requires : tie.Need-going-requires Inv-loop μ-loop
