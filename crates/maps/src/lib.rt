@@ -223,8 +223,8 @@ fn map_walk(
     }
 }
 
-// A mapping of `size` addresses from `address` on to a frame. Answers the tables taken, or a refusal: 1 to 8, or 11.
-pub fn map(
+// Map by any number of a granule.
+fn map_by(
     s: Setup,
     words: &mut [u64],
     second: &mut [u64],
@@ -247,4 +247,33 @@ pub fn map(
     }
     let word = entry::word_of(frame, height, attributes);
     map_walk(s, words, second, list, address, height, word)
+}
+
+// A mapping of `size` addresses from `address` on to a frame. Answers the tables taken, or a refusal: 1 to 8, or 11.
+pub fn map(
+    s: Setup,
+    words: &mut [u64],
+    second: &mut [u64],
+    list: &[u32],
+    address: u64,
+    frame: u64,
+    size: u64,
+    attributes: u64,
+) -> Mapped
+    ensures { λ r. ⌜ mapDid r (now (words .exit)) (now (second .exit)) (now (list .entry))
+        ≡ mapW (granuleOf (s .granule)) (pool s (now (words .entry) ++ now (second .entry)) (length (now (words .entry))) (now (list .entry))) address frame size attributes ⌝ }
+{
+    if s.granule == path::KIB16 {
+        return map_by(
+            path::with_granule(s, path::KIB16),
+            words,
+            second,
+            list,
+            address,
+            frame,
+            size,
+            attributes,
+        );
+    }
+    map_by(s, words, second, list, address, frame, size, attributes)
 }

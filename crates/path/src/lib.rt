@@ -6,7 +6,7 @@ ghost use mathlib.Core.Bool.{_&&_};
 ghost use lib.Dec.{ltb, leb, eqb};
 ghost use Rattle.path.specs.Geometry.{goodGranule, granuleOf, pageSize, entries, sizeAt, atLevel, goodLevels, spaceOf, heightOf};
 ghost use Rattle.path.specs.Areas.{areaAt, areaOf, total, meetsRegion, meetsArea};
-ghost use Rattle.path.specs.Numbers.{mostTables, noSetup, withFree, goodRegion, goodNumbers, goodSetup, goodAdding};
+ghost use Rattle.path.specs.Numbers.{mostTables, noSetup, withFree, withGranule, goodRegion, goodNumbers, goodSetup, goodAdding};
 ghost use Rattle.path.specs.Paths.{indexAt, baseAt, pathOf, addressOf};
 
 // The bytes of a page, and of a table, of each granule; and the granule's number.
@@ -67,6 +67,22 @@ pub fn with_free(s: Setup, free: u64) -> Setup
         base2: s.base2,
         tables2: s.tables2,
         granule: s.granule,
+    }
+}
+
+// The setup numbers with another granule. A call that has found its granule to be one of the two goes on with that number written out, so that the compiler
+// makes the call twice, once for each, and every size in it a constant.
+pub fn with_granule(s: Setup, granule: u64) -> Setup
+    ensures { λ r. ⌜ r ≡ withGranule s granule ⌝ }
+{
+    Setup {
+        levels: s.levels,
+        base: s.base,
+        tables: s.tables,
+        free: s.free,
+        base2: s.base2,
+        tables2: s.tables2,
+        granule,
     }
 }
 
