@@ -90,12 +90,12 @@ fn second_regions(granule: u64) {
             let below = base.wrapping_sub(bytes);
             for at in [0, 1, MORE, MORE + 8, MORE + PAGE, end, end.wrapping_sub(page), below, below.wrapping_add(page), base, TOP.wrapping_sub(bytes), TOP, u64::MAX - page + 1] {
                 let (words, second, places) = (entries * tables as usize, entries.wrapping_mul(more as usize), tables.wrapping_add(more) as usize);
-                ask!(path::good_numbers, granule, 3, base, tables, at, more, words, second, places);
+                ask!(setups::good_numbers, granule, 3, base, tables, at, more, words, second, places);
                 for free in [0, tables - 1, tables, (places as u64).wrapping_sub(1), places as u64] {
                     let two = path::Setup { levels: 3, base, tables, free, base2: at, tables2: more, granule };
-                    ask!(path::good_setup, two, words, second, places);
-                    ask!(path::good_adding, one_region(granule, 3, base, tables, free), at, more, words, second, places);
-                    ask!(path::good_adding, two, at, more, words, second, places);
+                    ask!(setups::good_setup, two, words, second, places);
+                    ask!(setups::good_adding, one_region(granule, 3, base, tables, free), at, more, words, second, places);
+                    ask!(setups::good_adding, two, at, more, words, second, places);
                 }
             }
         }
@@ -103,11 +103,11 @@ fn second_regions(granule: u64) {
     let (two, three) = (2 * entries, 3 * entries);
     for (words, second, places) in [(two, three, 5), (two - 1, three, 5), (two, three - 1, 5), (two, three + 1, 5), (two, three, 2), (two, three, 6), (three, two, 5), (two, 0, 5)] {
         for levels in [3, 4] {
-            ask!(path::good_numbers, granule, levels, BASE, 2, MORE, 3, words, second, places);
-            ask!(path::good_adding, one_region(granule, levels, BASE, 2, 1), MORE, 3, words, second, places);
+            ask!(setups::good_numbers, granule, levels, BASE, 2, MORE, 3, words, second, places);
+            ask!(setups::good_adding, one_region(granule, levels, BASE, 2, 1), MORE, 3, words, second, places);
         }
     }
-    ask!(path::good_adding, path::Setup { levels: 3, base: BASE, tables: 2, free: 1, base2: MORE, tables2: 0, granule }, MORE, 3, two, three, 5);
+    ask!(setups::good_adding, path::Setup { levels: 3, base: BASE, tables: 2, free: 1, base2: MORE, tables2: 0, granule }, MORE, 3, two, three, 5);
 }
 
 // Setups with one region, good ones and bad ones.
@@ -118,17 +118,17 @@ fn first_regions(granule: u64) {
             for tables in [0, 1, 2, 3, 4, 63, 64, 65, 511, 512, 513, 1 << 53, u64::MAX] {
                 for words in [entries.wrapping_mul(tables), (entries - 1).wrapping_mul(tables), tables.wrapping_add(1)] {
                     for places in [tables, tables.wrapping_sub(1), levels] {
-                        ask!(path::good_numbers, granule, levels, base, tables, 0, 0, words as usize, 0, places as usize);
+                        ask!(setups::good_numbers, granule, levels, base, tables, 0, 0, words as usize, 0, places as usize);
                     }
                 }
             }
         }
         for tables in [1, 2, 3, 4, 8, 64] {
             for free in [0, 1, 2, 3, 4, 5, 7, 8, 63, 64, u64::MAX] {
-                ask!(path::good_setup, one_region(granule, levels, BASE, tables, free), (entries * tables) as usize, 0, tables as usize);
+                ask!(setups::good_setup, one_region(granule, levels, BASE, tables, free), (entries * tables) as usize, 0, tables as usize);
             }
         }
-        ask!(path::good_setup, one_region(granule, levels, BASE, 2, 1), 2, 0, 1024);
+        ask!(setups::good_setup, one_region(granule, levels, BASE, 2, 1), 2, 0, 1024);
     }
 }
 
@@ -141,27 +141,27 @@ fn sizes(granule: u64) {
         for (base, tables) in [(BASE, 0), (BASE, 1), (BASE, 64), (0, 2), (TOP - PAGE, 1), (u64::MAX - 4095, 9), (GIB + PAGE, u64::MAX)] {
             for size in [0, PAGE, MIB2, GIB, u64::MAX] {
                 for frame in [n, base.wrapping_sub(size), base.wrapping_sub(1), base, base.wrapping_add(granule.wrapping_mul(tables))] {
-                    ask!(path::meets_region, granule, base, tables, frame, size);
-                    ask!(path::meets_area, granule, base, tables, 0, 0, frame, size);
-                    ask!(path::meets_area, granule, 3 * GIB, 2, base, tables, frame, size);
+                    ask!(setups::meets_region, granule, base, tables, frame, size);
+                    ask!(setups::meets_area, granule, base, tables, 0, 0, frame, size);
+                    ask!(setups::meets_area, granule, 3 * GIB, 2, base, tables, frame, size);
                 }
             }
         }
         ask!(path::good_levels, granule, n);
-        ask!(path::size_at, granule, n as usize);
+        ask!(indices::size_at, granule, n as usize);
         ask!(path::height_of, granule, n);
-        ask!(path::path_of, granule, n);
+        ask!(indices::path_of, granule, n);
         ask!(path::pages_in, granule, n);
         ask!(path::table_of, granule, n);
         ask!(path::index_in, granule, n);
         for height in [0, 1, 2, 3, 4, 5, usize::MAX] {
-            ask!(path::index_at, granule, n, height);
-            ask!(path::base_at, granule, n, height);
-            ask!(path::rest_at, granule, n, height);
+            ask!(indices::index_at, granule, n, height);
+            ask!(indices::base_at, granule, n, height);
+            ask!(indices::rest_at, granule, n, height);
         }
     }
     for p in [[0, 0, 0, 0], [1, 2, 3, 4], [511, 0, 511, 1], [65535, 65535, 65535, 65535], [0, 0, 1, 0], [0, 1, 0, 0]] {
-        ask!(path::address_of, granule, p);
+        ask!(indices::address_of, granule, p);
     }
 }
 
@@ -175,9 +175,9 @@ fn paths() {
         ask!(path::page_of, n);
         ask!(path::entries_of, n);
         ask!(path::large_of, n);
-        ask!(path::good_setup, one_region(n, 3, BASE, 2, 1), 1024, 0, 2);
-        ask!(path::good_setup, one_region(n, 3, BASE, 2, 1), 4096, 0, 2);
-        ask!(path::good_adding, one_region(n, 3, BASE, 2, 1), MORE, 3, 1024, 1536, 5);
+        ask!(setups::good_setup, one_region(n, 3, BASE, 2, 1), 1024, 0, 2);
+        ask!(setups::good_setup, one_region(n, 3, BASE, 2, 1), 4096, 0, 2);
+        ask!(setups::good_adding, one_region(n, 3, BASE, 2, 1), MORE, 3, 1024, 1536, 5);
     }
     for granule in [PAGE, KIB16] {
         second_regions(granule);

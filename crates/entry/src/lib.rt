@@ -90,7 +90,7 @@ pub fn frame_word(base: u64, size: u64, attributes: u64) -> u64
     if base + size > path::PHYSICAL {
         return 4;
     }
-    let rest = path::rest_at(granule, base, height);
+    let rest = indices::rest_at(granule, base, height);
     if rest != 0 {
         return 5;
     }
@@ -162,7 +162,7 @@ pub fn frame_at(granule: u64, w: u64, height: usize) -> Entry
         return Entry::Damaged;
     }
     let base = base_in(w);
-    if path::rest_at(granule, base, height) != 0 {
+    if indices::rest_at(granule, base, height) != 0 {
         return Entry::Damaged;
     }
     if is_frame(w, height) {
@@ -184,7 +184,7 @@ fn named_in(granule: u64, w: u64, base: u64, tables: u16) -> u32
         }
     }
     let off = std::num::wrapping_sub_u64(w, base);
-    if path::rest_at(granule, off, 0) != 3 {
+    if indices::rest_at(granule, off, 0) != 3 {
         return tables as u32;
     }
     let c = path::pages_in(granule, off);

@@ -140,7 +140,7 @@ pub fn walk_to(s: Setup, words: &[u64], second: &[u64], target: usize, address: 
         s.base2,
         tables2 as u16,
         target,
-        path::path_of(s.granule, address),
+        indices::path_of(s.granule, address),
         top,
     )
 }
@@ -202,7 +202,7 @@ pub fn reach(
         h -= 1;
         if (h as u64) < s.levels {
             way[3 - h] = t;
-            let i = path::index_at(s.granule, address, h);
+            let i = indices::index_at(s.granule, address, h);
             let place = pool::entry_place(s.granule, t, i);
             let end = 4 * (place as u64) + (h as u64);
             if h == target {
