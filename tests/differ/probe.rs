@@ -195,12 +195,12 @@ fn words_to_read() -> Vec<u64> {
     }
     for attributes in 0..17 {
         for (base, size) in [(0, PAGE), (PAGE * 5, PAGE), (KIB16 * 5, KIB16), (MIB2, MIB2), (MIB32, MIB32), (GIB, GIB), (TOP - PAGE, PAGE), (TOP - GIB, GIB)] {
-            all.push(entry::frame_word(base, size, attributes));
+            all.push(host::frame_word(base, size, attributes));
         }
     }
     for (size, attributes) in [(PAGE, 0), (PAGE, 7), (KIB16, 5), (MIB2, 9), (MIB32, 3), (GIB, 14)] {
         for bit in 0..64 {
-            all.push(entry::frame_word(GIB, size, attributes) ^ (1 << bit));
+            all.push(host::frame_word(GIB, size, attributes) ^ (1 << bit));
         }
     }
     all
@@ -208,23 +208,23 @@ fn words_to_read() -> Vec<u64> {
 
 fn entries() {
     for n in numbers() {
-        ask!(entry::attr_word, n);
+        ask!(host::attr_word, n);
         for c in [0, 1, 2, 63, 64, u32::MAX] {
             for tables in [1, 2, 64, 512] {
                 for granule in [PAGE, KIB16] {
-                    ask!(entry::table_word, granule, n, tables, MORE, c);
+                    ask!(links::table_word, granule, n, tables, MORE, c);
                 }
             }
         }
         for size in [0, 1, PAGE, KIB16, 1 << 16, MIB2, MIB32, GIB, 1 << 36, 1 << 39, TOP] {
             for attributes in [0, 1, 5, 8, 15, 16, 17, u64::MAX] {
-                ask!(entry::frame_word, n, size, attributes);
+                ask!(host::frame_word, n, size, attributes);
                 ask!(oakabut::oak_frame_word, n, size, attributes);
             }
         }
     }
     for attributes in 0..18 {
-        ask!(entry::attr_word, attributes);
+        ask!(host::attr_word, attributes);
     }
     for base in [0, PAGE, BASE, TOP - PAGE, TOP] {
         for height in [0, 1, 2, 3] {
@@ -235,7 +235,7 @@ fn entries() {
     }
     for w in words_to_read() {
         for size in [PAGE, KIB16, MIB2, MIB32, GIB, 1 << 36, 1 << 39, 0] {
-            ask!(entry::word_meaning, w, size);
+            ask!(host::word_meaning, w, size);
             ask!(oakabut::oak_word_meaning, w, size);
         }
         for height in [0, 1, 2, 3, 4] {
@@ -244,15 +244,15 @@ fn entries() {
         }
         for granule in [PAGE, KIB16] {
             for (base, tables) in [(BASE, 4), (0, 64), (BASE, 1), (TOP + PAGE, 8)] {
-                ask!(entry::child_in, granule, w, base, tables, 0, 0);
-                ask!(entry::child_in, granule, w, MORE, 3, base, tables);
-                ask!(entry::child_in, granule, w, base, tables, base.wrapping_add(granule * tables as u64), 2);
+                ask!(links::child_in, granule, w, base, tables, 0, 0);
+                ask!(links::child_in, granule, w, MORE, 3, base, tables);
+                ask!(links::child_in, granule, w, base, tables, base.wrapping_add(granule * tables as u64), 2);
             }
             for height in [0, 1, 2, 3, 4] {
                 ask!(entry::frame_at, granule, w, height);
                 for (base, tables) in [(BASE, 1), (BASE, 3), (BASE, 64), (0, 2), (TOP - PAGE, 4), (u64::MAX, u16::MAX)] {
-                    ask!(entry::read_word, granule, w, height, base, tables, 0, 0);
-                    ask!(entry::read_word, granule, w, height, MORE, 2, base, tables);
+                    ask!(links::read_word, granule, w, height, base, tables, 0, 0);
+                    ask!(links::read_word, granule, w, height, MORE, 2, base, tables);
                 }
             }
         }
@@ -339,9 +339,9 @@ fn tables(granule: u64, k: usize) {
                     if at < more {
                         s[at] = 9;
                     }
-                    line(&format!("pool::table_part {granule} {length} {more} {at} {t} = {}", tried(|| pool::table_part(granule, &w, &s, t).to_vec())));
-                    line(&format!("pool::is_table_empty {granule} {length} {more} {at} {t} = {}", tried(|| pool::is_table_empty(granule, &w, &s, t))));
-                    line(&format!("pool::only_entry {granule} {length} {more} {at} {t} = {}", tried(|| pool::only_entry(granule, &w, &s, t, (at % k) as u16))));
+                    line(&format!("contents::table_part {granule} {length} {more} {at} {t} = {}", tried(|| contents::table_part(granule, &w, &s, t).to_vec())));
+                    line(&format!("contents::is_table_empty {granule} {length} {more} {at} {t} = {}", tried(|| contents::is_table_empty(granule, &w, &s, t))));
+                    line(&format!("contents::only_entry {granule} {length} {more} {at} {t} = {}", tried(|| contents::only_entry(granule, &w, &s, t, (at % k) as u16))));
                     if at < more {
                         s[at] = 0;
                     }
@@ -353,9 +353,9 @@ fn tables(granule: u64, k: usize) {
                     if at < length {
                         w[at] = value;
                     }
-                    line(&format!("pool::is_table_empty {granule} {length} {at} {value} {t} = {}", tried(|| pool::is_table_empty(granule, &w, &[], t))));
+                    line(&format!("contents::is_table_empty {granule} {length} {at} {value} {t} = {}", tried(|| contents::is_table_empty(granule, &w, &[], t))));
                     for i in [0, 1, 255, 256, 510, 511, 512, 513, k - 2, k - 1, k, k + 1, 65535] {
-                        line(&format!("pool::only_entry {granule} {length} {at} {value} {t} {i} = {}", tried(|| pool::only_entry(granule, &w, &[], t, i as u16))));
+                        line(&format!("contents::only_entry {granule} {length} {at} {value} {t} {i} = {}", tried(|| contents::only_entry(granule, &w, &[], t, i as u16))));
                     }
                 }
             }

@@ -60,7 +60,7 @@ fn is_fresh<'a>(
     if t == 0 {
         return true;
     }
-    !pool::is_table_empty(granule, words, second, t)
+    !contents::is_table_empty(granule, words, second, t)
 }
 
 // Whether a page shares a byte with the tables of a region. Pages and tables stand at multiples of one size, so that one difference tells, which wraps for a
@@ -149,7 +149,7 @@ fn table_check<'a>(
         return Tally::Damaged;
     }
     marks[t as usize] = 1;
-    let part = pool::table_part(look.granule, words, second, t);
+    let part = contents::table_part(look.granule, words, second, t);
     if height == 0 {
         return pages_check(part, look);
     }
@@ -186,7 +186,7 @@ fn entry_check<'a>(
     requires { ⌜ EntryFit (now marks) look height × RunsFit look (length (now words)) (length (now second)) ⌝ }
     ensures { λ r. ⌜ Answers (atWord (granuleIn look) (now (words .entry) ++ now (second .entry)) look height w) (now (marks .entry)) r (now (marks .exit)) ⌝ }
 {
-    let e = entry::read_word(
+    let e = links::read_word(
         look.granule,
         w,
         height,
@@ -246,7 +246,7 @@ fn free_check<'a>(
         if marks[place] != 0 {
             return false;
         }
-        if !pool::is_table_empty(granule, words, second, t) {
+        if !contents::is_table_empty(granule, words, second, t) {
             return false;
         }
         marks[place] = 1;

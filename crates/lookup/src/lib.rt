@@ -47,7 +47,7 @@ fn descend(
     let mut way = above;
     way[at] = t;
     let w = pool::word(words, second, pool::entry_place(granule, t, i));
-    let e = entry::read_word(granule, w, height, base, tables, base2, tables2);
+    let e = links::read_word(granule, w, height, base, tables, base2, tables2);
     match e {
         Entry::Table(c) => {
             if height <= target {
@@ -209,7 +209,7 @@ pub fn reach(
                 return end;
             }
             let w = pool::word(words, second, place);
-            let child = entry::child_in(s.granule, w, s.base, tables, s.base2, tables2);
+            let child = links::child_in(s.granule, w, s.base, tables, s.base2, tables2);
             if child == 0 {
                 return end;
             }

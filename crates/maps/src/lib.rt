@@ -104,7 +104,7 @@ fn map_plan(
         let c = pool::place(list, free - 1 - i);
         let at = 3 - (height + need - i);
         let place = pool::entry_place(granule, t, path[at]);
-        let value = entry::table_word(granule, base, tables, base2, c);
+        let value = links::table_word(granule, base, tables, base2, c);
         plan[2 * i] = Step::Wipe { table: c };
         plan[2 * i + 1] = Step::Store { place, value };
         t = c;

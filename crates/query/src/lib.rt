@@ -79,7 +79,7 @@ fn ask(
             if h == 0 {
                 return frame_told(granule, w, h, address, places);
             }
-            let child = entry::child_in(granule, w, base, tables, base2, tables2);
+            let child = links::child_in(granule, w, base, tables, base2, tables2);
             if child == 0 {
                 return frame_told(granule, w, h, address, places);
             }

@@ -53,7 +53,7 @@ fn count_freed<'a>(
         let at = 3 - h;
         let t = way[at];
         let i = path[at];
-        if !pool::only_entry(granule, words, second, t, i) {
+        if !contents::only_entry(granule, words, second, t, i) {
             return h - left;
         }
         h += 1;
@@ -171,7 +171,7 @@ fn stays<'a>(
     }
     let t = path::table_of(granule, place as u64) as u32;
     let i = path::index_in(granule, place as u64);
-    !pool::only_entry(granule, words, second, t, i)
+    !contents::only_entry(granule, words, second, t, i)
 }
 
 // Unmap, where the walk ended at a frame, at this place. A frame whose table stays is a single write.
@@ -249,7 +249,7 @@ pub fn unmap(
     let w = pool::word(&words[..], &second[..], place);
     let tables = s.tables as u16;
     let tables2 = s.tables2 as u16;
-    let e = entry::read_word(s.granule, w, left, s.base, tables, s.base2, tables2);
+    let e = links::read_word(s.granule, w, left, s.base, tables, s.base2, tables2);
     match e {
         Entry::Frame { base, attributes } => unmap_frame(
             s,
