@@ -22,7 +22,7 @@ ghost use Rattle.oakabut.specs.Surface.{setupAt, granuleAt, poolAt, afte
 pub extern "C" fn oak_frame_word(base: u64, size: u64, attributes: u64) -> u64
     ensures { λ r. ⌜ r ≡ hostWord (sizedBy size) base size attributes ⌝ }
 {
-    entry::frame_word(base, size, attributes)
+    host::frame_word(base, size, attributes)
 }
 
 // The meaning of a word at a size: base + 16 + attributes, or a refusal: 2 or 8.
@@ -30,7 +30,7 @@ pub extern "C" fn oak_frame_word(base: u64, size: u64, attributes: u64) -> u64
 pub extern "C" fn oak_word_meaning(word: u64, size: u64) -> u64
     ensures { λ r. ⌜ r ≡ hostMeaning (sizedBy size) word size ⌝ }
 {
-    entry::word_meaning(word, size)
+    host::word_meaning(word, size)
 }
 
 // The setup numbers in seven places.

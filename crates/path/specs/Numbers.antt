@@ -23,10 +23,6 @@ noSetup = setup 0 0 0 0 0 0 0
 abbrev pub withFree : Setup → ℕ → Setup
 withFree s f = setup (s .levels) (s .base) (s .tables) f (s .base2) (s .tables2) (s .granule)
 
--- and with another granule
-abbrev pub withGranule : Setup → ℕ → Setup
-withGranule s g = setup (s .levels) (s .base) (s .tables) (s .free) (s .base2) (s .tables2) g
-
 -- the most tables that a pool may have
 abbrev pub mostTables : ℕ
 mostTables = 512
