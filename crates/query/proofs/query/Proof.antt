@@ -35,7 +35,7 @@ query-by-requires-2 c κs = search needs
 
 returns-2 : tie.Need-returns-2
 returns-2 c =
-    let a = c .before .before .before .before .before .before .before .before .args in
+    let a = c .before .before .before .before .before .before .before .before .before .args in
     let s = a .s in
     c .query-by2 .ensures
     ∙ ap (λ x. queryW (granuleOf (x .granule)) (pool x (a .words .now ++ a .second .now) (length (a .words .now)) (a .list .now)) (a .address))
@@ -43,9 +43,9 @@ returns-2 c =
 
 returns-3 : tie.Need-returns-3
 returns-3 c =
-    let a = c .before .before .before .before .before .before .args in
+    let a = c .before .before .before .before .before .before .before .args in
     query-bad _ (pool (a .s) (a .words .now ++ a .second .now) (length (a .words .now)) (a .list .now)) (a .address)
-    (sym (setup-bad (λ S. not-named _ (c .before .if1 .left, c .if2 .left) (S .granule-is)))) refl
+    (sym (setup-bad (λ S. not-named _ (c .before .before .if1 .left, c .if2 .left) (S .granule-is)))) refl
 
 pub query-spec : {M : Type 1} → statement M
 query-spec =
