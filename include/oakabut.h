@@ -1,7 +1,7 @@
 /* Oakabut for C: Arm stage 2 page tables (VMSAv8-64, granules of 4 KiB and 16 KiB) in memory that the caller lends, and their entry
  * words.
  *
- * The functions are in liboakabut.a (`rt staticlib oakabut` makes it), for 64-bit hosts. They answer for every number, keep nothing
+ * The functions are in liboakabut.a (`arm/build` makes it), for 64-bit hosts. They answer for every number, keep nothing
  * between calls, and read and write what their pointers name and no other memory. The archive needs one thing from its host: memset,
  * as the C library has it. C, C++ and freestanding code may include this.
  *

@@ -4,10 +4,9 @@ use std::{env, path::PathBuf, process};
 
 fn main() {
     println!("cargo:rerun-if-env-changed=OAKABUT_LIB_DIR");
-    // `rt staticlib` compiles for x86-64 on every machine
-    let (made, command) = match env::var("CARGO_CFG_TARGET_ARCH").as_deref() {
-        Ok("aarch64") => ("target/arm/linux", "arm/build"),
-        _ => ("target/staticlib", "rt staticlib oakabut"),
+    let made = match env::var("CARGO_CFG_TARGET_ARCH").as_deref() {
+        Ok("aarch64") => "target/arm/linux",
+        _ => "target/staticlib",
     };
     let folder = match env::var_os("OAKABUT_LIB_DIR") {
         Some(folder) => PathBuf::from(folder),
@@ -20,7 +19,7 @@ fn main() {
     println!("cargo:rerun-if-changed={}", archive.display());
     if !archive.is_file() {
         eprintln!("oakabut: there is no file {}", archive.display());
-        eprintln!("oakabut: make it with `{command}`, or name the folder that holds liboakabut.a in OAKABUT_LIB_DIR");
+        eprintln!("oakabut: make it with `arm/build`, or name the folder that holds liboakabut.a in OAKABUT_LIB_DIR");
         process::exit(1);
     }
     println!("cargo:rustc-link-search=native={}", folder.display());

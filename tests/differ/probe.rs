@@ -90,12 +90,12 @@ fn second_regions(granule: u64) {
             let below = base.wrapping_sub(bytes);
             for at in [0, 1, MORE, MORE + 8, MORE + PAGE, end, end.wrapping_sub(page), below, below.wrapping_add(page), base, TOP.wrapping_sub(bytes), TOP, u64::MAX - page + 1] {
                 let (words, second, places) = (entries * tables as usize, entries.wrapping_mul(more as usize), tables.wrapping_add(more) as usize);
-                ask!(path::good_numbers, granule, 3, base, tables, at, more, words, second, places);
+                ask!(setups::good_numbers, granule, 3, base, tables, at, more, words, second, places);
                 for free in [0, tables - 1, tables, (places as u64).wrapping_sub(1), places as u64] {
                     let two = path::Setup { levels: 3, base, tables, free, base2: at, tables2: more, granule };
-                    ask!(path::good_setup, two, words, second, places);
-                    ask!(path::good_adding, one_region(granule, 3, base, tables, free), at, more, words, second, places);
-                    ask!(path::good_adding, two, at, more, words, second, places);
+                    ask!(setups::good_setup, two, words, second, places);
+                    ask!(setups::good_adding, one_region(granule, 3, base, tables, free), at, more, words, second, places);
+                    ask!(setups::good_adding, two, at, more, words, second, places);
                 }
             }
         }
@@ -103,11 +103,11 @@ fn second_regions(granule: u64) {
     let (two, three) = (2 * entries, 3 * entries);
     for (words, second, places) in [(two, three, 5), (two - 1, three, 5), (two, three - 1, 5), (two, three + 1, 5), (two, three, 2), (two, three, 6), (three, two, 5), (two, 0, 5)] {
         for levels in [3, 4] {
-            ask!(path::good_numbers, granule, levels, BASE, 2, MORE, 3, words, second, places);
-            ask!(path::good_adding, one_region(granule, levels, BASE, 2, 1), MORE, 3, words, second, places);
+            ask!(setups::good_numbers, granule, levels, BASE, 2, MORE, 3, words, second, places);
+            ask!(setups::good_adding, one_region(granule, levels, BASE, 2, 1), MORE, 3, words, second, places);
         }
     }
-    ask!(path::good_adding, path::Setup { levels: 3, base: BASE, tables: 2, free: 1, base2: MORE, tables2: 0, granule }, MORE, 3, two, three, 5);
+    ask!(setups::good_adding, path::Setup { levels: 3, base: BASE, tables: 2, free: 1, base2: MORE, tables2: 0, granule }, MORE, 3, two, three, 5);
 }
 
 // Setups with one region, good ones and bad ones.
@@ -118,17 +118,17 @@ fn first_regions(granule: u64) {
             for tables in [0, 1, 2, 3, 4, 63, 64, 65, 511, 512, 513, 1 << 53, u64::MAX] {
                 for words in [entries.wrapping_mul(tables), (entries - 1).wrapping_mul(tables), tables.wrapping_add(1)] {
                     for places in [tables, tables.wrapping_sub(1), levels] {
-                        ask!(path::good_numbers, granule, levels, base, tables, 0, 0, words as usize, 0, places as usize);
+                        ask!(setups::good_numbers, granule, levels, base, tables, 0, 0, words as usize, 0, places as usize);
                     }
                 }
             }
         }
         for tables in [1, 2, 3, 4, 8, 64] {
             for free in [0, 1, 2, 3, 4, 5, 7, 8, 63, 64, u64::MAX] {
-                ask!(path::good_setup, one_region(granule, levels, BASE, tables, free), (entries * tables) as usize, 0, tables as usize);
+                ask!(setups::good_setup, one_region(granule, levels, BASE, tables, free), (entries * tables) as usize, 0, tables as usize);
             }
         }
-        ask!(path::good_setup, one_region(granule, levels, BASE, 2, 1), 2, 0, 1024);
+        ask!(setups::good_setup, one_region(granule, levels, BASE, 2, 1), 2, 0, 1024);
     }
 }
 
@@ -141,27 +141,27 @@ fn sizes(granule: u64) {
         for (base, tables) in [(BASE, 0), (BASE, 1), (BASE, 64), (0, 2), (TOP - PAGE, 1), (u64::MAX - 4095, 9), (GIB + PAGE, u64::MAX)] {
             for size in [0, PAGE, MIB2, GIB, u64::MAX] {
                 for frame in [n, base.wrapping_sub(size), base.wrapping_sub(1), base, base.wrapping_add(granule.wrapping_mul(tables))] {
-                    ask!(path::meets_region, granule, base, tables, frame, size);
-                    ask!(path::meets_area, granule, base, tables, 0, 0, frame, size);
-                    ask!(path::meets_area, granule, 3 * GIB, 2, base, tables, frame, size);
+                    ask!(setups::meets_region, granule, base, tables, frame, size);
+                    ask!(setups::meets_area, granule, base, tables, 0, 0, frame, size);
+                    ask!(setups::meets_area, granule, 3 * GIB, 2, base, tables, frame, size);
                 }
             }
         }
         ask!(path::good_levels, granule, n);
-        ask!(path::size_at, granule, n as usize);
+        ask!(indices::size_at, granule, n as usize);
         ask!(path::height_of, granule, n);
-        ask!(path::path_of, granule, n);
+        ask!(indices::path_of, granule, n);
         ask!(path::pages_in, granule, n);
         ask!(path::table_of, granule, n);
         ask!(path::index_in, granule, n);
         for height in [0, 1, 2, 3, 4, 5, usize::MAX] {
-            ask!(path::index_at, granule, n, height);
-            ask!(path::base_at, granule, n, height);
-            ask!(path::rest_at, granule, n, height);
+            ask!(indices::index_at, granule, n, height);
+            ask!(indices::base_at, granule, n, height);
+            ask!(indices::rest_at, granule, n, height);
         }
     }
     for p in [[0, 0, 0, 0], [1, 2, 3, 4], [511, 0, 511, 1], [65535, 65535, 65535, 65535], [0, 0, 1, 0], [0, 1, 0, 0]] {
-        ask!(path::address_of, granule, p);
+        ask!(indices::address_of, granule, p);
     }
 }
 
@@ -175,9 +175,9 @@ fn paths() {
         ask!(path::page_of, n);
         ask!(path::entries_of, n);
         ask!(path::large_of, n);
-        ask!(path::good_setup, one_region(n, 3, BASE, 2, 1), 1024, 0, 2);
-        ask!(path::good_setup, one_region(n, 3, BASE, 2, 1), 4096, 0, 2);
-        ask!(path::good_adding, one_region(n, 3, BASE, 2, 1), MORE, 3, 1024, 1536, 5);
+        ask!(setups::good_setup, one_region(n, 3, BASE, 2, 1), 1024, 0, 2);
+        ask!(setups::good_setup, one_region(n, 3, BASE, 2, 1), 4096, 0, 2);
+        ask!(setups::good_adding, one_region(n, 3, BASE, 2, 1), MORE, 3, 1024, 1536, 5);
     }
     for granule in [PAGE, KIB16] {
         second_regions(granule);
@@ -195,12 +195,12 @@ fn words_to_read() -> Vec<u64> {
     }
     for attributes in 0..17 {
         for (base, size) in [(0, PAGE), (PAGE * 5, PAGE), (KIB16 * 5, KIB16), (MIB2, MIB2), (MIB32, MIB32), (GIB, GIB), (TOP - PAGE, PAGE), (TOP - GIB, GIB)] {
-            all.push(entry::frame_word(base, size, attributes));
+            all.push(host::frame_word(base, size, attributes));
         }
     }
     for (size, attributes) in [(PAGE, 0), (PAGE, 7), (KIB16, 5), (MIB2, 9), (MIB32, 3), (GIB, 14)] {
         for bit in 0..64 {
-            all.push(entry::frame_word(GIB, size, attributes) ^ (1 << bit));
+            all.push(host::frame_word(GIB, size, attributes) ^ (1 << bit));
         }
     }
     all
@@ -208,23 +208,23 @@ fn words_to_read() -> Vec<u64> {
 
 fn entries() {
     for n in numbers() {
-        ask!(entry::attr_word, n);
+        ask!(host::attr_word, n);
         for c in [0, 1, 2, 63, 64, u32::MAX] {
             for tables in [1, 2, 64, 512] {
                 for granule in [PAGE, KIB16] {
-                    ask!(entry::table_word, granule, n, tables, MORE, c);
+                    ask!(links::table_word, granule, n, tables, MORE, c);
                 }
             }
         }
         for size in [0, 1, PAGE, KIB16, 1 << 16, MIB2, MIB32, GIB, 1 << 36, 1 << 39, TOP] {
             for attributes in [0, 1, 5, 8, 15, 16, 17, u64::MAX] {
-                ask!(entry::frame_word, n, size, attributes);
+                ask!(host::frame_word, n, size, attributes);
                 ask!(oakabut::oak_frame_word, n, size, attributes);
             }
         }
     }
     for attributes in 0..18 {
-        ask!(entry::attr_word, attributes);
+        ask!(host::attr_word, attributes);
     }
     for base in [0, PAGE, BASE, TOP - PAGE, TOP] {
         for height in [0, 1, 2, 3] {
@@ -235,7 +235,7 @@ fn entries() {
     }
     for w in words_to_read() {
         for size in [PAGE, KIB16, MIB2, MIB32, GIB, 1 << 36, 1 << 39, 0] {
-            ask!(entry::word_meaning, w, size);
+            ask!(host::word_meaning, w, size);
             ask!(oakabut::oak_word_meaning, w, size);
         }
         for height in [0, 1, 2, 3, 4] {
@@ -244,15 +244,15 @@ fn entries() {
         }
         for granule in [PAGE, KIB16] {
             for (base, tables) in [(BASE, 4), (0, 64), (BASE, 1), (TOP + PAGE, 8)] {
-                ask!(entry::child_in, granule, w, base, tables, 0, 0);
-                ask!(entry::child_in, granule, w, MORE, 3, base, tables);
-                ask!(entry::child_in, granule, w, base, tables, base.wrapping_add(granule * tables as u64), 2);
+                ask!(links::child_in, granule, w, base, tables, 0, 0);
+                ask!(links::child_in, granule, w, MORE, 3, base, tables);
+                ask!(links::child_in, granule, w, base, tables, base.wrapping_add(granule * tables as u64), 2);
             }
             for height in [0, 1, 2, 3, 4] {
                 ask!(entry::frame_at, granule, w, height);
                 for (base, tables) in [(BASE, 1), (BASE, 3), (BASE, 64), (0, 2), (TOP - PAGE, 4), (u64::MAX, u16::MAX)] {
-                    ask!(entry::read_word, granule, w, height, base, tables, 0, 0);
-                    ask!(entry::read_word, granule, w, height, MORE, 2, base, tables);
+                    ask!(links::read_word, granule, w, height, base, tables, 0, 0);
+                    ask!(links::read_word, granule, w, height, MORE, 2, base, tables);
                 }
             }
         }
@@ -339,9 +339,9 @@ fn tables(granule: u64, k: usize) {
                     if at < more {
                         s[at] = 9;
                     }
-                    line(&format!("pool::table_part {granule} {length} {more} {at} {t} = {}", tried(|| pool::table_part(granule, &w, &s, t).to_vec())));
-                    line(&format!("pool::is_table_empty {granule} {length} {more} {at} {t} = {}", tried(|| pool::is_table_empty(granule, &w, &s, t))));
-                    line(&format!("pool::only_entry {granule} {length} {more} {at} {t} = {}", tried(|| pool::only_entry(granule, &w, &s, t, (at % k) as u16))));
+                    line(&format!("contents::table_part {granule} {length} {more} {at} {t} = {}", tried(|| contents::table_part(granule, &w, &s, t).to_vec())));
+                    line(&format!("contents::is_table_empty {granule} {length} {more} {at} {t} = {}", tried(|| contents::is_table_empty(granule, &w, &s, t))));
+                    line(&format!("contents::only_entry {granule} {length} {more} {at} {t} = {}", tried(|| contents::only_entry(granule, &w, &s, t, (at % k) as u16))));
                     if at < more {
                         s[at] = 0;
                     }
@@ -353,9 +353,9 @@ fn tables(granule: u64, k: usize) {
                     if at < length {
                         w[at] = value;
                     }
-                    line(&format!("pool::is_table_empty {granule} {length} {at} {value} {t} = {}", tried(|| pool::is_table_empty(granule, &w, &[], t))));
+                    line(&format!("contents::is_table_empty {granule} {length} {at} {value} {t} = {}", tried(|| contents::is_table_empty(granule, &w, &[], t))));
                     for i in [0, 1, 255, 256, 510, 511, 512, 513, k - 2, k - 1, k, k + 1, 65535] {
-                        line(&format!("pool::only_entry {granule} {length} {at} {value} {t} {i} = {}", tried(|| pool::only_entry(granule, &w, &[], t, i as u16))));
+                        line(&format!("contents::only_entry {granule} {length} {at} {value} {t} {i} = {}", tried(|| contents::only_entry(granule, &w, &[], t, i as u16))));
                     }
                 }
             }

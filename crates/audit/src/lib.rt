@@ -60,7 +60,7 @@ fn is_fresh<'a>(
     if t == 0 {
         return true;
     }
-    !pool::is_table_empty(granule, words, second, t)
+    !contents::is_table_empty(granule, words, second, t)
 }
 
 // Whether a page shares a byte with the tables of a region. Pages and tables stand at multiples of one size, so that one difference tells, which wraps for a
@@ -80,7 +80,7 @@ fn is_page(w: u64, look: Look) -> bool
 {
     let page = entry::is_frame(w, 0);
     let base = entry::base_in(w);
-    let rest = path::rest_at(look.granule, base, 0);
+    let rest = indices::rest_at(look.granule, base, 0);
     if rest != 0 {
         return false;
     }
@@ -149,7 +149,7 @@ fn table_check<'a>(
         return Tally::Damaged;
     }
     marks[t as usize] = 1;
-    let part = pool::table_part(look.granule, words, second, t);
+    let part = contents::table_part(look.granule, words, second, t);
     if height == 0 {
         return pages_check(part, look);
     }
@@ -186,7 +186,7 @@ fn entry_check<'a>(
     requires { ⌜ EntryFit (now marks) look height × RunsFit look (length (now words)) (length (now second)) ⌝ }
     ensures { λ r. ⌜ Answers (atWord (granuleIn look) (now (words .entry) ++ now (second .entry)) look height w) (now (marks .entry)) r (now (marks .exit)) ⌝ }
 {
-    let e = entry::read_word(
+    let e = links::read_word(
         look.granule,
         w,
         height,
@@ -201,10 +201,10 @@ fn entry_check<'a>(
             base: frame,
             attributes: _,
         } => {
-            let size = path::size_at(look.granule, height);
+            let size = indices::size_at(look.granule, height);
             let first = look.many as u64;
             let more = look.many2 as u64;
-            let met = path::meets_area(
+            let met = setups::meets_area(
                 look.granule,
                 look.kept,
                 first,
@@ -246,7 +246,7 @@ fn free_check<'a>(
         if marks[place] != 0 {
             return false;
         }
-        if !pool::is_table_empty(granule, words, second, t) {
+        if !contents::is_table_empty(granule, words, second, t) {
             return false;
         }
         marks[place] = 1;
@@ -294,7 +294,7 @@ pub fn add_tests<'a>(
     ensures { λ r. ⌜ ((list : List ℕ) → length list ≡ places
         → r ≡ addTests (granuleOf (s .granule)) (pool s (now (words .entry) ++ now (second .entry)) (length (now (words .entry))) list) base2 tables2) ⌝ }
 {
-    if !path::good_adding(s, base2, tables2, words.len(), second.len(), places) {
+    if !setups::good_adding(s, base2, tables2, words.len(), second.len(), places) {
         return 1;
     }
     if !tree_check(s, words, second, 0, 0) {
@@ -331,7 +331,7 @@ fn strict(s: Setup) -> Look
 pub fn audit<'a>(s: Setup, words: &'a [u64], second: &'a [u64], list: &[u32]) -> AuditAnswer
     ensures { λ r. ⌜ saysAudit r ≡ auditW (granuleOf (s .granule)) (pool s (now (words .entry) ++ now (second .entry)) (length (now (words .entry))) (now (list .entry))) ⌝ }
 {
-    if !path::good_setup(s, words.len(), second.len(), list.len()) {
+    if !setups::good_setup(s, words.len(), second.len(), list.len()) {
         return AuditAnswer::Refused(1);
     }
     let all = s.tables + s.tables2;

@@ -71,7 +71,7 @@ fn put(words: &mut Words, i: usize, w: u64) {
 
 // The word that names table c.
 fn table_word(c: u32) -> u64 {
-    entry::table_word(path::KIB4, BASE, TABLES as u16, 0, c)
+    links::table_word(path::KIB4, BASE, TABLES as u16, 0, c)
 }
 
 // An entry that names table c.
@@ -81,7 +81,7 @@ fn link(words: &mut Words, i: usize, c: u32) {
 
 // An entry of a frame of this size, for reading and writing.
 fn frame(words: &mut Words, i: usize, size: u64) {
-    put(words, i, entry::frame_word(FRAME, size, 3));
+    put(words, i, host::frame_word(FRAME, size, 3));
 }
 
 // The root alone. Tables 3, 2 and 1 are free.
@@ -153,7 +153,7 @@ fn bad_entries(words: &mut Words, list: &mut List) {
 
 // Three tables, and one more entry: a frame of this size.
 fn with_frame(name: &[u8], i: usize, base: u64, size: u64, words: &mut Words, list: &mut List) {
-    with_word(name, 1, i, entry::frame_word(base, size, 3), words, list);
+    with_word(name, 1, i, host::frame_word(base, size, 3), words, list);
 }
 
 // Pages in the pool, and beside it.

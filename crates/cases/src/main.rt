@@ -89,8 +89,8 @@ fn agrees(call: u8, line: &Line, words: &mut Words, more: &mut More, list: &mut 
 // Whether the host's call for a word answers what its line says.
 fn host_agrees(call: u8, line: &Line) -> bool {
     let word = match call {
-        b'E' => entry::frame_word(line[11], line[12], line[13]),
-        _ => entry::word_meaning(line[11], line[12]),
+        b'E' => host::frame_word(line[11], line[12], line[13]),
+        _ => host::word_meaning(line[11], line[12]),
     };
     word == line[15]
 }

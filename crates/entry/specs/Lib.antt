@@ -4,4 +4,3 @@ pub mod Below
 pub mod Parts
 pub mod Bits
 pub mod Laws
-pub mod HostLaws

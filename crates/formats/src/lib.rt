@@ -54,7 +54,7 @@ pub fn format(
     if !path::good_granule(granule) {
         return format_refused();
     }
-    if !path::good_numbers(
+    if !setups::good_numbers(
         granule,
         levels,
         base,

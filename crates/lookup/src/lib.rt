@@ -47,7 +47,7 @@ fn descend(
     let mut way = above;
     way[at] = t;
     let w = pool::word(words, second, pool::entry_place(granule, t, i));
-    let e = entry::read_word(granule, w, height, base, tables, base2, tables2);
+    let e = links::read_word(granule, w, height, base, tables, base2, tables2);
     match e {
         Entry::Table(c) => {
             if height <= target {
@@ -140,7 +140,7 @@ pub fn walk_to(s: Setup, words: &[u64], second: &[u64], target: usize, address: 
         s.base2,
         tables2 as u16,
         target,
-        path::path_of(s.granule, address),
+        indices::path_of(s.granule, address),
         top,
     )
 }
@@ -202,14 +202,14 @@ pub fn reach(
         h -= 1;
         if (h as u64) < s.levels {
             way[3 - h] = t;
-            let i = path::index_at(s.granule, address, h);
+            let i = indices::index_at(s.granule, address, h);
             let place = pool::entry_place(s.granule, t, i);
             let end = 4 * (place as u64) + (h as u64);
             if h == target {
                 return end;
             }
             let w = pool::word(words, second, place);
-            let child = entry::child_in(s.granule, w, s.base, tables, s.base2, tables2);
+            let child = links::child_in(s.granule, w, s.base, tables, s.base2, tables2);
             if child == 0 {
                 return end;
             }

@@ -40,8 +40,9 @@ fn map_tests(s: Setup, address: u64, frame: u64, size: u64, height: usize, attri
     if frame > path::PHYSICAL - size {
         return 4;
     }
-    let rest = path::rest_at(s.granule, address, height) + path::rest_at(s.granule, frame, height);
-    let met = path::meets_area(s.granule, s.base, s.tables, s.base2, s.tables2, frame, size);
+    let rest = indices::rest_at(s.granule, address, height)
+        + indices::rest_at(s.granule, frame, height);
+    let met = setups::meets_area(s.granule, s.base, s.tables, s.base2, s.tables2, frame, size);
     if rest != 0 {
         return 5;
     }
@@ -103,7 +104,7 @@ fn map_plan(
         let c = pool::place(list, free - 1 - i);
         let at = 3 - (height + need - i);
         let place = pool::entry_place(granule, t, path[at]);
-        let value = entry::table_word(granule, base, tables, base2, c);
+        let value = links::table_word(granule, base, tables, base2, c);
         plan[2 * i] = Step::Wipe { table: c };
         plan[2 * i + 1] = Step::Store { place, value };
         t = c;
@@ -150,7 +151,7 @@ fn map_empty(
     if !may_take(list, (s.tables + s.tables2) as u32, way, free, need) {
         return map_refused(8, s);
     }
-    let path = path::path_of(s.granule, address);
+    let path = indices::path_of(s.granule, address);
     let at = 3 - left;
     let plan = map_plan(
         s.granule,
@@ -237,7 +238,7 @@ pub fn map(
     ensures { λ r. ⌜ mapDid r (now (words .exit)) (now (second .exit)) (now (list .entry))
         ≡ mapW (granuleOf (s .granule)) (pool s (now (words .entry) ++ now (second .entry)) (length (now (words .entry))) (now (list .entry))) address frame size attributes ⌝ }
 {
-    if !path::good_setup(s, words.len(), second.len(), list.len()) {
+    if !setups::good_setup(s, words.len(), second.len(), list.len()) {
         return map_refused(1, s);
     }
     let height = path::height_of(s.granule, size);

@@ -3,7 +3,6 @@ pub mod Areas
 pub mod Numbers
 pub mod Paths
 pub mod Laws
-pub mod OneRegion
 pub mod PathLaws
 pub mod RegionLaws
 pub mod PrefixLaws

@@ -20,8 +20,8 @@ fn hole_told(granule: u64, height: usize, address: u64, places: &mut [u64; 4]) -
     requires { ⌜ height < granuleOf granule .most ⌝ }
     ensures { λ r. ⌜ answerOf r (now (places .exit)) ≡ hole (baseAt (granuleOf granule) address height) (sizeAt (granuleOf granule) height) ⌝ }
 {
-    let base = path::base_at(granule, address, height);
-    let bytes = path::size_at(granule, height);
+    let base = indices::base_at(granule, address, height);
+    let bytes = indices::size_at(granule, height);
     *places = [base, bytes, 0, 0];
     9
 }
@@ -34,8 +34,8 @@ fn frame_told(granule: u64, w: u64, height: usize, address: u64, places: &mut [u
     let e = entry::frame_at(granule, w, height);
     match e {
         Entry::Frame { base, attributes } => {
-            let start = path::base_at(granule, address, height);
-            let size = path::size_at(granule, height);
+            let start = indices::base_at(granule, address, height);
+            let size = indices::size_at(granule, height);
             *places = [start, base, size, attributes];
             0
         }
@@ -63,7 +63,7 @@ fn ask(
     ensures { λ r. ⌜ answerOf r (now (places .exit))
         ≡ endsAt (granuleOf granule) address (walkFrom (granuleOf granule) (now (words .entry) ++ now (second .entry)) (areaAt base tables base2 tables2) 0 (pathOf (granuleOf granule) address) (levels - 1) noWay 0) ⌝ }
 {
-    let path = path::path_of(granule, address);
+    let path = indices::path_of(granule, address);
     let mut way = [0u32; 4];
     let mut t: u32 = 0;
     let mut h: usize = 4;
@@ -79,7 +79,7 @@ fn ask(
             if h == 0 {
                 return frame_told(granule, w, h, address, places);
             }
-            let child = entry::child_in(granule, w, base, tables, base2, tables2);
+            let child = links::child_in(granule, w, base, tables, base2, tables2);
             if child == 0 {
                 return frame_told(granule, w, h, address, places);
             }
@@ -102,7 +102,7 @@ pub fn query(s: Setup, words: &[u64], second: &[u64], list: &[u32], address: u64
     let tables = s.tables;
     let base2 = s.base2;
     let tables2 = s.tables2;
-    if !path::good_setup(s, words.len(), second.len(), list.len()) {
+    if !setups::good_setup(s, words.len(), second.len(), list.len()) {
         return QueryAnswer::Refused(1);
     }
     if !path::in_space(s.granule, levels, address, 1) {

@@ -27,7 +27,7 @@ fn unmap_tests(granule: u64, levels: u64, address: u64) -> u64
     if !path::in_space(granule, levels, address, 1) {
         return 4;
     }
-    if path::rest_at(granule, address, 0) != 0 {
+    if indices::rest_at(granule, address, 0) != 0 {
         return 5;
     }
     0
@@ -53,7 +53,7 @@ fn count_freed<'a>(
         let at = 3 - h;
         let t = way[at];
         let i = path[at];
-        if !pool::only_entry(granule, words, second, t, i) {
+        if !contents::only_entry(granule, words, second, t, i) {
             return h - left;
         }
         h += 1;
@@ -107,8 +107,8 @@ fn unmap_hole(s: Setup, address: u64, height: usize) -> Unmapped
     requires { ⌜ height < granuleOf (s .granule) .most ⌝ }
     ensures { λ r. ⌜ (saysUnmap (r .answer) ≡ hole (baseAt (granuleOf (s .granule)) address height) (sizeAt (granuleOf (s .granule)) height)) × (r .setup ≡ s) ⌝ }
 {
-    let base = path::base_at(s.granule, address, height);
-    let size = path::size_at(s.granule, height);
+    let base = indices::base_at(s.granule, address, height);
+    let size = indices::size_at(s.granule, height);
     Unmapped {
         answer: UnmapAnswer::Hole { base, size },
         setup: s,
@@ -131,8 +131,8 @@ fn unmap_more(
     ensures { λ r. ⌜ unmapDid r (now (words .exit)) (now (second .exit)) (now (list .exit))
         ≡ unmapAt (granuleOf (s .granule)) (pool s (now (words .entry) ++ now (second .entry)) (length (now (words .entry))) (now (list .entry))) address (stop (Frame frame attributes) left way) (Frame frame attributes) ⌝ }
 {
-    let size = path::size_at(s.granule, left);
-    let path = path::path_of(s.granule, address);
+    let size = indices::size_at(s.granule, left);
+    let path = indices::path_of(s.granule, address);
     let top = (s.levels - 1) as usize;
     let given = count_freed(s.granule, &words[..], &second[..], way, path, left + 1, top) + 1;
     let free = s.free + given as u64;
@@ -171,7 +171,7 @@ fn stays<'a>(
     }
     let t = path::table_of(granule, place as u64) as u32;
     let i = path::index_in(granule, place as u64);
-    !pool::only_entry(granule, words, second, t, i)
+    !contents::only_entry(granule, words, second, t, i)
 }
 
 // Unmap, where the walk ended at a frame, at this place. A frame whose table stays is a single write.
@@ -191,7 +191,7 @@ fn unmap_frame(
     ensures { λ r. ⌜ unmapDid r (now (words .exit)) (now (second .exit)) (now (list .exit))
         ≡ unmapAt (granuleOf (s .granule)) (pool s (now (words .entry) ++ now (second .entry)) (length (now (words .entry))) (now (list .entry))) address (stop (Frame frame attributes) left way) (Frame frame attributes) ⌝ }
 {
-    if path::rest_at(s.granule, address, left) != 0 {
+    if indices::rest_at(s.granule, address, left) != 0 {
         return unmap_refused(10, s);
     }
     let top = (s.levels - 1) as usize;
@@ -212,7 +212,7 @@ fn unmap_frame(
     Unmapped {
         answer: UnmapAnswer::Given {
             frame,
-            size: path::size_at(s.granule, left),
+            size: indices::size_at(s.granule, left),
             attributes,
             tables: 0,
         },
@@ -232,7 +232,7 @@ pub fn unmap(
     ensures { λ r. ⌜ unmapDid r (now (words .exit)) (now (second .exit)) (now (list .exit))
         ≡ unmapW (granuleOf (s .granule)) (pool s (now (words .entry) ++ now (second .entry)) (length (now (words .entry))) (now (list .entry))) address ⌝ }
 {
-    if !path::good_setup(s, words.len(), second.len(), list.len()) {
+    if !setups::good_setup(s, words.len(), second.len(), list.len()) {
         return unmap_refused(1, s);
     }
     let no = unmap_tests(s.granule, s.levels, address);
@@ -249,7 +249,7 @@ pub fn unmap(
     let w = pool::word(&words[..], &second[..], place);
     let tables = s.tables as u16;
     let tables2 = s.tables2 as u16;
-    let e = entry::read_word(s.granule, w, left, s.base, tables, s.base2, tables2);
+    let e = links::read_word(s.granule, w, left, s.base, tables, s.base2, tables2);
     match e {
         Entry::Frame { base, attributes } => unmap_frame(
             s,

@@ -24,10 +24,10 @@ use Rattle.audit.proofs.+entry_check+table_check.Lts-table_check as tab
 use Rattle.audit.proofs.is_fresh.Reads as is-fresh-reads
 use Rattle.audit.proofs.pages_check.Reads as pages-check-reads
 use Rattle.audit.proofs.skip_empty.Reads as skip-empty-reads
-use Rattle.entry.proofs.read_word.Reads as read-word-reads
-use Rattle.path.proofs.meets_area.Reads as meets-area-reads
-use Rattle.path.proofs.size_at.Reads as size-at-reads
-use Rattle.pool.proofs.table_part.Reads as table-part-reads
+use Rattle.links.proofs.read_word.Reads as read-word-reads
+use Rattle.setups.proofs.meets_area.Reads as meets-area-reads
+use Rattle.indices.proofs.size_at.Reads as size-at-reads
+use Rattle.contents.proofs.table_part.Reads as table-part-reads
 use Rattle.audit.proofs.+entry_check+table_check.{statement}
 use Rattle.audit.proofs.+entry_check+table_check.Tie.{close}
 

@@ -22,7 +22,7 @@ use Rattle.audit.proofs.audit.Lts as lts
 use Rattle.audit.proofs.free_check.Reads as free-check-reads
 use Rattle.audit.proofs.table_check.Reads as table-check-reads
 use Rattle.audit.proofs.strict.Reads as strict-reads
-use Rattle.path.proofs.good_setup.Reads as good-setup-reads
+use Rattle.setups.proofs.good_setup.Reads as good-setup-reads
 
 -- past the test of the setup numbers
 abbrev claims : lts.Claims

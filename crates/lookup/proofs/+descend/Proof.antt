@@ -17,7 +17,7 @@ use Rattle.lookup.proofs.descend.Reads as descend
 use Rattle.lookup.proofs.ended.Reads as ended-reads
 use Rattle.lookup.proofs.descend.Kinds as kinds
 use Rattle.lookup.proofs.+descend.Lts-descend as lts
-use Rattle.entry.proofs.read_word.Reads as read-word-reads
+use Rattle.links.proofs.read_word.Reads as read-word-reads
 use Rattle.pool.proofs.among_four.Reads as among-four-reads
 use Rattle.pool.proofs.entry_place.Reads as entry-place-reads
 use Rattle.pool.proofs.word.Reads as word-reads
