@@ -535,8 +535,7 @@ fn look_through<const BITS: u64>(
 }
 
 fn look_through_table<const BITS: u64>(
-    setup: &Setup, words: &[u64], second: &[u64], table: usize, left: u64, seen: &mut [bool],
-    on_frame: &mut impl FnMut(u64, u64),
+    setup: &Setup, words: &[u64], second: &[u64], table: usize, left: u64, seen: &mut [bool], on_frame: &mut impl FnMut(u64, u64),
 ) -> Result<(), Refusal> {
     refuse_if(seen[table], Refusal::Damaged)?;
     seen[table] = true;

@@ -77,7 +77,8 @@ fn from_a_start_on() {
     assert_eq!(pool.list(0, 3), Ok((THREE.to_vec(), None)));
     assert_eq!(pool.list(0, 2), Ok((THREE[..2].to_vec(), Some(0x20_0000))));
     assert_eq!(pool.list(0, 0), Ok((vec![], Some(0))));
-    for (start, left) in [(1, 1), (0xFFF, 1), (0x1000, 1), (0x1001, 2), (0x20_0000, 2), (0x20_0001, 3), (0x3F_FFFF, 3), (GIB, 3)] {
+    for (start, left) in [(1, 1), (0xFFF, 1), (0x1000, 1), (0x1001, 2), (0x20_0000, 2), (0x20_0001, 3), (0x3F_FFFF, 3), (GIB, 3)]
+    {
         assert_eq!(pool.list(start, 4), Ok((THREE[left..].to_vec(), None)), "from {start:x}");
     }
     assert_eq!(pool.list((1 << 39) - 1, 0), Ok((vec![], None)));
