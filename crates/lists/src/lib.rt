@@ -198,7 +198,14 @@ fn entry_list<'a>(
     if w == 0 {
         return going(written);
     }
-    let c = entry::child_in(tree.granule, w, tree.base, tree.tables, tree.base2, tree.tables2);
+    let c = entry::child_in(
+        tree.granule,
+        w,
+        tree.base,
+        tree.tables,
+        tree.base2,
+        tree.tables2,
+    );
     if c == 0 {
         let power = path::bits_at(tree.granule, height);
         return word_list(places, entries, tree.start, w, power, first, written);

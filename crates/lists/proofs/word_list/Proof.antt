@@ -58,8 +58,8 @@ returns-4 : tie.Need-returns-4
 returns-4 c =
     let a = c .before .before .before .before .before .before .args in
     λ g h e L o.
-        c .going3 .ensures _ _
-        ∙ word-written (granule-sane g) h (a .base) (a .w) (a .start) (a .places .now) (a .entries .now) (a .written) e (c .before .before .before .if1 .left) (c .before .before .if2 .left) (c .before .if3 .left) L o
+    c .going3 .ensures _ _
+    ∙ word-written (granule-sane g) h (a .base) (a .w) (a .start) (a .places .now) (a .entries .now) (a .written) e (c .before .before .before .if1 .left) (c .before .before .if2 .left) (c .before .if3 .left) L o
 
 pub word-list-spec : {M : Type 1} → statement M
 word-list-spec =
