@@ -84,7 +84,7 @@ fn say_call(call: u8, line: &mut Line, words: &mut Words, more: &mut More, list:
 }
 
 // A list, its answer, and what it wrote.
-fn say_view(line: &Line, words: &Words, more: &More, list: &Places) {
+fn say_view<'a>(line: &Line, words: &'a Words, more: &'a More, list: &Places) {
     let mut places = [BLANK; ROOM];
     let mut entries = [BLANK; ROOM];
     let told = view::lent(line, words, more, list, &mut places, &mut entries);
@@ -99,7 +99,7 @@ fn agrees(call: u8, line: &Line, words: &mut Words, more: &mut More, list: &mut 
 }
 
 // The same of a list, and of what it wrote.
-fn view_agrees(line: &Line, words: &Words, more: &More, list: &Places) -> bool {
+fn view_agrees<'a>(line: &Line, words: &'a Words, more: &'a More, list: &Places) -> bool {
     let mut places = [BLANK; ROOM];
     let mut entries = [BLANK; ROOM];
     let told = view::lent(line, words, more, list, &mut places, &mut entries);
