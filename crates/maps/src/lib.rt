@@ -265,10 +265,28 @@ pub fn map(
         ≡ mapW (granuleOf (s .granule)) (pool s (now (words .entry) ++ now (second .entry)) (length (now (words .entry))) (now (list .entry))) address frame size attributes ⌝ }
 {
     if s.granule == path::KIB4 {
-        return map_by(setups::with_granule(s, path::KIB4), words, second, list, address, frame, size, attributes);
+        return map_by(
+            setups::with_granule(s, path::KIB4),
+            words,
+            second,
+            list,
+            address,
+            frame,
+            size,
+            attributes,
+        );
     }
     if s.granule == path::KIB16 {
-        return map_by(setups::with_granule(s, path::KIB16), words, second, list, address, frame, size, attributes);
+        return map_by(
+            setups::with_granule(s, path::KIB16),
+            words,
+            second,
+            list,
+            address,
+            frame,
+            size,
+            attributes,
+        );
     }
     map_refused(1, s)
 }

@@ -143,10 +143,22 @@ pub fn query(s: Setup, words: &[u64], second: &[u64], list: &[u32], address: u64
     ensures { λ r. ⌜ saysQuery r ≡ queryW (granuleOf (s .granule)) (pool s (now (words .entry) ++ now (second .entry)) (length (now (words .entry))) (now (list .entry))) address ⌝ }
 {
     if s.granule == path::KIB4 {
-        return query_by(setups::with_granule(s, path::KIB4), words, second, list, address);
+        return query_by(
+            setups::with_granule(s, path::KIB4),
+            words,
+            second,
+            list,
+            address,
+        );
     }
     if s.granule == path::KIB16 {
-        return query_by(setups::with_granule(s, path::KIB16), words, second, list, address);
+        return query_by(
+            setups::with_granule(s, path::KIB16),
+            words,
+            second,
+            list,
+            address,
+        );
     }
     QueryAnswer::Refused(1)
 }

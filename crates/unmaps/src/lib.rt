@@ -281,10 +281,22 @@ pub fn unmap(
         ≡ unmapW (granuleOf (s .granule)) (pool s (now (words .entry) ++ now (second .entry)) (length (now (words .entry))) (now (list .entry))) address ⌝ }
 {
     if s.granule == path::KIB4 {
-        return unmap_by(setups::with_granule(s, path::KIB4), words, second, list, address);
+        return unmap_by(
+            setups::with_granule(s, path::KIB4),
+            words,
+            second,
+            list,
+            address,
+        );
     }
     if s.granule == path::KIB16 {
-        return unmap_by(setups::with_granule(s, path::KIB16), words, second, list, address);
+        return unmap_by(
+            setups::with_granule(s, path::KIB16),
+            words,
+            second,
+            list,
+            address,
+        );
     }
     unmap_refused(1, s)
 }
