@@ -276,17 +276,5 @@ pub fn map(
             attributes,
         );
     }
-    if s.granule == path::KIB16 {
-        return map_by(
-            setups::with_granule(s, path::KIB16),
-            words,
-            second,
-            list,
-            address,
-            frame,
-            size,
-            attributes,
-        );
-    }
-    map_refused(1, s)
+    map_by(s, words, second, list, address, frame, size, attributes)
 }

@@ -151,14 +151,5 @@ pub fn query(s: Setup, words: &[u64], second: &[u64], list: &[u32], address: u64
             address,
         );
     }
-    if s.granule == path::KIB16 {
-        return query_by(
-            setups::with_granule(s, path::KIB16),
-            words,
-            second,
-            list,
-            address,
-        );
-    }
-    QueryAnswer::Refused(1)
+    query_by(s, words, second, list, address)
 }

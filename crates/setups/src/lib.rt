@@ -8,8 +8,8 @@ ghost use Rattle.path.specs.Geometry.{granuleOf, pageSize};
 ghost use Rattle.path.specs.Areas.{areaAt, areaOf, total, meetsRegion, meetsArea};
 ghost use Rattle.path.specs.Numbers.{setup, mostTables, goodRegion, goodNumbers, goodSetup, goodAdding};
 
-// The setup numbers with another granule. A call that has found which granule it has goes on with that number written out, so that the compiler makes the
-// call twice, once for each, and every size in it a constant.
+// The setup numbers with another granule. A call that has found its granule to be that of 4 KiB goes on with that number written out, so that the compiler
+// makes the call twice, and every size in it a constant.
 pub fn with_granule(s: Setup, granule: u64) -> Setup
     ensures { λ r. ⌜ r ≡ setup (s .levels) (s .base) (s .tables) (s .free) (s .base2) (s .tables2) granule ⌝ }
 {

@@ -289,14 +289,5 @@ pub fn unmap(
             address,
         );
     }
-    if s.granule == path::KIB16 {
-        return unmap_by(
-            setups::with_granule(s, path::KIB16),
-            words,
-            second,
-            list,
-            address,
-        );
-    }
-    unmap_refused(1, s)
+    unmap_by(s, words, second, list, address)
 }

@@ -1,16 +1,12 @@
 -- Map with its granule written out is map.
-use mathlib.Core.Path.{refl, ap, sym, _∙_}
+use mathlib.Core.Path.{ap, sym, _∙_}
 use mathlib.Core.List.{_++_}
 use lib.ListN.{length}
 use borrow.Author.Needs.{needs}
 use Rattle.path.specs.Geometry.{granuleOf}
 use Rattle.path.specs.Numbers.{setup}
-use Rattle.path.specs.Laws.{setup-bad}
 use Rattle.model.specs.Answers.{pool}
 use Rattle.model.specs.Calls.{mapW}
-use Rattle.model.specs.GranuleLaws.{not-named}
-use Rattle.model.specs.Refusing.{refusing}
-use Rattle.maps.proofs.Maps.{map-bad}
 use Rattle.maps.proofs.map.Statement.{statement}
 use Rattle.maps.proofs.map.Tie as tie
 
@@ -35,9 +31,6 @@ returns c =
     ∙ ap (λ x. mapW (granuleOf (x .granule)) (pool x (a .words .now ++ a .second .now) (length (a .words .now)) (a .list .now)) (a .address) (a .frame) (a .size) (a .attributes))
     (d .before .before .before .with-granule .ensures ∙ ap (setup (s .levels) (s .base) (s .tables) (s .free) (s .base2) (s .tables2)) (sym (d .before .before .before .before .if1 .taken)))
 
-with-granule-requires-2 : tie.Need-with-granule-requires-2
-with-granule-requires-2 c κs = search needs
-
 map-by-requires-2 : tie.Need-map-by-requires-2
 map-by-requires-2 c κs = search needs
 
@@ -48,23 +41,7 @@ same-length-4 : tie.Need-same-length-4
 same-length-4 c = search needs
 
 returns-2 : tie.Need-returns-2
-returns-2 c =
-    let d = c .before .before .before .before in
-    let a = d .before .before .before .before .before .before .before .before .before .before .before .args in
-    let s = a .s in
-    d .map-by2 .ensures
-    ∙ ap (λ x. mapW (granuleOf (x .granule)) (pool x (a .words .now ++ a .second .now) (length (a .words .now)) (a .list .now)) (a .address) (a .frame) (a .size) (a .attributes))
-    (d .before .before .before .with-granule2 .ensures ∙ ap (setup (s .levels) (s .base) (s .tables) (s .free) (s .base2) (s .tables2)) (sym (d .before .before .before .before .if2 .taken)))
-
-map-refused-requires : tie.Need-map-refused-requires
-map-refused-requires c κs = search needs
-
-returns-3 : tie.Need-returns-3
-returns-3 c =
-    let a = c .before .before .before .before .before .before .before .before .args in
-    refusing (a .words .now ++ a .second .now) (length (a .words .now)) (a .list .now) (c .map-refused .ensures)
-    ∙ map-bad _ (pool (a .s) (a .words .now ++ a .second .now) (length (a .words .now)) (a .list .now)) (a .address) (a .frame) (a .size) (a .attributes)
-    (sym (setup-bad (λ S. not-named _ (c .before .before .before .if1 .left, c .before .if2 .left) (S .granule-is)))) refl
+returns-2 c = search needs
 
 pub map-spec : {M : Type 1} → statement M
 map-spec =
@@ -75,10 +52,7 @@ map-spec =
     same-length
     same-length-2
     returns
-    with-granule-requires-2
     map-by-requires-2
     same-length-3
     same-length-4
-    returns-2
-    map-refused-requires
-    returns-3)
+    returns-2)

@@ -1,15 +1,12 @@
 -- Query with its granule written out is query.
-use mathlib.Core.Path.{refl, ap, sym, _∙_}
+use mathlib.Core.Path.{ap, sym, _∙_}
 use mathlib.Core.List.{_++_}
 use lib.ListN.{length}
 use borrow.Author.Needs.{needs}
 use Rattle.path.specs.Geometry.{granuleOf}
 use Rattle.path.specs.Numbers.{setup}
-use Rattle.path.specs.Laws.{setup-bad}
 use Rattle.model.specs.Answers.{pool}
 use Rattle.model.specs.Calls.{queryW}
-use Rattle.model.specs.GranuleLaws.{not-named}
-use Rattle.query.proofs.Queries.{query-bad}
 use Rattle.query.proofs.query.Statement.{statement}
 use Rattle.query.proofs.query.Tie as tie
 
@@ -27,25 +24,11 @@ returns c =
     ∙ ap (λ x. queryW (granuleOf (x .granule)) (pool x (a .words .now ++ a .second .now) (length (a .words .now)) (a .list .now)) (a .address))
     (c .before .with-granule .ensures ∙ ap (setup (s .levels) (s .base) (s .tables) (s .free) (s .base2) (s .tables2)) (sym (c .before .before .if1 .taken)))
 
-with-granule-requires-2 : tie.Need-with-granule-requires-2
-with-granule-requires-2 c κs = search needs
-
 query-by-requires-2 : tie.Need-query-by-requires-2
 query-by-requires-2 c κs = search needs
 
 returns-2 : tie.Need-returns-2
-returns-2 c =
-    let a = c .before .before .before .before .before .before .before .before .before .args in
-    let s = a .s in
-    c .query-by2 .ensures
-    ∙ ap (λ x. queryW (granuleOf (x .granule)) (pool x (a .words .now ++ a .second .now) (length (a .words .now)) (a .list .now)) (a .address))
-    (c .before .with-granule2 .ensures ∙ ap (setup (s .levels) (s .base) (s .tables) (s .free) (s .base2) (s .tables2)) (sym (c .before .before .if2 .taken)))
-
-returns-3 : tie.Need-returns-3
-returns-3 c =
-    let a = c .before .before .before .before .before .before .before .args in
-    query-bad _ (pool (a .s) (a .words .now ++ a .second .now) (length (a .words .now)) (a .list .now)) (a .address)
-    (sym (setup-bad (λ S. not-named _ (c .before .before .if1 .left, c .if2 .left) (S .granule-is)))) refl
+returns-2 c = search needs
 
 pub query-spec : {M : Type 1} → statement M
 query-spec =
@@ -54,7 +37,5 @@ query-spec =
     with-granule-requires
     query-by-requires
     returns
-    with-granule-requires-2
     query-by-requires-2
-    returns-2
-    returns-3)
+    returns-2)

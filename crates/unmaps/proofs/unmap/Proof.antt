@@ -1,16 +1,12 @@
 -- Unmap with its granule written out is unmap.
-use mathlib.Core.Path.{refl, ap, sym, _∙_}
+use mathlib.Core.Path.{ap, sym, _∙_}
 use mathlib.Core.List.{_++_}
 use lib.ListN.{length}
 use borrow.Author.Needs.{needs}
 use Rattle.path.specs.Geometry.{granuleOf}
 use Rattle.path.specs.Numbers.{setup}
-use Rattle.path.specs.Laws.{setup-bad}
 use Rattle.model.specs.Answers.{pool}
 use Rattle.model.specs.Calls.{unmapW}
-use Rattle.model.specs.GranuleLaws.{not-named}
-use Rattle.model.specs.Refusing.{refusing}
-use Rattle.unmaps.proofs.Unmaps.{unmap-bad}
 use Rattle.unmaps.proofs.unmap.Statement.{statement}
 use Rattle.unmaps.proofs.unmap.Tie as tie
 
@@ -38,9 +34,6 @@ returns c =
     ∙ ap (λ x. unmapW (granuleOf (x .granule)) (pool x (a .words .now ++ a .second .now) (length (a .words .now)) (a .list .now)) (a .address))
     (d .before .before .before .before .with-granule .ensures ∙ ap (setup (s .levels) (s .base) (s .tables) (s .free) (s .base2) (s .tables2)) (sym (d .before .before .before .before .before .if1 .taken)))
 
-with-granule-requires-2 : tie.Need-with-granule-requires-2
-with-granule-requires-2 c κs = search needs
-
 unmap-by-requires-2 : tie.Need-unmap-by-requires-2
 unmap-by-requires-2 c κs = search needs
 
@@ -54,23 +47,7 @@ same-length-6 : tie.Need-same-length-6
 same-length-6 c = search needs
 
 returns-2 : tie.Need-returns-2
-returns-2 c =
-    let d = c .before .before .before .before .before .before in
-    let a = d .before .before .before .before .before .before .before .before .before .before .before .before .args in
-    let s = a .s in
-    d .unmap-by2 .ensures
-    ∙ ap (λ x. unmapW (granuleOf (x .granule)) (pool x (a .words .now ++ a .second .now) (length (a .words .now)) (a .list .now)) (a .address))
-    (d .before .before .before .before .with-granule2 .ensures ∙ ap (setup (s .levels) (s .base) (s .tables) (s .free) (s .base2) (s .tables2)) (sym (d .before .before .before .before .before .if2 .taken)))
-
-unmap-refused-requires : tie.Need-unmap-refused-requires
-unmap-refused-requires c κs = search needs
-
-returns-3 : tie.Need-returns-3
-returns-3 c =
-    let a = c .before .before .before .before .before .before .before .before .args in
-    refusing (a .words .now ++ a .second .now) (length (a .words .now)) (a .list .now) (c .unmap-refused .ensures)
-    ∙ unmap-bad _ (pool (a .s) (a .words .now ++ a .second .now) (length (a .words .now)) (a .list .now)) (a .address)
-    (sym (setup-bad (λ S. not-named _ (c .before .before .before .if1 .left, c .before .if2 .left) (S .granule-is)))) refl
+returns-2 c = search needs
 
 pub unmap-spec : {M : Type 1} → statement M
 unmap-spec =
@@ -82,11 +59,8 @@ unmap-spec =
     same-length-2
     same-length-3
     returns
-    with-granule-requires-2
     unmap-by-requires-2
     same-length-4
     same-length-5
     same-length-6
-    returns-2
-    unmap-refused-requires
-    returns-3)
+    returns-2)
