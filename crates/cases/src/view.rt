@@ -60,7 +60,14 @@ fn into<'a>(
     if e > entries.len() {
         return [0; ANSWER];
     }
-    run(line, words, second, list, &mut places[..p], &mut entries[..e])
+    run(
+        line,
+        words,
+        second,
+        list,
+        &mut places[..p],
+        &mut entries[..e],
+    )
 }
 
 fn run<'a>(
