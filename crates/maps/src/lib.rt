@@ -224,8 +224,8 @@ fn map_walk(
     }
 }
 
-// Map by any number of a granule.
-fn map_by(
+// A mapping of `size` addresses from `address` on to a frame. Answers the tables taken, or a refusal: 1 to 8, or 11.
+pub fn map(
     s: Setup,
     words: &mut [u64],
     second: &mut [u64],
@@ -248,33 +248,4 @@ fn map_by(
     }
     let word = entry::word_of(frame, height, attributes);
     map_walk(s, words, second, list, address, height, word)
-}
-
-// A mapping of `size` addresses from `address` on to a frame. Answers the tables taken, or a refusal: 1 to 8, or 11.
-pub fn map(
-    s: Setup,
-    words: &mut [u64],
-    second: &mut [u64],
-    list: &[u32],
-    address: u64,
-    frame: u64,
-    size: u64,
-    attributes: u64,
-) -> Mapped
-    ensures { λ r. ⌜ mapDid r (now (words .exit)) (now (second .exit)) (now (list .entry))
-        ≡ mapW (granuleOf (s .granule)) (pool s (now (words .entry) ++ now (second .entry)) (length (now (words .entry))) (now (list .entry))) address frame size attributes ⌝ }
-{
-    if s.granule == path::KIB4 {
-        return map_by(
-            setups::with_granule(s, path::KIB4),
-            words,
-            second,
-            list,
-            address,
-            frame,
-            size,
-            attributes,
-        );
-    }
-    map_by(s, words, second, list, address, frame, size, attributes)
 }

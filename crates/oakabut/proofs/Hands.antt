@@ -1,7 +1,7 @@
 -- What is told of an answer is told of an equal one.
 use Prim.Native.Nat.{ℕ}
 use mathlib.Core.List.{List}
-use mathlib.Core.Path.{_≡_, sym, ap, _∙_}
+use mathlib.Core.Path.{_≡_, sym, ap, _∙_, subst}
 use Rattle.path.specs.declared.Setup.{Setup}
 use Rattle.model.specs.Answers.{Answer, Done, left, Listed}
 use Rattle.oakabut.specs.Surface.{numberOf, listPlaces, Told, Left, Wrote}
@@ -28,6 +28,10 @@ leaves placesOf q t = record {
   cut-is = ap (λ (d : Done). d .after .cut) q;
   list-is = ap (λ (d : Done). d .after .list) q;
 }
+
+-- what is left of a pool is left of an equal one
+pub stays : {placesOf : Setup → Answer → List ℕ} {d e : Done} {n : ℕ} {p w u l : List ℕ} → d ≡ e → Left d placesOf n p w u l → Left e placesOf n p w u l
+stays {placesOf} {d} {e} {n} {p} {w} {u} {l} q t = subst (λ (x : Done). Left x placesOf n p w u l) q t
 
 -- and what list does
 pub writes : {x y : Listed} {n : ℕ} {a : List ℕ} → x ≡ y → Told (x .answer) listPlaces n a → Wrote y n a (x .places) (x .entries)

@@ -10,10 +10,11 @@ use path::Setup;
 ghost use mathlib.Core.Path.{_≡_};
 ghost use mathlib.Core.List.{List, [], _++_};
 ghost use Prim.Native.Nat.{ℕ};
-ghost use lib.ListN.{length};
+ghost use lib.ListN.{length, getD};
+ghost use Rattle.path.specs.Geometry.{granuleOf};
 ghost use Rattle.path.specs.Areas.{areaAt};
 ghost use Rattle.entry.specs.Host.{sizedBy, hostWord, hostMeaning};
-ghost use Rattle.model.specs.Answers.{saysFormat, saysAdd, saysMap, saysUnmap, saysQuery, saysAudit, saysList};
+ghost use Rattle.model.specs.Answers.{pool, saysFormat, saysAdd, saysMap, saysUnmap, saysQuery, saysAudit, saysList};
 ghost use Rattle.model.specs.Calls.{formatN, mapW, unmapW, queryW};
 ghost use Rattle.model.specs.Adds.{addW};
 ghost use Rattle.model.specs.Audit.{auditW};
@@ -48,6 +49,22 @@ fn setup_at(s: &[u64; 7]) -> Setup
         base2: s[4],
         tables2: s[5],
         granule: s[6],
+    }
+}
+
+// The same where the granule is that of 4 KiB. A call that has found that goes on with the number written out, so that the compiler makes the call twice, and
+// every size in it a constant.
+fn setup_of_four(s: &[u64; 7]) -> Setup
+    ensures { λ r. ⌜ (getD (now (s .entry)) 6 0 ≡ 4096 → r ≡ setupAt (now (s .entry))) ⌝ }
+{
+    Setup {
+        levels: s[0],
+        base: s[1],
+        tables: s[2],
+        free: s[3],
+        base2: s[4],
+        tables2: s[5],
+        granule: path::KIB4,
     }
 }
 
@@ -258,6 +275,26 @@ pub extern "C" fn oak_add(
     added(a, d.setup, answer)
 }
 
+// Map by setup numbers.
+fn map_by(
+    s: Setup,
+    words: &mut [u64],
+    second: &mut [u64],
+    list: &[u32],
+    address: u64,
+    frame: u64,
+    size: u64,
+    attributes: u64,
+    answer: &mut [u64; 8],
+) -> u64
+    ensures { λ r. ⌜ Left (mapW (granuleOf (s .granule)) (pool s (now (words .entry) ++ now (second .entry)) (length (now (words .entry))) (now (list .entry))) address frame size attributes)
+        mapPlaces r (now (answer .exit)) (now (words .exit)) (now (second .exit)) (now (list .entry)) ⌝ }
+{
+    let d = pagetable::map(s, words, second, list, address, frame, size, attributes);
+    let a = d.answer;
+    mapped(a, d.setup, answer)
+}
+
 // Maps a frame at an address, and answers the setup and how many tables it took.
 #[no_mangle]
 pub extern "C" fn oak_map(
@@ -274,10 +311,47 @@ pub extern "C" fn oak_map(
     ensures { λ r. ⌜ Left (mapW (granuleAt (now (s .entry))) (poolAt (now (s .entry)) (now (words .entry) ++ now (second .entry)) (length (now (words .entry))) (now (list .entry))) address frame size attributes)
         mapPlaces r (now (answer .exit)) (now (words .exit)) (now (second .exit)) (now (list .entry)) ⌝ }
 {
-    let p = setup_at(s);
-    let d = pagetable::map(p, words, second, list, address, frame, size, attributes);
+    if s[6] == path::KIB4 {
+        return map_by(
+            setup_of_four(s),
+            words,
+            second,
+            list,
+            address,
+            frame,
+            size,
+            attributes,
+            answer,
+        );
+    }
+    map_by(
+        setup_at(s),
+        words,
+        second,
+        list,
+        address,
+        frame,
+        size,
+        attributes,
+        answer,
+    )
+}
+
+// Unmap by setup numbers.
+fn unmap_by(
+    s: Setup,
+    words: &mut [u64],
+    second: &mut [u64],
+    list: &mut [u32],
+    address: u64,
+    answer: &mut [u64; 13],
+) -> u64
+    ensures { λ r. ⌜ Left (unmapW (granuleOf (s .granule)) (pool s (now (words .entry) ++ now (second .entry)) (length (now (words .entry))) (now (list .entry))) address)
+        unmapPlaces r (now (answer .exit)) (now (words .exit)) (now (second .exit)) (now (list .exit)) ⌝ }
+{
+    let d = pagetable::unmap(s, words, second, list, address);
     let a = d.answer;
-    mapped(a, d.setup, answer)
+    unmapped(a, d.setup, answer)
 }
 
 // Removes the mapping that starts at an address, and answers the setup, its frame and how many tables came back; with 9 the hole.
@@ -293,9 +367,26 @@ pub extern "C" fn oak_unmap(
     ensures { λ r. ⌜ Left (unmapW (granuleAt (now (s .entry))) (poolAt (now (s .entry)) (now (words .entry) ++ now (second .entry)) (length (now (words .entry))) (now (list .entry))) address)
         unmapPlaces r (now (answer .exit)) (now (words .exit)) (now (second .exit)) (now (list .exit)) ⌝ }
 {
-    let d = pagetable::unmap(setup_at(s), words, second, list, address);
-    let a = d.answer;
-    unmapped(a, d.setup, answer)
+    if s[6] == path::KIB4 {
+        return unmap_by(setup_of_four(s), words, second, list, address, answer);
+    }
+    unmap_by(setup_at(s), words, second, list, address, answer)
+}
+
+// Query by setup numbers.
+fn query_by(
+    s: Setup,
+    words: &[u64],
+    second: &[u64],
+    list: &[u32],
+    address: u64,
+    answer: &mut [u64; 6],
+) -> u64
+    ensures { λ r. ⌜ Told (queryW (granuleOf (s .granule)) (pool s (now (words .entry) ++ now (second .entry)) (length (now (words .entry))) (now (list .entry))) address)
+        queryPlaces r (now (answer .exit)) ⌝ }
+{
+    let a = pagetable::query(s, words, second, list, address);
+    found(a, answer)
 }
 
 // Answers the mapping that holds an address; with 9 the hole.
@@ -311,8 +402,10 @@ pub extern "C" fn oak_query(
     ensures { λ r. ⌜ Told (queryW (granuleAt (now (s .entry))) (poolAt (now (s .entry)) (now (words .entry) ++ now (second .entry)) (length (now (words .entry))) (now (list .entry))) address)
         queryPlaces r (now (answer .exit)) ⌝ }
 {
-    let a = pagetable::query(setup_at(s), words, second, list, address);
-    found(a, answer)
+    if s[6] == path::KIB4 {
+        return query_by(setup_of_four(s), words, second, list, address, answer);
+    }
+    query_by(setup_at(s), words, second, list, address, answer)
 }
 
 // Answers whether the pool keeps every rule, with the counts of its tables and mappings.

@@ -93,8 +93,8 @@ fn ask(
     8
 }
 
-// Query by any number of a granule.
-fn query_by(s: Setup, words: &[u64], second: &[u64], list: &[u32], address: u64) -> QueryAnswer
+// The mapping that holds an address, or a refusal: 1, 4, 8, or 9 with the hole around the address.
+pub fn query(s: Setup, words: &[u64], second: &[u64], list: &[u32], address: u64) -> QueryAnswer
     ensures { λ r. ⌜ saysQuery r ≡ queryW (granuleOf (s .granule)) (pool s (now (words .entry) ++ now (second .entry)) (length (now (words .entry))) (now (list .entry))) address ⌝ }
 {
     let levels = s.levels;
@@ -136,20 +136,4 @@ fn query_by(s: Setup, words: &[u64], second: &[u64], list: &[u32], address: u64)
         size: places[2],
         attributes: places[3],
     }
-}
-
-// The mapping that holds an address, or a refusal: 1, 4, 8, or 9 with the hole around the address.
-pub fn query(s: Setup, words: &[u64], second: &[u64], list: &[u32], address: u64) -> QueryAnswer
-    ensures { λ r. ⌜ saysQuery r ≡ queryW (granuleOf (s .granule)) (pool s (now (words .entry) ++ now (second .entry)) (length (now (words .entry))) (now (list .entry))) address ⌝ }
-{
-    if s.granule == path::KIB4 {
-        return query_by(
-            setups::with_granule(s, path::KIB4),
-            words,
-            second,
-            list,
-            address,
-        );
-    }
-    query_by(s, words, second, list, address)
 }

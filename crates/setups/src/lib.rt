@@ -6,23 +6,7 @@ ghost use mathlib.Core.Bool.{_&&_};
 ghost use lib.Dec.{ltb, eqb};
 ghost use Rattle.path.specs.Geometry.{granuleOf, pageSize};
 ghost use Rattle.path.specs.Areas.{areaAt, areaOf, total, meetsRegion, meetsArea};
-ghost use Rattle.path.specs.Numbers.{setup, mostTables, goodRegion, goodNumbers, goodSetup, goodAdding};
-
-// The setup numbers with another granule. A call that has found its granule to be that of 4 KiB goes on with that number written out, so that the compiler
-// makes the call twice, and every size in it a constant.
-pub fn with_granule(s: Setup, granule: u64) -> Setup
-    ensures { λ r. ⌜ r ≡ setup (s .levels) (s .base) (s .tables) (s .free) (s .base2) (s .tables2) granule ⌝ }
-{
-    Setup {
-        levels: s.levels,
-        base: s.base,
-        tables: s.tables,
-        free: s.free,
-        base2: s.base2,
-        tables2: s.tables2,
-        granule,
-    }
-}
+ghost use Rattle.path.specs.Numbers.{mostTables, goodRegion, goodNumbers, goodSetup, goodAdding};
 
 // Whether one region of no more tables than a pool may have is good alone: they stand at multiples of their size and end within 2^48, and its run of words is as
 // long as they are. The number of the granule is the size of a table, and eight bytes of it are a word.

@@ -220,8 +220,9 @@ fn unmap_frame(
     }
 }
 
-// Unmap by any number of a granule.
-fn unmap_by(
+// The mapping that starts at an address goes, and so does each table that is empty then. Answers the frame and the tables given back, or a refusal:
+// 1, 4, 5, 8, 10, or 9 with the hole around the address.
+pub fn unmap(
     s: Setup,
     words: &mut [u64],
     second: &mut [u64],
@@ -266,28 +267,4 @@ fn unmap_by(
         Entry::Table(_) => unmap_refused(8, s),
         Entry::Damaged => unmap_refused(8, s),
     }
-}
-
-// The mapping that starts at an address goes, and so does each table that is empty then. Answers the frame and the tables given back, or a refusal:
-// 1, 4, 5, 8, 10, or 9 with the hole around the address.
-pub fn unmap(
-    s: Setup,
-    words: &mut [u64],
-    second: &mut [u64],
-    list: &mut [u32],
-    address: u64,
-) -> Unmapped
-    ensures { λ r. ⌜ unmapDid r (now (words .exit)) (now (second .exit)) (now (list .exit))
-        ≡ unmapW (granuleOf (s .granule)) (pool s (now (words .entry) ++ now (second .entry)) (length (now (words .entry))) (now (list .entry))) address ⌝ }
-{
-    if s.granule == path::KIB4 {
-        return unmap_by(
-            setups::with_granule(s, path::KIB4),
-            words,
-            second,
-            list,
-            address,
-        );
-    }
-    unmap_by(s, words, second, list, address)
 }

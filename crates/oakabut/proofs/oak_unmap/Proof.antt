@@ -1,25 +1,24 @@
--- `oakabut::oak_unmap` hands on what the call of `pagetable` answers. Assumes nothing.
-use mathlib.Core.Path.{ap, _∙_}
+-- `oakabut::oak_unmap` is the call by setup numbers, of 4 KiB with that number written out. Assumes nothing.
+use mathlib.Core.Path.{ap}
+use mathlib.Core.List.{_++_}
+use lib.ListN.{length}
+use borrow.Author.Needs.{needs}
 use Rattle.path.specs.Geometry.{granuleOf}
 use Rattle.path.specs.declared.Setup.{Setup}
 use Rattle.model.specs.Answers.{pool}
 use Rattle.model.specs.Calls.{unmapW}
-use Rattle.oakabut.specs.Surface.{unmapPlaces}
-use Rattle.oakabut.proofs.Hands.{leaves}
-use mathlib.Core.List.{_++_}
-use lib.ListN.{length}
-use borrow.Author.Needs.{needs}
+use Rattle.oakabut.proofs.Hands.{stays}
 use Rattle.oakabut.proofs.oak_unmap.Statement.{statement}
 use Rattle.oakabut.proofs.oak_unmap.Tie as tie
 
-setup-at-requires : tie.Need-setup-at-requires
-setup-at-requires c κs = search needs
+element-copy-out-if1 : tie.Need-element-copy-out-if1
+element-copy-out-if1 c = search needs
 
-unmap-requires : tie.Need-unmap-requires
-unmap-requires c κs = search needs
+setup-of-four-requires : tie.Need-setup-of-four-requires
+setup-of-four-requires c κs = search needs
 
-unmapped-requires : tie.Need-unmapped-requires
-unmapped-requires c κs = search needs
+unmap-by-requires : tie.Need-unmap-by-requires
+unmap-by-requires c κs = search needs
 
 same-length : tie.Need-same-length
 same-length c = search needs
@@ -32,18 +31,49 @@ same-length-3 c = search needs
 
 returns : tie.Need-returns
 returns c =
-    let a = c .before .before .before .before .before .before .before .before .before .before .before .before .before .before .before .before .args in
-    let e = ap (λ (z : Setup). unmapW (granuleOf (z .granule)) (pool z (a .words .now ++ a .second .now) (length (a .words .now)) (a .list .now)) (a .address)) (c .before .before .before .before .before .before .before .before .before .before .before .before .setup-at .ensures) in
-    leaves unmapPlaces (c .before .before .before .before .before .before .before .before .unmap .ensures .0 ∙ e) (c .unmapped .ensures)
+    let d = c .before .before .before .before .before .before in
+    let a = d .before .before .before .before .before .before .before .before .before .before .before .args in
+    stays
+    (ap (λ (z : Setup). unmapW (granuleOf (z .granule)) (pool z (a .words .now ++ a .second .now) (length (a .words .now)) (a .list .now)) (a .address)) (d .before .before .before .before .before .setup-of-four .ensures (d .before .before .before .before .before .before .if1 .taken)))
+    (d .unmap-by .ensures)
+
+setup-at-requires : tie.Need-setup-at-requires
+setup-at-requires c κs = search needs
+
+unmap-by-requires-2 : tie.Need-unmap-by-requires-2
+unmap-by-requires-2 c κs = search needs
+
+same-length-4 : tie.Need-same-length-4
+same-length-4 c = search needs
+
+same-length-5 : tie.Need-same-length-5
+same-length-5 c = search needs
+
+same-length-6 : tie.Need-same-length-6
+same-length-6 c = search needs
+
+returns-2 : tie.Need-returns-2
+returns-2 c =
+    let d = c .before .before .before .before .before .before in
+    let a = d .before .before .before .before .before .before .before .before .before .before .before .args in
+    stays
+    (ap (λ (z : Setup). unmapW (granuleOf (z .granule)) (pool z (a .words .now ++ a .second .now) (length (a .words .now)) (a .list .now)) (a .address)) (d .before .before .before .before .before .setup-at .ensures))
+    (d .unmap-by2 .ensures)
 
 pub oak-unmap-spec : {M : Type 1} → statement M
 oak-unmap-spec =
     tie.close
     (tie.spec
-    setup-at-requires
-    unmap-requires
-    unmapped-requires
+    element-copy-out-if1
+    setup-of-four-requires
+    unmap-by-requires
     same-length
     same-length-2
     same-length-3
-    returns)
+    returns
+    setup-at-requires
+    unmap-by-requires-2
+    same-length-4
+    same-length-5
+    same-length-6
+    returns-2)
