@@ -177,7 +177,8 @@ pub from-low : (start lo : ℕ) (L : List Mapping) → start ≤ lo → Climbing
 unfolding fromOn Climbing
 from-low start lo [] l c = refl
 from-low start lo (m ∷ L) l c =
-    rw (le-leb start (m .at) (omega (arith, c .0))) (ap (λ (k : List Mapping). m ∷ k) (from-low start (suc (m .at)) L (omega (arith, c .0)) (c .1)))
+    ap (λ (b : Bool). cond b (m ∷ fromOn start L) (fromOn start L)) (le-leb start (m .at) (omega (arith, c .0)))
+    ∙ ap (λ (k : List Mapping). m ∷ k) (from-low start (suc (m .at)) L (omega (arith, c .0)) (c .1))
 
 -- what is kept rises
 pub from-climbs : (start lo : ℕ) (L : List Mapping) → Climbing lo L → Climbing start (fromOn start L)
