@@ -584,6 +584,7 @@ fn of_16_kib(tables: u64, tables2: u64) {
         lent.asked(address);
         lent.asked(address.wrapping_add(size / 2));
         lent.audit();
+        lent.pages(address);
     }
     lent.clone().add(MORE, 1, 1);
     lent.clone().add(MORE + PAGE, 1, 1);
@@ -594,6 +595,7 @@ fn of_16_kib(tables: u64, tables2: u64) {
             copy.words[at] ^= bit;
             copy.audit();
             copy.clone().add(MORE, 1, 1);
+            copy.pages(MIB32);
             copy.asked(0);
             copy.unmap(0);
         }

@@ -1,14 +1,14 @@
 -- Mappings that are written one after the other: parts of a list, one word, and what the whole comes to.
-use Prim.Native.Nat.{ℕ, zero, suc, _+_, _*_, _≤_, _<_}
-use mathlib.Core.Path.{_≡_, refl, sym, ap, subst, _∙_}
+use Prim.Native.Nat.{ℕ, suc, _+_, _*_, _≤_, _<_}
+use mathlib.Core.Path.{_≡_, refl, sym, ap, _∙_}
 use mathlib.Core.Bool.{Bool, true, false, cond, true≢false, false≢true}
-use mathlib.Core.List.{List, [], _∷_, _++_, map, append-assoc, append-nil}
+use mathlib.Core.List.{List, [], _∷_, _++_, map}
 use native.Mathlib.Omega.{arith}
-use lib.Dec.{ltb, leb}
+use lib.Dec.{ltb}
 use lib.ListN.{length, set, take, drop, length-append, length-map}
 use lib.Seq.{set-at, take-at, append-snoc}
 use borrow.Author.Tests.{lt-ltb, le-ltb, le-leb, lt-leb}
-use Rattle.path.specs.Geometry.{Granule, Sane, sizeAt, heightOf}
+use Rattle.path.specs.Geometry.{Granule, Sane, sizeAt}
 use Rattle.path.specs.Laws.{size-height}
 use Rattle.entry.specs.Words.{frameWord, Framed}
 use Rattle.entry.specs.Parts.{frame-word-ge}

@@ -3,20 +3,20 @@ use Prim.Native.Nat.{ℕ, zero, suc, _+_, _-_, _*_, _%_, _≤_, _<_}
 use mathlib.Core.Path.{_≡_, refl, sym, ap, subst, _∙_}
 use mathlib.Core.Logic.{_⊎_, inl, inr, ⊎-elim}
 use mathlib.Core.Bool.{true, false}
-use mathlib.Core.List.{List, [], _∷_, _++_}
+use mathlib.Core.List.{List, [], _++_}
 use native.Mathlib.Nat.{add-mul-mod-self-left, mul-comm, mul-le-mul-left, mod-lt}
 use native.Mathlib.Numerals.{sub-one}
 use native.Mathlib.Omega.{arith}
-use lib.ListN.{length, getD, drop, drop-of-length-le, length-append}
+use lib.ListN.{length, getD, drop, drop-of-length-le}
 use lib.Seq.{drop-cons}
 use Rattle.laws.specs.ListLaws.{length-part, getD-part}
 use Rattle.path.specs.Geometry.{Granule, Sane, entries, sizeAt, atLevel, physical}
-use Rattle.path.specs.Areas.{Area, total}
+use Rattle.path.specs.Areas.{Area}
 use Rattle.path.specs.Paths.{indexAt, baseAt}
 use Rattle.path.specs.Laws.{entries-pos, size-pos, size-suc′, level-some, table-ends}
 use Rattle.path.specs.PathLaws.{index-below, rest-index}
 use Rattle.path.specs.RegionLaws.{aligned-down, base-rest, base-inside}
-use Rattle.entry.specs.Words.{tableWord, childAt, entryAt}
+use Rattle.entry.specs.Words.{childAt, entryAt}
 use Rattle.entry.specs.Laws.{entry-zero, empty-only, table-only, frame-only, entry-table, child-some, child-only}
 use Rattle.entry.specs.declared.Entry.{Entry}
 use Rattle.entry.specs.declared.Entry.the-variants.{Empty, Table, Frame, Damaged}

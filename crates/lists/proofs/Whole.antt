@@ -1,11 +1,11 @@
 -- The public call: its refusals, and what it asks of the tree.
 use Prim.Native.Nat.{ℕ, suc, _+_, _-_, _≤_, _<_}
-use mathlib.Core.Path.{_≡_, refl, sym, ap, subst, _∙_}
-use mathlib.Core.Bool.{Bool, true, false, not, _&&_, and-false}
+use mathlib.Core.Path.{_≡_, sym, ap, _∙_}
+use mathlib.Core.Bool.{Bool, true, false, not, _&&_}
 use mathlib.Core.List.{List, _++_}
 use native.Mathlib.Nat.{zero-mod}
 use native.Mathlib.Omega.{arith}
-use lib.Dec.{leb, eqb}
+use lib.Dec.{leb}
 use lib.ListN.{length, length-append}
 use borrow.Author.Tests.{not-true, not-false, eq-eqb, ne-eqb, le-leb, lt-leb}
 use Rattle.path.specs.Geometry.{Granule, Sane, sizeAt, goodLevels, spaceOf}
@@ -13,15 +13,14 @@ use Rattle.path.specs.Areas.{areaOf}
 use Rattle.path.specs.Numbers.{goodSetup, GoodNumbers}
 use Rattle.path.specs.Laws.{good-setup, space-some, size-fits, in-space, past-space}
 use Rattle.path.specs.declared.Setup.{Setup}
-use Rattle.model.specs.declared.ListAnswer.{ListAnswer}
 use Rattle.model.specs.declared.ListAnswer.the-variants as L
-use Rattle.model.specs.Answers.{Mapping, Pool, pool, listDid}
+use Rattle.model.specs.Answers.{Pool, pool, listDid}
 use Rattle.model.specs.Calls.{goodPool}
 use Rattle.model.specs.Audit.{ofPool}
 use Rattle.model.specs.Adds.{soundTree}
 use Rattle.model.specs.AddLaws.{tree-wf}
 use Rattle.model.specs.Listing.{fromOn, listedOf, listW, leaves}
-use Rattle.lists.specs.Feeds.{RegionFit, TableFit, RunsFit, fed, feed}
+use Rattle.lists.specs.Feeds.{TableFit, RunsFit, fed, feed}
 use Rattle.lists.specs.declared.Cursor.{Cursor}
 use Rattle.lists.proofs.Feeding.{list-all, list-some}
 

@@ -9,7 +9,6 @@ use lib.ListN.{length, getD, set, drop}
 use Rattle.path.specs.Geometry.{Granule, granuleOf, entries, sizeAt, physical}
 use Rattle.path.specs.Areas.{Area, areaAt, total}
 use Rattle.entry.specs.Words.{frameWord, entryAt, Framed}
-use Rattle.entry.specs.declared.Entry.{Entry}
 use Rattle.model.specs.Answers.{Mapping, mapping}
 use Rattle.model.specs.Audit.{Found, nothing, ofEntries, ofTable}
 use Rattle.model.specs.Sound.{SoundEntry, SoundTable}

@@ -4,7 +4,6 @@ use mathlib.Core.Path.{_≡_, refl, sym, ap, _∙_}
 use mathlib.Core.List.{List, _++_}
 use native.Mathlib.Omega.{arith}
 use lib.ListN.{length, length-append}
-use borrow.Author.Needs.{needs}
 use Rattle.path.specs.Geometry.{sizeAt}
 use Rattle.path.specs.Laws.{granule-sane}
 use Rattle.model.specs.Answers.{Mapping}

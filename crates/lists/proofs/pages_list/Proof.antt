@@ -1,15 +1,14 @@
 -- `pages_list` lists the words of a table of the last level one after the other.
-use Prim.Native.Nat.{ℕ, _+_, _-_, _*_, _≤_, _<_}
+use Prim.Native.Nat.{ℕ, _-_, _≤_}
 use mathlib.Core.Path.{_≡_, refl, sym, _∙_}
 use mathlib.Core.List.{List}
 use native.Mathlib.Omega.{arith}
-use borrow.Author.Needs.{needs}
-use lib.ListN.{length, getD}
-use Rattle.path.specs.Geometry.{Granule, granuleOf, Sane, sizeAt}
+use lib.ListN.{length}
+use Rattle.path.specs.Geometry.{granuleOf}
 use Rattle.path.specs.Areas.{Area}
 use Rattle.path.specs.Laws.{granule-sane}
-use Rattle.lists.specs.Feeds.{OneOf, SoundPages}
-use Rattle.lists.proofs.Rests.{Same, one, page-size, page-bits, page-ends, page-one, loop-end, loop-stop, loop-next}
+use Rattle.lists.specs.Feeds.{SoundPages}
+use Rattle.lists.proofs.Rests.{Same, page-size, page-bits, page-ends, page-one, loop-end, loop-stop, loop-next}
 use Rattle.lists.proofs.pages_list.Statement.{statement}
 use Rattle.lists.proofs.pages_list.Tie as tie
 
