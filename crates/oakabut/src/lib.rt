@@ -57,13 +57,14 @@ fn setup_at(s: &[u64; 7]) -> Setup
 fn setup_of_four(s: &[u64; 7]) -> Setup
     ensures { λ r. ⌜ (getD (now (s .entry)) 6 0 ≡ 4096 → r ≡ setupAt (now (s .entry))) ⌝ }
 {
+    let p = setup_at(s);
     Setup {
-        levels: s[0],
-        base: s[1],
-        tables: s[2],
-        free: s[3],
-        base2: s[4],
-        tables2: s[5],
+        levels: p.levels,
+        base: p.base,
+        tables: p.tables,
+        free: p.free,
+        base2: p.base2,
+        tables2: p.tables2,
         granule: path::KIB4,
     }
 }
