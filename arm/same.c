@@ -5,7 +5,7 @@
  * sensible, some past a limit, some with a setup or a length that breaks the rules; every other history also damages the pool now
  * and then. Some pools have two regions of tables from the start, and to the others one may be added. A third of the histories begins
  * with the larger granule; now and then a pool is lent under the number of the other one. Each answer goes into a hash, refusals and
- * records alike, and after each call all words of both runs and places of the list do too.
+ * records alike, and after each call all words of both runs and places of the list do too; of a list also the two runs that it writes.
  *
  * A line begins with the number of its history: every 64th call with its answer, and at the end the hashes. The last line counts
  * how often each function gave each answer; the program fails where one that can be given never was. */
@@ -17,11 +17,13 @@
 #include "oakabut.h"
 
 enum { HISTORIES = 144, CALLS = 256, SHOW = 64, MOST_TABLES = 512, USUAL_TABLES = 64, MOST_SECOND = 16, MAPPED = 16 };
+enum { ROOM = 40 };
 enum { WORDS = 512 * MOST_TABLES, SECOND_WORDS = 2048 * MOST_SECOND, PLACES = MOST_TABLES + 4 * MOST_SECOND };
 #define LIMIT (UINT64_C(1) << 48)
 
 static uint64_t words[WORDS], second[SECOND_WORDS];
 static uint32_t list[PLACES];
+static uint64_t places[ROOM], entries[ROOM]; /* of a list */
 static oak_setup setup;
 
 /* the size of the pool's tables and the words of so many; of the smaller granule where the number is none */
@@ -95,7 +97,7 @@ static uint64_t some_frame(uint64_t size) {
 
 static unsigned history, call;
 static uint64_t hash;
-static unsigned long given[8][13]; /* how often a function gave a refusal; 0 counts what is none, 12 what should not be */
+static unsigned long given[9][13]; /* how often a function gave a refusal; 0 counts what is none, 12 what should not be */
 
 static void add(uint64_t number) {
     hash = (hash ^ number) * UINT64_C(0x9FB21C651E98DF25);
@@ -112,7 +114,7 @@ static void add_memory(size_t words_len, size_t second_len, size_t list_len) {
 static void answered(unsigned function, const char *name, uint64_t refusal, const void *answer, size_t count) {
     uint64_t numbers[13];
     memcpy(numbers, answer, 8 * count);
-    given[function][refusal < 12 ? refusal : function > 5 ? 0 : 12]++;
+    given[function][refusal < 12 ? refusal : function > 6 ? 0 : 12]++;
     add(refusal);
     for (size_t i = 0; i < count; i++) add(numbers[i]);
     if (call % SHOW != 0) return;
@@ -253,14 +255,31 @@ static void call_add(void) {
     if (refusal == 0) setup = answer;
 }
 
+/* from 0, from a mapping or beside it, from the base that the last one answered, or from anywhere; into runs that held a pattern, all of which is hashed */
+static void call_list(void) {
+    static uint64_t next;
+    oak_listed answer;
+    struct lent l = lent();
+    uint64_t kind = below(8), start = kind < 2 ? 0 : kind < 4 ? next : kind < 6 ? mapped[below(MAPPED)] : some_address(0);
+    uint64_t room = once_in(3) ? below(4) : below(ROOM + 1), other = once_in(20) ? below(ROOM + 1) : room;
+    memset(places, 0xA5, sizeof places);
+    memset(entries, 0xA5, sizeof entries);
+    memset(&answer, 0x5A, sizeof answer);
+    if (kind == 5) start += below(2 * table());
+    uint64_t refusal = oak_list(&l.setup, LENT(l), start, places, room, entries, other, &answer);
+    answered(6, "list", refusal, &answer, 3);
+    for (size_t i = 0; i < ROOM; i++) add(places[i]), add(entries[i]);
+    next = answer.next;
+}
+
 static void call_words(void) {
     uint64_t size = some_size(), frame = some_frame(size), attributes = some_attributes();
     uint64_t word = oak_frame_word(frame, size, attributes);
-    answered(6, "frame_word", word, &word, 1);
+    answered(7, "frame_word", word, &word, 1);
     if (once_in(3)) word ^= UINT64_C(1) << below(64);
     if (once_in(3)) size = some_size();
     uint64_t meaning = oak_word_meaning(word, size);
-    answered(7, "word_meaning", meaning, &meaning, 1);
+    answered(8, "word_meaning", meaning, &meaning, 1);
 }
 
 /* one change that no call makes: of a word, mostly one in use, or of the list; the setup's free count may lag behind too */
@@ -306,7 +325,8 @@ static void one_history(void) {
         if (kind == 0) call_format();
         else if (kind < 30) call_map();
         else if (kind < 44) call_unmap();
-        else if (kind < 56) call_query();
+        else if (kind < 54) call_query();
+        else if (kind < 57) call_list();
         else if (kind < 60) call_audit();
         else if (kind < 62) call_add();
         else call_words();
@@ -324,14 +344,14 @@ static void one_history(void) {
 static const struct {
     const char *name;
     unsigned can;
-} functions[8] = {{"format", 0x003}, {"map", 0x9FF}, {"unmap", 0x733},      {"query", 0x313},
-                  {"audit", 0x103},  {"add", 0x903}, {"frame_word", 0x03D}, {"word_meaning", 0x105}};
+} functions[9] = {{"format", 0x003}, {"map", 0x9FF},  {"unmap", 0x733},      {"query", 0x313},       {"audit", 0x103},
+                  {"add", 0x903},    {"list", 0x113}, {"frame_word", 0x03D}, {"word_meaning", 0x105}};
 
 int main(void) {
     bool all = true;
     for (history = 0; history < HISTORIES; history++) one_history();
     printf("answers:");
-    for (unsigned f = 0; f < 8; f++) {
+    for (unsigned f = 0; f < 9; f++) {
         printf("%s %s", f == 0 ? "" : ";", functions[f].name);
         for (unsigned r = 0; r < 13; r++) {
             if (given[f][r] != 0) printf(" %u:%lu", r, given[f][r]);

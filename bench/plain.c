@@ -494,11 +494,21 @@ uint64_t plain_audit(const oak_setup *s, const uint64_t *words, size_t words_len
     return 0;
 }
 
+/* Looks through a table of pages: no branch in the loop. */
+ALWAYS_INLINE bool look_pages(unsigned bits, const uint64_t *table) {
+    uint64_t damaged = 0;
+    for (size_t i = 0; i < entries_of(bits); i++)
+        damaged += (table[i] != 0) & !is_frame(bits, table[i], 1);
+    return damaged == 0;
+}
+
 /* Whether a table and all below it have no damaged word and no table that was come to; counts the frames in a region as mappings. */
 static bool look(unsigned bits, audit *a, size_t table, unsigned left, uint64_t base, uint64_t tables) {
     const uint64_t *t = table_at(bits, a->r, table);
     if (!come_to(a, table))
         return false;
+    if (left == 1 && tables == 0)
+        return bits == FOUR ? look_pages(FOUR, t) : look_pages(SIXTEEN, t);
     for (size_t i = 0; i < entries_of(bits); i++) {
         if (t[i] == 0)
             continue;
@@ -528,5 +538,72 @@ uint64_t plain_add(const oak_setup *s, const uint64_t *words, size_t words_len, 
         list[s->free + i] = (uint32_t)total(&grown) - 1 - i;
     grown.free += second_tables;
     *answer = grown;
+    return 0;
+}
+
+/* ---- the list */
+
+typedef struct {
+    const oak_setup *s;
+    runs r;
+    uint64_t start, *places, *entries;
+    size_t room, written;
+    uint64_t next;
+} listing;
+
+/* Writes a mapping; false where there is no place for it. */
+static inline bool write_place(listing *l, uint64_t base, unsigned power, uint64_t word) {
+    if (l->written == l->room) {
+        l->next = base;
+        return false;
+    }
+    l->places[l->written] = base + power;
+    l->entries[l->written++] = word;
+    return true;
+}
+
+/* Lists a table of pages from one of its entries on. */
+ALWAYS_INLINE bool list_pages(unsigned bits, listing *l, const uint64_t *table, size_t from, uint64_t first) {
+    for (size_t i = from; i < entries_of(bits); i++)
+        if (table[i] != 0 && !write_place(l, first + (i << bits), bits, table[i]))
+            return false;
+    return true;
+}
+
+/* Lists a table of a sound tree, whose first entry stands for the addresses from first on; false where there was a mapping too many. */
+static bool list_table(unsigned bits, listing *l, size_t table, unsigned left, uint64_t first) {
+    const uint64_t *t = table_at(bits, l->r, table);
+    unsigned shift = shift_of(bits, left);
+    if (left == 1) { /* from the first page on that does not begin below the start */
+        size_t from = l->start > first ? (l->start - first + page_of(bits) - 1) >> bits : 0;
+        return bits == FOUR ? list_pages(FOUR, l, t, from, first) : list_pages(SIXTEEN, l, t, from, first);
+    }
+    for (size_t i = l->start > first ? (l->start - first) >> shift : 0; i < entries_of(bits); i++) {
+        uint64_t base = first + ((uint64_t)i << shift);
+        if (t[i] == 0)
+            continue;
+        uint64_t child = child_in(bits, l->s, t[i]);
+        if (child != 0 ? !list_table(bits, l, child, left - 1, base) : base >= l->start && !write_place(l, base, shift, t[i]))
+            return false;
+    }
+    return true;
+}
+
+uint64_t plain_list(const oak_setup *s, const uint64_t *words, size_t words_len, const uint64_t *second, size_t second_len,
+                    const uint32_t *list, size_t list_len, uint64_t start, uint64_t *places, size_t places_len, uint64_t *entries,
+                    size_t entries_len, oak_listed *answer) {
+    (void)list;
+    *answer = (oak_listed){0};
+    if (!OF_GRANULE(s->granule, good, s, words_len, second_len, list_len) || places_len != entries_len)
+        return OAK_REFUSED_SETUP;
+    unsigned bits = s->granule == OAK_16_KIB ? SIXTEEN : FOUR;
+    if (start >= space_of(bits, s->levels))
+        return OAK_REFUSED_END;
+    audit a = {.s = s, .r = runs_of(words, words_len, second)};
+    if (!look(bits, &a, 0, (unsigned)s->levels, 0, 0))
+        return OAK_REFUSED_DAMAGED;
+    listing l = {s, a.r, start, places, entries, places_len, 0, 0};
+    bool all = list_table(bits, &l, 0, (unsigned)s->levels, 0);
+    *answer = (oak_listed){l.written, !all, l.next};
     return 0;
 }

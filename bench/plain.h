@@ -30,4 +30,8 @@ uint64_t plain_audit(const oak_setup *s, const uint64_t *words, size_t words_len
 uint64_t plain_add(const oak_setup *s, const uint64_t *words, size_t words_len, uint64_t *second, size_t second_len, uint32_t *list,
                    size_t list_len, uint64_t second_base, uint64_t second_tables, oak_setup *answer);
 
+uint64_t plain_list(const oak_setup *s, const uint64_t *words, size_t words_len, const uint64_t *second, size_t second_len,
+                    const uint32_t *list, size_t list_len, uint64_t start, uint64_t *places, size_t places_len, uint64_t *entries,
+                    size_t entries_len, oak_listed *answer);
+
 #endif

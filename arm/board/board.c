@@ -7,11 +7,12 @@
 
 static void put(char c) { *(volatile uint32_t *)0x09000000 = (uint8_t)c; /* the PL011's data register */ }
 
-static void put_number(uint64_t number, uint64_t base) {
+/* so many digits at least */
+static void put_number(uint64_t number, uint64_t base, unsigned least) {
     char digits[20];
     unsigned count = 0;
     do digits[count++] = "0123456789abcdef"[number % base];
-    while ((number /= base) != 0);
+    while ((number /= base) != 0 || count < least);
     while (count > 0) put(digits[--count]);
 }
 
@@ -24,8 +25,9 @@ void say(const char *format, ...) {
             continue;
         }
         format++;
-        if (*format == 'u') put_number(va_arg(values, uint64_t), 10);
-        if (*format == 'x') put('0'), put('x'), put_number(va_arg(values, uint64_t), 16);
+        if (*format == 'u') put_number(va_arg(values, uint64_t), 10, 1);
+        if (*format == 'x') put('0'), put('x'), put_number(va_arg(values, uint64_t), 16, 1);
+        if (*format == 'a') put('0'), put('x'), put_number(va_arg(values, uint64_t), 16, 8);
         if (*format == 's')
             for (const char *text = va_arg(values, const char *); *text != 0; text++) put(*text);
     }

@@ -10,7 +10,8 @@
     ({ uint64_t value_; __asm__ volatile("mrs %0, " #name : "=r"(value_)); value_; })
 #define WRITE_REGISTER(name, value) __asm__ volatile("msr " #name ", %0" : : "r"((uint64_t)(value)) : "memory")
 
-/* Writes to the console. In the format %s is a text, %u a number and %x a number in hexadecimal; each number is a uint64_t. */
+/* Writes to the console. In the format %s is a text, %u a number and %x a number in hexadecimal, with %a of eight digits at least;
+ * each number is a uint64_t. */
 void say(const char *format, ...);
 
 _Noreturn void power_off(void);

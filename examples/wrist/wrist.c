@@ -127,6 +127,26 @@ static void copy_text(uint64_t address, char *text, uint64_t room) {
     text[length] = 0;
 }
 
+/* What a guest sees, in lines for a person: its part of the space is listed, a few mappings at a time. The frame and the attributes are in the entry word. */
+static void view(const struct guest *guest) {
+    enum { ROOM = 3 };
+    uint64_t places[ROOM], entries[ROOM], start = guest->first, count = 0, bytes = 0, refusal;
+    oak_listed listed;
+    say("%s sees\n", guest->name);
+    do {
+        refusal = oak_list(&setup, LENT, start, places, ROOM, entries, ROOM, &listed);
+        for (uint64_t i = 0; i < listed.written && OAK_PLACE_BASE(places[i]) <= guest->last; i++) {
+            uint64_t size = OAK_PLACE_SIZE(places[i]), meaning = oak_word_meaning(entries[i], size), attributes = OAK_MEANING_ATTRIBUTES(meaning);
+            say("   %a  %u %s  -> %a  %s  %s\n", OAK_PLACE_BASE(places[i]), size >= OAK_2_MIB ? size >> 20 : size >> 10, size >= OAK_2_MIB ? "MiB" : "KiB",
+                OAK_MEANING_BASE(meaning), letters(attributes), attributes & OAK_DEVICE ? "device" : "normal");
+            count++, bytes += size;
+        }
+        start = listed.next;
+    } while (refusal == 0 && listed.more && start <= guest->last);
+    if (refusal == 0) say("   mappings %u, %u KiB\n", count, bytes >> 10);
+    else say("   LIST: %u\n", refusal);
+}
+
 /* What a guest asks for by HVC. Answers whether it goes on. */
 static int called(struct guest *guest) {
     uint64_t what = guest->registers.x[0], a = guest->registers.x[1], b = guest->registers.x[2];
@@ -218,12 +238,16 @@ int main(void) {
     map(REGION + 2 * PAGE, SYNC + PAGE, PAGE, OAK_READ | OAK_WRITE);
     map(REGION + 3 * PAGE, SCAN + PAGE, PAGE, OAK_READ);
     stage2_on(LEVELS, setup.granule, POOL);
+    view(&scan);
+    view(&sync);
 
     struct guest *guest = &sync;
     while (scan.state == READY || sync.state == READY) {
         while (guest->state == READY && goes_on(guest)) continue;
         guest = guest == &sync ? &scan : &sync;
     }
+    view(&scan);
+    view(&sync);
     say("the wrist unit is off\n");
     return 0;
 }

@@ -9,7 +9,7 @@
 
 #include "oakabut.h"
 
-enum { FIRST = 300, SECOND = 212, TABLES = FIRST + SECOND, MOST_ENTRIES = 2048, STACK = 65536, MOST = 8192, PAINT = 0xA5, KNOWN = 4000 };
+enum { FIRST = 300, SECOND = 212, TABLES = FIRST + SECOND, MOST_ENTRIES = 2048, STACK = 65536, MOST = 8192, PAINT = 0xA5, KNOWN = 4000, ROOM = 700 };
 
 #define BASE UINT64_C(0x40000000)
 #define SECOND_BASE UINT64_C(0x50000000)
@@ -51,6 +51,11 @@ static void do_audit(void) {
     oak_audited a;
     result = oak_audit(&setup, LENT, &a);
 }
+static void do_list(void) {
+    static uint64_t one[ROOM], other[ROOM];
+    oak_listed l;
+    result = oak_list(&setup, LENT, address, one, ROOM, other, ROOM, &l);
+}
 
 /* the bytes of stack that a function used, the switch to it counted */
 static size_t used(void (*call)(void)) {
@@ -66,10 +71,10 @@ static size_t used(void (*call)(void)) {
     return STACK - clean;
 }
 
-enum { FORMAT, MAP, UNMAP, QUERY, AUDIT, ADD, SWITCH, MEASURE, CALLS };
-static size_t worst[CALLS]; /* of the six calls, of the switch alone and of `known` */
-static const char *const names[SWITCH] = {"format", "map", "unmap", "query", "audit", "add"};
-static void (*const calls[CALLS])(void) = {do_format, do_map, do_unmap, do_query, do_audit, do_add, nothing, known};
+enum { FORMAT, MAP, UNMAP, QUERY, AUDIT, ADD, LIST, SWITCH, MEASURE, CALLS };
+static size_t worst[CALLS]; /* of the seven calls, of the switch alone and of `known` */
+static const char *const names[SWITCH] = {"format", "map", "unmap", "query", "audit", "add", "list"};
+static void (*const calls[CALLS])(void) = {do_format, do_map, do_unmap, do_query, do_audit, do_add, do_list, nothing, known};
 
 static void make(int call) {
     size_t n = used(calls[call]);
@@ -94,14 +99,14 @@ static int pools(uint64_t of_levels, uint64_t of_granule, unsigned block) {
         frame = UINT64_C(0x80000000) + granule * (uint64_t)i;
         attributes = (uint64_t)i % 16;
         make(MAP), make(QUERY);
-        if (i % 50 == 0) make(AUDIT);
+        if (i % 50 == 0) make(AUDIT), make(LIST);
     }
     make(AUDIT), make(ADD); /* some words name tables of the second region, so this one gets 8 */
     if (result != OAK_REFUSED_DAMAGED) wrong++, printf("add: %u\n", (unsigned)result);
     for (int i = 0; i < TABLES + 50; i++) {
         address = ((uint64_t)i << block) + granule * (uint64_t)i;
         make(UNMAP), make(QUERY);
-        if (i % 50 == 0) make(AUDIT);
+        if (i % 50 == 0) make(AUDIT), make(LIST);
     }
     make(AUDIT), make(FORMAT);
     for (int i = 0; i < FIRST - 10; i++) { /* the tables of the first region are taken first; then an add that is accepted */
@@ -116,7 +121,7 @@ static int pools(uint64_t of_levels, uint64_t of_granule, unsigned block) {
         for (int j = 0; j < TABLES; j++) list[j] = (uint32_t)next();
         setup.free = (uint64_t)i;
         address = next() % (granule == OAK_16_KIB ? UINT64_C(1) << 47 : levels == 3 ? UINT64_C(1) << 39 : UINT64_C(1) << 48) / granule * granule;
-        make(MAP), make(UNMAP), make(QUERY), make(AUDIT), make(ADD);
+        make(MAP), make(UNMAP), make(QUERY), make(AUDIT), make(ADD), make(LIST);
     }
     return wrong;
 }

@@ -5,7 +5,8 @@ out = []
 M = Lent([0] * 2048, [], [0] * 4)
 NAMES = {4096: 'a page of 4 KiB', 2 ** 21: 'a frame of 2 MiB', 2 ** 30: 'a frame of 1 GiB'}
 WHY = {7: ': too few tables are free', 10: ': no mapping starts there', 11: ': the frame shares a byte with the pool'}
-rights = lambda a: ', rights ' + ''.join(n if a & b else '-' for b, n in ((1, 'r'), (2, 'w'), (4, 'x')))
+letters = lambda a: ''.join(n if a & b else '-' for b, n in ((1, 'r'), (2, 'w'), (4, 'x')))
+rights = lambda a: ', rights ' + letters(a)
 
 
 def say(t): out.append(t)
@@ -54,6 +55,18 @@ def qu(s, at):
     say(f'  So it is memory {r[2] + at - r[1]:#x}.')
 
 
+def view(s):
+    say('\nWhat the scan guest can see.')
+    places, entries = [0] * 8, [0] * 8
+    kind, n, left = list_(s, M, 0, places, entries)
+    assert (kind, left) == ('lists', None)
+    for place, word in zip(places[:n], entries):
+        found, base, frame, size, a = query_(s, M, place // 4096 * 4096)
+        assert place == base + POWERS[size] and word == frame + (3 if size == 4096 else 1) + ATTRS[a]
+        say(f"  0x{base:08x}  {NAMES[size].split(' of ')[1]}  -> 0x{frame:08x}  {letters(a)}  {'device' if a & 8 else 'normal'}")
+    say(f'  Mappings listed: {n}.')
+
+
 say('Format a pool of 4 tables at 0x40000000, for addresses below 0x8000000000.')
 a, s = format_(3, 0x40000000, 4, 0, 0, 4096, M)
 assert a == ('done',)
@@ -72,6 +85,7 @@ s = mp(s, 0x40000000, 0x100000000, 2 ** 30, 3)
 s = un(s, 0x40000000)
 say('\nOr 2 MiB, which need one table and find it.')
 s = mp(s, 0x40000000, 0x80400000, 2 ** 21, 3)
+view(s)
 say('\nNothing is rounded: an unmap in the middle of the 2 MiB is refused.')
 s = un(s, 0x40001000)
 say('\nNo guest is given its own tables: the page of table 1 is refused.')

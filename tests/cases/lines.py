@@ -124,6 +124,34 @@ def ad(name, base2, n2):
     said(f'{name}: grow base {base2:#x}, tables {n2}', a, lambda: 'done, all more words 0', old)
 
 
+BLANK, ROOM = 7, 16
+
+
+def vi(name, start, places, entries=None):
+    """List. It is `view` here, as `lend` begins with its letter. There are two runs of ROOM numbers, all BLANK before, of which so many first ones are lent.
+    Answers the base of the first mapping left out."""
+    entries = places if entries is None else entries
+    runs = [[BLANK] * ROOM, [BLANK] * ROOM]
+    lent = [runs[0][:places], runs[1][:entries]]
+    old = M.copy()
+    a = list_(cur, M, start, *lent)
+    assert old.key() == M.key()
+    for run, part in zip(runs, lent): run[:len(part)] = part
+    changed = [f'; {i} is {p:#x} and {e:#x}' for i, (p, e) in enumerate(zip(*runs)) if (p, e) != (BLANK, BLANK)]
+    if a[0] == 'refused': assert not changed
+    answer = refused(*a[1:]) if a[0] == 'refused' else f'lists {a[1]}, ' + ('none is left' if a[2] is None else f'the next is {a[2]:#x}')
+    line(f'{name}: view from {start:#x} into {places} and {entries} places', f' -> {answer}; {told(cur)}' + (''.join(changed) or '; kept'))
+    return None if a[0] == 'refused' else a[2]
+
+
+def pages(name, *lengths):
+    """From 0 and then each from the base that the last one answered, with these lengths in turn."""
+    start, i = 0, 0
+    while start is not None:
+        start = vi(name, start, lengths[i % len(lengths)])
+        i += 1
+
+
 heading('The eleven cases of document 01.')
 lend('memory that holds anything', 2048, 7, 4, 9)
 fmt('case 1', 3, BASE, 4)
@@ -1296,6 +1324,148 @@ for base in (BASE + 4 * KIB16, BASE - 2 * KIB16, FRAME + 2 * KIB16, 0):
     have('two more', 4096, 7, 6, 9)
     ad('two more, beside', base, 2)
     au('two more, beside')
+
+# ---- lists
+
+heading('List. The mappings of the pool of case 4, from several starts and into runs of several lengths.')
+lend('four tables', 2048, 7, 4, 9)
+fmt('an empty pool', 3, BASE, 4)
+vi('an empty pool', 0, 4)
+vi('an empty pool, no place', 0, 0)
+vi('an empty pool, last address', 2 ** 39 - 1, 4)
+pool_of_case_4()
+vi('all', 0, 4)
+vi('exactly as many places', 0, 3)
+vi('one place too few', 0, 2)
+vi('one place', 0, 1)
+vi('no place', 0, 0)
+vi('no place, from the second on', 1, 0)
+vi('all 16 places', 0, 16)
+vi('start past the first base', 1, 4)
+vi('start is a base', 0x1000, 4)
+vi('start is the last base', 0x200000, 4)
+vi('start within the last', 0x200001, 4)
+vi('start at its last byte', 0x3FFFFF, 4)
+vi('start in a hole', 0x2000, 1)
+vi('start past them all', 0x400000, 4)
+vi('no place, none left', 0x400000, 0)
+vi('the last address', 2 ** 39 - 1, 4)
+for lengths in [(1,), (2,), (3,), (7,), (1, 2)]: pages('pages of ' + ' and '.join(map(str, lengths)), *lengths)
+
+heading('List refuses, by 1, 4 and 8, in that order, and leaves both runs.')
+vi('runs of unequal length', 0, 3, 4)
+vi('runs of unequal length', 0, 4, 3)
+vi('one run of no length', 0, 0, 1)
+vi('one run of no length', 0, 1, 0)
+vi('past the space', 2 ** 39, 4)
+vi('past the space, low bits of a page in use', 2 ** 39 + 4096, 4)
+vi('at the top of 64 bits', 2 ** 64 - 1, 4)
+vi('1 before 4', 2 ** 39, 3, 4)
+word('a damaged word', 1026, 5)
+vi('a damaged word', 0, 4)
+vi('1 before 8', 0, 4, 3)
+vi('4 before 8', 2 ** 39, 4)
+vi('damage below the start', 0x200000, 4)
+vi('damage below the start, no place', 2 ** 39 - 1, 0)
+word('mended', 1026, 0)
+vi('mended', 0, 4)
+word('damage above all that fits', 511, 5)
+vi('damage above all that fits', 0, 1)
+word('mended', 511, 0)
+for numbers in [(2, BASE, 4, 1), (3, BASE + 2048, 4, 1), (3, BASE, 3, 1), (3, BASE, 4, 4), (3, BASE, 4, 1, MORE, 0), (3, BASE, 4, 1, 0, 0, 8192),
+                (3, BASE, 4, 1, 0, 0, 16384)]:
+    setup('numbers', *numbers)
+    vi('numbers', 0, 4)
+setup('the pool', 3, BASE, 4, 1)
+lend('too few words', 2047, 0, 4, 3)
+vi('too few words', 0, 4)
+lend('too many places', 2048, 0, 5, 3)
+vi('too many places', 0, 4)
+lend('more words without a second region', 2048, 0, 4, 1, 512, 0)
+vi('more words without a second region', 0, 4)
+
+heading('List looks at the whole tree, and at nothing else.')
+lend('four tables', 2048, 7, 4, 9)
+for name, i, w in [('a table reached twice', 1, LINK(1)), ('a table that names itself', 512, LINK(1)), ('a table past the pool', 514, LINK(4)),
+                   ('the root', 514, LINK(0)), ('a page one level up', 514, page(FRAME)), ('2 MiB in the root', 7, large(FRAME + MIB2)),
+                   ('a table at the last level', 1030, LINK(3)), ('the old device word', 1030, FRAME + 3 + ATTRS[11] + OLD)]:
+    ready()
+    word(name, i, w)
+    vi(name, 0, 4)
+    vi(name, 0x200000, 4)
+ready()
+word('an empty table', 514, LINK(3))
+vi('an empty table', 0, 4)
+ready()
+for i, t in enumerate([2 ** 32 - 1, 0, 77]): place('a free list of nonsense', i, t)
+setup('a free list of nonsense', 3, BASE, 4, 3)
+vi('a free list of nonsense', 0, 4)
+ready()
+word('a free table that is not zero', 1536, 5)
+vi('a free table that is not zero', 0, 4)
+ready()
+word('a page of the pool', 1026, page(BASE + PAGE))
+word('1 GiB around the pool', 7, large(BASE))
+vi('frames in the pool', 0, 8)
+au('frames in the pool')
+lend('all ones', 2048, 2 ** 64 - 1, 4, 2 ** 32 - 1)
+setup('all ones', 3, BASE, 4, 3)
+vi('all ones', 0, 4)
+
+heading('Lists of the sixteen attributes, of all sizes, and of four levels.')
+lend('five tables', 2560, 7, 5, 9)
+fmt('attributes', 3, BASE, 5)
+for k in range(16): mp('attributes', k * PAGE, FRAME + k * PAGE, PAGE, k)
+pages('attributes', 16)
+pages('attributes', 7)
+fmt('all sizes', 3, BASE, 5)
+mp('1 GiB', 3 * GIB, 2 ** 48 - GIB, GIB, 11)
+mp('2 MiB', GIB + 5 * MIB2, FRAME + MIB2, MIB2, 5)
+mp('the last page', 2 ** 39 - PAGE, FRAME, PAGE, 3)
+mp('1 GiB at 0', 0, FRAME, GIB, 6)
+for lengths in [(8,), (1,), (2, 1)]: pages('all sizes', *lengths)
+vi('from within 1 GiB', 3 * GIB + 1, 8)
+vi('from the last page', 2 ** 39 - PAGE, 8)
+vi('from within the last page', 2 ** 39 - PAGE + 1, 8)
+lend('seven tables', 3584, 7, 7, 9)
+fmt('four levels', 4, BASE, 7)
+mp('the last page', 2 ** 48 - PAGE, FRAME, PAGE, 7)
+mp('1 GiB', 2 ** 39 + 7 * GIB, FRAME, GIB, 8)
+mp('2 MiB', 2 ** 39 + 9 * GIB + MIB2, FRAME, MIB2, 2)
+mp('1 GiB at 0', 2 ** 39, 2 ** 40, GIB, 15)
+for lengths in [(8,), (1,), (3, 1)]: pages('four levels', *lengths)
+vi('the start of the second 512 GiB', 2 ** 39, 4)
+vi('past the space', 2 ** 48, 4)
+
+heading('Lists of pools with two regions, and of 16 KiB, with the powers 14 and 25.')
+two_regions()
+mp('one of each region', 0, FRAME, PAGE, 3)
+mp('both of the second', GIB, FRAME, PAGE, 5)
+mp('another of the second', GIB + PAGE, FRAME, PAGE, 6)
+for lengths in [(4,), (1,), (2,)]: pages('two regions', *lengths)
+word('damage in the second', 1024 + 1535, 5)
+vi('damage in the second', 0, 4)
+lend('four tables', 2048, 7, 4, 9)
+to_add('two tables more')
+ad('two tables more', MORE, 2)
+mp('two tables more', GIB, FRAME, PAGE, 3)
+pages('two tables more', 3)
+lend('four tables', 8192, 7, 4, 9)
+pool_of_16()
+mp('the last but one', (1 << 36) - MIB32, 2 ** 48 - MIB32, MIB32, 11)
+for lengths in [(8,), (1,), (2,), (3,)]: pages('16 KiB', *lengths)
+vi('start within 32 MiB', MIB32 + KIB16, 4)
+vi('start within a page', PAGE, 4)
+vi('past the space', SPACE16, 4)
+vi('the last address', SPACE16 - 1, 4)
+word('a page at a multiple of 4096', 4098, page(FRAME + PAGE))
+vi('a page at a multiple of 4096', 0, 4)
+lend('two and three tables', 4096, 7, 5, 9, 6144, 7)
+fmt16('two and three tables', 2, BASE, MORE, 3)
+mp('one of each region', 0, FRAME, KIB16, 3)
+mp('both of the second', GIB64, FRAME, KIB16, 5)
+mp('32 MiB', MIB32, FRAME, MIB32, 3)
+for lengths in [(8,), (1, 2)]: pages('16 KiB, two regions', *lengths)
 
 for l in given: assert l.count(':') <= 1, l
 d = sys.argv[1]

@@ -241,3 +241,29 @@ def add_(s, lent, Q, m):
     lent.list[s.free:s.free + m] = list(range(n + m - 1, n - 1, -1))
     lent.second[:] = [0] * len(lent.second)
     return ('done',), Setup(s.levels, s.base, n, s.free + m, Q, m, s.granule)
+
+
+POWERS = {2 ** power: power for power in (12, 21, 30, 14, 25)}
+
+
+def live(s, lent, t, h, base):
+    """The mappings of a sound tree in table t, whose entries have height h and whose first one stands for the addresses from base on."""
+    for i, w in enumerate(lent.table(s, t)):
+        at, e = base + i * s.g().region(h), read(s, w, h)
+        if e[0] == 'frame': yield at, s.g().sizes[h], w
+        if e[0] == 'table': yield from live(s, lent, e[1], h - 1, at)
+
+
+def list_(s, lent, start, places, entries):
+    """Request 8: into the one run addresses plus the power of two of the size, into the other the entry words. Answers how many, and the base of the first
+    mapping left out, or None."""
+    if s.bad(lent) or len(places) != len(entries): return ('refused', 1)
+    if start >= s.space(): return ('refused', 4)
+    try:
+        reach(s, lent, False)
+    except Unsound:
+        return ('refused', 8)
+    seen = sorted(m for m in live(s, lent, 0, s.levels - 1, 0) if m[0] >= start)
+    written, left = seen[:len(places)], seen[len(places):]
+    for i, (base, size, w) in enumerate(written): places[i], entries[i] = base + POWERS[size], w
+    return ('lists', len(written), left[0][0] if left else None)

@@ -1,4 +1,4 @@
-// The six calls, each on the numbers of a line.
+// The calls, each on the numbers of a line; the list is in view.rt.
 use crate::memory::MORE;
 use crate::memory::More;
 use crate::memory::WORDS;
@@ -64,7 +64,7 @@ fn asked<'a>(call: u8, line: &Line, words: &'a [u64], second: &'a [u64], list: &
     }
 }
 
-fn setup(line: &Line) -> Setup {
+pub(crate) fn setup(line: &Line) -> Setup {
     Setup {
         levels: line[4],
         base: line[5],
@@ -76,7 +76,7 @@ fn setup(line: &Line) -> Setup {
     }
 }
 
-fn told(refusal: u64, s: Setup, a: u64, b: u64, c: u64, d: u64) -> Told {
+pub(crate) fn told(refusal: u64, s: Setup, a: u64, b: u64, c: u64, d: u64) -> Told {
     [
         refusal,
         s.levels,

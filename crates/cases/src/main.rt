@@ -5,6 +5,7 @@ mod calls;
 mod memory;
 mod read;
 mod say;
+mod view;
 
 use libc::STDIN_FILENO;
 use memory::More;
@@ -12,6 +13,8 @@ use memory::Places;
 use memory::Words;
 use read::Line;
 use read::State;
+use view::BLANK;
+use view::ROOM;
 
 // All bytes that are read.
 const TEXT: usize = 262144;
@@ -80,10 +83,27 @@ fn say_call(call: u8, line: &mut Line, words: &mut Words, more: &mut More, list:
     calls::hand_back(told, line);
 }
 
+// A list, its answer, and what it wrote.
+fn say_view<'a>(line: &Line, words: &'a Words, more: &'a More, list: &Places) {
+    let mut places = [BLANK; ROOM];
+    let mut entries = [BLANK; ROOM];
+    let told = view::lent(line, words, more, list, &mut places, &mut entries);
+    say::answer(b'v', told);
+    say::runs(&places, &entries);
+}
+
 // Whether a call answers what its line says, and leaves memory of that sum.
 fn agrees(call: u8, line: &Line, words: &mut Words, more: &mut More, list: &mut Places) -> bool {
     let told = calls::lent(call, line, words, more, list);
-    calls::same(line, told) && memory::sum(words, more, list) == line[27]
+    calls::same(line, told) && memory::sum(words, more, list, memory::NUMBERS) == line[27]
+}
+
+// The same of a list, and of what it wrote.
+fn view_agrees<'a>(line: &Line, words: &'a Words, more: &'a More, list: &Places) -> bool {
+    let mut places = [BLANK; ROOM];
+    let mut entries = [BLANK; ROOM];
+    let told = view::lent(line, words, more, list, &mut places, &mut entries);
+    calls::same(line, told) && view::sum(&places, &entries) == line[27]
 }
 
 // Whether the host's call for a word answers what its line says.
@@ -99,6 +119,7 @@ fn host_agrees(call: u8, line: &Line) -> bool {
 fn said(call: u8, line: &mut Line, words: &mut Words, more: &mut More, list: &mut Places) {
     match call {
         b'f' | b'g' | b'm' | b'u' | b'q' | b'a' => say_call(call, line, words, more, list),
+        b'v' => say_view(line, words, more, list),
         _ => lay(call, line, words, more, list),
     }
 }
@@ -113,6 +134,7 @@ fn compared(
 ) -> bool {
     match call {
         b'F' | b'G' | b'M' | b'U' | b'Q' | b'A' => agrees(call, line, words, more, list),
+        b'V' => view_agrees(line, words, more, list),
         b'E' | b'D' => host_agrees(call, line),
         _ => {
             lay(call, line, words, more, list);

@@ -45,20 +45,25 @@ pub(crate) fn fill_places(list: &mut Places, from: usize, t: u32) {
     }
 }
 
-// Number i of the memory, where the second run follows the first, and the places follow both.
-pub(crate) fn number(words: &Words, more: &More, list: &Places, i: usize) -> u64 {
-    if i < ALL_WORDS {
-        pool::word(words, more, i)
-    } else {
-        pool::place(list, i - ALL_WORDS) as u64
+// Number i of two runs and of places, where the second run follows the first, and the places follow both.
+pub(crate) fn number(words: &[u64], more: &[u64], list: &[u32], i: usize) -> u64 {
+    let n = words.len();
+    if i < n {
+        return words[i];
     }
+    let m = more.len();
+    let k = i - n;
+    if k < m {
+        return more[k];
+    }
+    pool::place(list, k - m) as u64
 }
 
-// The sum of (2 i + 1) * number i modulo 2^64. It needs no product: from the last number down, twice the sum of those met is added at each.
-pub(crate) fn sum(words: &Words, more: &More, list: &Places) -> u64 {
+// The sum of (2 i + 1) * number i modulo 2^64, of so many. It needs no product: from the last number down, twice the sum of those met is added at each.
+pub(crate) fn sum(words: &[u64], more: &[u64], list: &[u32], count: usize) -> u64 {
     let mut met = 0;
     let mut twice = 0;
-    let mut i = NUMBERS;
+    let mut i = count;
     while i > 0 {
         i -= 1;
         met = std::num::wrapping_add_u64(met, number(words, more, list, i));

@@ -18,7 +18,7 @@ const NUMBER: u8 = 4;
 pub(crate) const LINE: usize = 28;
 
 // Each at its place: 1 to 3 are the words of both runs and the places lent, 4 to 10 the setup, 11 to 14 the rest that a call takes, 15 to 26 the answer
-// and 27 the sum of the memory after it. What a line may name and does not is 0, and a granule 4096; what stands before that stays as it was.
+// and 27 the sum of the memory after it, or of the two runs of a list. What a line may name and does not is 0, and a granule 4096; what stands before that stays as it was.
 pub(crate) type Line = [u64; LINE];
 
 pub(crate) struct State {
@@ -57,7 +57,7 @@ pub(crate) fn is_compared(call: u8) -> bool {
 // The place of a call's first number.
 fn first_place(call: u8) -> usize {
     match call {
-        b'F' | b'M' | b'U' | b'Q' | b'A' | b'G' => 1,
+        b'F' | b'M' | b'U' | b'Q' | b'A' | b'G' | b'V' => 1,
         b'f' | b's' => 4,
         _ => 11,
     }

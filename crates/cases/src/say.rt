@@ -7,6 +7,9 @@ use crate::memory::NUMBERS;
 use crate::memory::Places;
 use crate::memory::WORDS;
 use crate::memory::Words;
+use crate::view::BLANK;
+use crate::view::ROOM;
+use crate::view::Run;
 use libc::STDOUT_FILENO;
 
 fn text(t: &[u8]) {
@@ -61,6 +64,7 @@ fn done(call: u8, told: Told) {
         b'm' => number(b" -> takes ", told[8]),
         b'u' => gives(told),
         b'q' => found(told),
+        b'v' => lists(told),
         _ => sound(told),
     }
 }
@@ -102,6 +106,15 @@ fn sound(told: Told) {
     number(b", mappings ", told[9]);
 }
 
+fn lists(told: Told) {
+    number(b" -> lists ", told[8]);
+    if told[9] == 0 {
+        text(b", none is left");
+    } else {
+        hex(b", the next is ", told[10]);
+    }
+}
+
 // A word, by its number in both runs.
 fn word(i: u64, n: u64) {
     number(b"; word ", i);
@@ -141,6 +154,26 @@ pub(crate) fn changes(
         i += 1;
     }
     if same {
+        text(b"; kept");
+    }
+}
+
+// Each place of a list's two runs that is not blank.
+pub(crate) fn runs(places: &Run, entries: &Run) {
+    let mut blank = true;
+    let mut i = 0;
+    while i < ROOM {
+        let p = places[i];
+        let e = entries[i];
+        if p != BLANK || e != BLANK {
+            number(b"; ", i as u64);
+            hex(b" is ", p);
+            hex(b" and ", e);
+            blank = false;
+        }
+        i += 1;
+    }
+    if blank {
         text(b"; kept");
     }
 }

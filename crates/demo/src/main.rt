@@ -3,6 +3,7 @@
 use libc::STDOUT_FILENO;
 use model::AuditAnswer;
 use model::FormatAnswer;
+use model::ListAnswer;
 use model::MapAnswer;
 use model::QueryAnswer;
 use model::UnmapAnswer;
@@ -23,6 +24,11 @@ const POOL_WORDS: usize = 2048;
 type Words = [u64; POOL_WORDS];
 
 type List = [u32; 4];
+
+// How many mappings a list has places for.
+const ROOM: usize = 8;
+
+type Run = [u64; ROOM];
 
 // This pool has no second region.
 const NO_WORDS: [u64; 0] = [0; 0];
@@ -62,11 +68,15 @@ fn right(has: bool, letter: &[u8]) {
     }
 }
 
-fn rights(attributes: u64) {
-    text(b", rights ");
+fn letters(attributes: u64) {
     right(attributes % 2 == 1, b"r");
     right(attributes / 2 % 2 == 1, b"w");
     right(attributes / 4 % 2 == 1, b"x");
+}
+
+fn rights(attributes: u64) {
+    text(b", rights ");
+    letters(attributes);
     text(b".\n");
 }
 
@@ -262,6 +272,64 @@ fn found(base: u64, frame: u64, bytes: u64, attributes: u64) {
     rights(attributes);
 }
 
+// What a guest sees: a line for each mapping that a list wrote.
+
+fn wide(n: u64) {
+    text(b"0x");
+    io::print_hex(STDOUT_FILENO, n, 8);
+}
+
+// The two numbers of a mapping: address plus power of two of the size, and entry word.
+fn seen(place: u64, word: u64) {
+    let power = place % 4096;
+    text(b"  ");
+    wide(wrapping_sub_u64(place, power));
+    match power {
+        12 => seen_at(b"  4 KiB  -> ", host::word_meaning(word, KIB4)),
+        21 => seen_at(b"  2 MiB  -> ", host::word_meaning(word, MIB2)),
+        _ => seen_at(b"  1 GiB  -> ", host::word_meaning(word, GIB)),
+    }
+}
+
+// A meaning is base + 16 + attributes.
+fn seen_at(size: &[u8], meaning: u64) {
+    let attributes = meaning % 16;
+    text(size);
+    wide(wrapping_sub_u64(wrapping_sub_u64(meaning, attributes), 16));
+    text(b"  ");
+    letters(attributes);
+    text(b"  ");
+    if attributes < 8 {
+        text(b"normal\n");
+    } else {
+        text(b"device\n");
+    }
+}
+
+fn lines(places: &Run, entries: &Run, written: u64) {
+    let mut i = 0;
+    while i < ROOM {
+        if (i as u64) < written {
+            seen(places[i], entries[i]);
+        }
+        i += 1;
+    }
+    number(b"  Mappings listed: ", written);
+    text(b".\n");
+}
+
+fn view(s: Setup, words: &Words, list: &List) {
+    text(b"\nWhat the scan guest can see.\n");
+    let mut places = [0u64; ROOM];
+    let mut entries = [0u64; ROOM];
+    let answer = pagetable::list(s, words, &NO_WORDS, list, 0, &mut places, &mut entries);
+    match answer {
+        ListAnswer::All(n) => lines(&places, &entries, n),
+        ListAnswer::Some { written, next: _ } => lines(&places, &entries, written),
+        ListAnswer::Refused(k) => refused(k),
+    }
+}
+
 // The story.
 
 fn scan_starts(s: Setup, words: &mut Words, list: &mut List) -> Setup {
@@ -288,6 +356,7 @@ fn no_table_is_left(s: Setup, words: &mut Words, list: &mut List) -> Setup {
     let s = unmap(s, words, list, 0x4000_0000);
     text(b"\nOr 2 MiB, which need one table and find it.\n");
     let s = map(s, words, list, 0x4000_0000, 0x8040_0000, MIB2, 3);
+    view(s, words, list);
     text(b"\nNothing is rounded: an unmap in the middle of the 2 MiB is refused.\n");
     unmap(s, words, list, 0x4000_1000)
 }

@@ -4,8 +4,8 @@ ghost use Prim.Native.Nat.{_+_, _*_, _%_};
 ghost use Rattle.path.specs.Geometry.{granuleOf, sizeAt, atLevel};
 ghost use Rattle.path.specs.Paths.{indexAt, baseAt, pathOf, addressOf};
 
-// The bits of an address within a region of a height; 0 where no level has it.
-fn bits_at(granule: u64, height: usize) -> u64
+// The bits of an address within a region of a height, which are its size's power of two; 0 where no level has it.
+pub fn bits_at(granule: u64, height: usize) -> u64
     ensures { λ r. ⌜ r ≡ atLevel (granuleOf granule) height (granuleOf granule .page + granuleOf granule .index * height) ⌝ }
 {
     if granule == path::KIB16 {

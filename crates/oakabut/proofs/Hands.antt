@@ -3,8 +3,8 @@ use Prim.Native.Nat.{ℕ}
 use mathlib.Core.List.{List}
 use mathlib.Core.Path.{_≡_, sym, ap, _∙_, subst}
 use Rattle.path.specs.declared.Setup.{Setup}
-use Rattle.model.specs.Answers.{Answer, Done, left}
-use Rattle.oakabut.specs.Surface.{numberOf, Told, Left}
+use Rattle.model.specs.Answers.{Answer, Done, left, Listed}
+use Rattle.oakabut.specs.Surface.{numberOf, listPlaces, Told, Left, Wrote}
 
 -- an answer of the code's that is known by its case
 pub tells : {X : Type 0} (says : X → Answer) (placesOf : Answer → List ℕ) {a b : X} → a ≡ b → Told (says a) placesOf (numberOf (says b)) (placesOf (says b))
@@ -32,3 +32,11 @@ leaves placesOf q t = record {
 -- what is left of a pool is left of an equal one
 pub stays : {placesOf : Setup → Answer → List ℕ} {d e : Done} {n : ℕ} {p w u l : List ℕ} → d ≡ e → Left d placesOf n p w u l → Left e placesOf n p w u l
 stays {placesOf} {d} {e} {n} {p} {w} {u} {l} q t = subst (λ (x : Done). Left x placesOf n p w u l) q t
+
+-- and what list does
+pub writes : {x y : Listed} {n : ℕ} {a : List ℕ} → x ≡ y → Told (x .answer) listPlaces n a → Wrote y n a (x .places) (x .entries)
+writes q t = record {
+  told = hears (ap (λ (l : Listed). l .answer) q) t;
+  places-are = ap (λ (l : Listed). l .places) q;
+  entries-are = ap (λ (l : Listed). l .entries) q;
+}

@@ -67,6 +67,8 @@ enum Work {
     MapUnmap(Vec<u64>),
     Audit,
     Format,
+    /// From a start on, into runs of so many places.
+    List(u64, usize),
 }
 
 impl Case {
@@ -81,6 +83,9 @@ impl Case {
             pool.map(address, FRAME + address, size, ATTRIBUTES, &mut answer);
             assert_eq!(answer.0[0], 0, "a mapping of the case is refused");
         }
+        if let Work::List(_, room) = self.work {
+            pool.runs = [vec![0; room], vec![0; room]];
+        }
         pool
     }
 
@@ -89,7 +94,7 @@ impl Case {
         self.rounds
             * match &self.work {
                 Work::Query(addresses) | Work::MapUnmap(addresses) => addresses.len(),
-                Work::Audit | Work::Format => 1,
+                Work::Audit | Work::Format | Work::List(..) => 1,
             }
     }
 
@@ -108,6 +113,7 @@ impl Case {
                 }
                 Work::Audit => pool.audit(note),
                 Work::Format => pool.format(levels, granule, self.tables, self.second_tables, note),
+                Work::List(start, _) => pool.list(*start, note),
             }
         }
     }
@@ -152,6 +158,12 @@ pub fn all(smoke: bool) -> Vec<Case> {
         audit_free(share(1000)),
     ]);
     cases.push(audit_of("audit, 16 tables of 16 KiB in use", LARGE, 16, 2, share(100)));
+    cases.extend([
+        list("all", 512, 0, 261_120, share(16)),
+        list("16 from the middle", 512, 130_560, 16, share(16)),
+        list("16 from the middle", 16, 3584, 16, share(400)),
+        list("all", 16, 0, 7168, share(100)),
+    ]);
     cases.extend([format(16, share(2000)), format(64, share(500)), format(512, share(80))]);
     cases.push(Case::new("format, 16 tables of 16 KiB".to_string(), LARGE, 16, vec![], Work::Format, share(500)));
     cases
@@ -264,6 +276,14 @@ fn audit(tables: u64, rounds: usize) -> Case {
 /// Every page of the tables of pages is mapped: with 512 tables 261,120 of them.
 fn audit_full(tables: u64, rounds: usize) -> Case {
     audit_of(&format!("audit, all pages of {tables} tables"), THREE, tables, 1, rounds)
+}
+
+/// A list of a pool that has every page of its tables of pages, from one of them on, into runs of so many places.
+fn list(which: &str, tables: u64, first: u64, room: usize, rounds: usize) -> Case {
+    let work = Work::List(first * THREE.page(), room);
+    let pages = (tables - 2) * THREE.entries();
+    let name = format!("list, {which} of {pages} pages in {tables} tables");
+    Case { name, work, ..audit_of("", THREE, tables, 1, rounds) }
 }
 
 /// Four of 64 tables are in use, and 60 are free.

@@ -3,7 +3,7 @@
 
 use std::slice::{from_raw_parts, from_raw_parts_mut};
 
-use oakabut::raw::{Found, Mapped, Unmapped};
+use oakabut::raw::{Found, Listed, Mapped, Unmapped};
 use oakabut::{Audit, Hole, Mapping, Setup};
 use plain::Refusal;
 
@@ -138,4 +138,19 @@ pub unsafe extern "C" fn add(
     let (setup, result) = plain::add(to_plain(&*setup), words, second, list, second_base, second_tables);
     *answer = from_plain(setup);
     result.map_or_else(|refusal| refusal.number(), |()| 0)
+}
+
+/// # Safety
+/// As for `oak_list`.
+#[inline(never)]
+pub unsafe extern "C" fn list(
+    setup: *const Setup, words: *const u64, words_len: usize, second: *const u64, second_len: usize, list: *const u32,
+    list_len: usize, start: u64, places: *mut u64, places_len: usize, entries: *mut u64, entries_len: usize, answer: *mut Listed,
+) -> u64 {
+    let (words, second) = (from_raw_parts(words, words_len), from_raw_parts(second, second_len));
+    let list = from_raw_parts(list, list_len);
+    let (places, entries) = (from_raw_parts_mut(places, places_len), from_raw_parts_mut(entries, entries_len));
+    let listed = plain::list(to_plain(&*setup), words, second, list, start, places, entries)
+        .map(|plain::Listed { written, next }| Listed { written, more: u64::from(next.is_some()), next: next.unwrap_or(0) });
+    hand_over(listed, |_| Listed { written: 0, more: 0, next: 0 }, answer)
 }

@@ -68,7 +68,7 @@ fn processor_time() -> f64 {
 
 fn same(pools: &[Pool]) -> Result<(), String> {
     for (pool, side) in pools.iter().zip(SIDES) {
-        if (pool.setup, &pool.list) != (pools[0].setup, &pools[0].list)
+        if (pool.setup, &pool.list, &pool.runs) != (pools[0].setup, &pools[0].list, &pools[0].runs)
             || pool.tables != pools[0].tables
             || pool.second != pools[0].second
         {

@@ -5,7 +5,7 @@ use std::slice::from_raw_parts_mut;
 
 use oakabut::Setup;
 
-use crate::sides::{numbers, Side, NOT_AUDITED, NOT_FOUND, NOT_MAPPED, NOT_UNMAPPED, NO_SETUP};
+use crate::sides::{numbers, Side, NOT_AUDITED, NOT_FOUND, NOT_LISTED, NOT_MAPPED, NOT_UNMAPPED, NO_SETUP};
 
 /// The address of table 0, and of the second region.
 const BASE: u64 = 0x4000_0000;
@@ -67,6 +67,8 @@ pub struct Pool {
     pub tables: Words,
     pub second: Words,
     pub list: Vec<u32>,
+    /// The two runs of a list.
+    pub runs: [Vec<u64>; 2],
 }
 
 impl Pool {
@@ -74,7 +76,8 @@ impl Pool {
     pub fn new(side: Side, levels: u64, granule: u64, tables: u64, second_tables: u64) -> Pool {
         let room = |tables: u64| Words::new((granule / 8 * tables) as usize);
         let list = vec![0; (tables + second_tables) as usize];
-        let mut pool = Pool { side, setup: NO_SETUP, tables: room(tables), second: room(second_tables), list };
+        let runs = [vec![], vec![]];
+        let mut pool = Pool { side, setup: NO_SETUP, tables: room(tables), second: room(second_tables), list, runs };
         pool.format(levels, granule, tables, second_tables, &mut Timed);
         pool
     }
@@ -127,6 +130,16 @@ impl Pool {
         let (wp, wl, vp, vl, lp, ll) = (w.as_ptr(), w.len(), v.as_ptr(), v.len(), l.as_ptr(), l.len());
         let mut answer = NOT_AUDITED;
         let refusal = unsafe { (self.side.audit)(&self.setup, wp, wl, vp, vl, lp, ll, &mut answer) };
+        note.note(refusal, numbers(&answer));
+    }
+    #[inline(always)]
+    pub fn list(&mut self, start: u64, note: &mut impl Note) {
+        let (w, v, l) = (self.tables.all(), self.second.all(), &self.list);
+        let (wp, wl, vp, vl, lp, ll) = (w.as_ptr(), w.len(), v.as_ptr(), v.len(), l.as_ptr(), l.len());
+        let [places, entries] = &mut self.runs;
+        let (pp, pl, ep, el) = (places.as_mut_ptr(), places.len(), entries.as_mut_ptr(), entries.len());
+        let mut answer = NOT_LISTED;
+        let refusal = unsafe { (self.side.list)(&self.setup, wp, wl, vp, vl, lp, ll, start, pp, pl, ep, el, &mut answer) };
         note.note(refusal, numbers(&answer));
     }
 }

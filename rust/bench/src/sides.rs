@@ -3,8 +3,8 @@
 use std::mem::size_of;
 use std::slice::from_raw_parts;
 
-use judge::{numbers as of_setup, Answer, Call, Engine};
-use oakabut::raw::{self, Found, Mapped, Unmapped};
+use judge::{numbers as of_setup, Answer, Call, Engine, Lent};
+use oakabut::raw::{self, Found, Listed, Mapped, Unmapped};
 use oakabut::{Audit, Hole, Mapping, Setup};
 
 type FrameWord = unsafe extern "C" fn(u64, u64, u64) -> u64;
@@ -30,6 +30,22 @@ type Query = unsafe extern "C" fn(*const Setup, *const u64, usize, *const u64, u
 type AuditCall = unsafe extern "C" fn(*const Setup, *const u64, usize, *const u64, usize, *const u32, usize, *mut Audit) -> u64;
 type Add = unsafe extern "C" fn(*const Setup, *const u64, usize, *mut u64, usize, *mut u32, usize, u64, u64, *mut Setup) -> u64;
 
+type List = unsafe extern "C" fn(
+    *const Setup,
+    *const u64,
+    usize,
+    *const u64,
+    usize,
+    *const u32,
+    usize,
+    u64,
+    *mut u64,
+    usize,
+    *mut u64,
+    usize,
+    *mut Listed,
+) -> u64;
+
 /// The functions of one side. They are called through these pointers, so that no side is inlined into the measuring.
 #[derive(Clone, Copy)]
 pub struct Side {
@@ -42,6 +58,7 @@ pub struct Side {
     pub query: Query,
     pub audit: AuditCall,
     pub add: Add,
+    pub list: List,
 }
 
 /// bench/plain.h
@@ -75,6 +92,11 @@ mod c {
             s: *const Setup, words: *const u64, words_len: usize, second: *mut u64, second_len: usize, list: *mut u32,
             list_len: usize, second_base: u64, second_tables: u64, answer: *mut Setup,
         ) -> u64;
+        pub fn plain_list(
+            s: *const Setup, words: *const u64, words_len: usize, second: *const u64, second_len: usize, list: *const u32,
+            list_len: usize, start: u64, places: *mut u64, places_len: usize, entries: *mut u64, entries_len: usize,
+            answer: *mut Listed,
+        ) -> u64;
     }
 }
 
@@ -90,6 +112,7 @@ pub const SIDES: [Side; 3] = [
         query: raw::oak_query,
         audit: raw::oak_audit,
         add: raw::oak_add,
+        list: raw::oak_list,
     },
     Side {
         name: "plain Rust",
@@ -101,6 +124,7 @@ pub const SIDES: [Side; 3] = [
         query: bench::query,
         audit: bench::audit,
         add: bench::add,
+        list: bench::list,
     },
     Side {
         name: "plain C",
@@ -112,6 +136,7 @@ pub const SIDES: [Side; 3] = [
         query: c::plain_query,
         audit: c::plain_audit,
         add: c::plain_add,
+        list: c::plain_list,
     },
 ];
 
@@ -121,6 +146,7 @@ pub const NO_HOLE: Hole = Hole { base: 0, size: 0 };
 pub const NOT_UNMAPPED: Unmapped = Unmapped { setup: NO_SETUP, frame: 0, size: 0, attributes: 0, given: 0, hole: NO_HOLE };
 pub const NOT_FOUND: Found = Found { mapping: Mapping { base: 0, frame: 0, size: 0, attributes: 0 }, hole: NO_HOLE };
 pub const NOT_AUDITED: Audit = Audit { tables: 0, mappings: 0 };
+pub const NOT_LISTED: Listed = Listed { written: 0, more: 0, next: 0 };
 
 /// The numbers of an answer of the C surface, which is a run of 64-bit numbers without a gap.
 pub fn numbers<T>(answer: &T) -> &[u64] {
@@ -171,7 +197,20 @@ impl Engine for Side {
                     let mut a = junk;
                     Answer::new((self.add)(&s, w, wl, v, vl, l, ll, base, tables, &mut a), numbers(&a))
                 }
+                Call::List { .. } => unreachable!("it is lent two runs more"),
             }
         }
+    }
+
+    fn list(&mut self, setup: plain::Setup, start: u64, pool: Lent<'_>, [places, entries]: [&mut [u64]; 2]) -> Answer {
+        let Lent { words, second, list } = pool;
+        let [levels, base, tables, free, second_base, second_tables, granule] = of_setup(setup);
+        let s = Setup { levels, base, tables, free, second_base, second_tables, granule };
+        let (w, wl, v, vl, l, ll) = (words.as_ptr(), words.len(), second.as_ptr(), second.len(), list.as_ptr(), list.len());
+        let (p, pl, e, el) = (places.as_mut_ptr(), places.len(), entries.as_mut_ptr(), entries.len());
+        let mut a = Listed { written: 1, more: 2, next: 3 };
+        // SAFETY: the pointers and lengths are those of the five slices, of which the last two are borrowed mutably.
+        let refusal = unsafe { (self.list)(&s, w, wl, v, vl, l, ll, start, p, pl, e, el, &mut a) };
+        Answer::new(refusal, numbers(&a))
     }
 }

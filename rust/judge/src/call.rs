@@ -1,6 +1,6 @@
 //! Calls and answers as plain numbers, and the engines that carry the calls out.
 
-use plain::{Refusal, Setup};
+use plain::{Listed, Refusal, Setup};
 
 /// A call with its numbers; the memory comes beside it.
 #[derive(Clone, Copy, Debug, PartialEq, Eq)]
@@ -46,10 +46,18 @@ pub enum Call {
         base: u64,
         tables: u64,
     },
+    /// From a start on, into two runs of so many places.
+    List {
+        setup: Setup,
+        start: u64,
+        places: usize,
+        entries: usize,
+    },
 }
 
 impl Call {
-    pub const NAMES: [&'static str; 8] = ["frame_word", "word_meaning", "format", "map", "unmap", "query", "audit", "add"];
+    pub const NAMES: [&'static str; 9] =
+        ["frame_word", "word_meaning", "format", "map", "unmap", "query", "audit", "add", "list"];
 
     /// The place of the call among the names.
     pub fn kind(&self) -> usize {
@@ -62,6 +70,7 @@ impl Call {
             Call::Query { .. } => 5,
             Call::Audit { .. } => 6,
             Call::Add { .. } => 7,
+            Call::List { .. } => 8,
         }
     }
 
@@ -72,7 +81,8 @@ impl Call {
             | Call::Unmap { setup, .. }
             | Call::Query { setup, .. }
             | Call::Audit { setup }
-            | Call::Add { setup, .. } => Some(setup),
+            | Call::Add { setup, .. }
+            | Call::List { setup, .. } => Some(setup),
             _ => None,
         }
     }
@@ -84,7 +94,8 @@ impl Call {
             | Call::Unmap { setup, .. }
             | Call::Query { setup, .. }
             | Call::Audit { setup }
-            | Call::Add { setup, .. } => *setup = other,
+            | Call::Add { setup, .. }
+            | Call::List { setup, .. } => *setup = other,
             Call::Format { .. } | Call::FrameWord { .. } | Call::WordMeaning { .. } => {}
         }
         self
@@ -100,7 +111,8 @@ impl Call {
 ///
 /// They are, for the host's calls, the number answered; for format and add the setup; for map the setup and the tables taken; for unmap
 /// the setup, frame, size, attributes and tables given back, then base and size of the hole; for query base, frame, size and
-/// attributes, then base and size of the hole; for audit the tables and the mappings.
+/// attributes, then base and size of the hole; for audit the tables and the mappings; for list how many were written, whether one was left out, and the base of
+/// the first such.
 #[derive(Clone, Copy, Debug, PartialEq, Eq)]
 pub struct Answer {
     pub refusal: u64,
@@ -148,7 +160,19 @@ impl Answer {
 
 /// Something that carries out calls on lent memory.
 pub trait Engine {
+    /// Any call but a list.
     fn call(&mut self, call: &Call, words: &mut [u64], second: &mut [u64], list: &mut [u32]) -> Answer;
+
+    /// A list from a start on, into two runs.
+    fn list(&mut self, setup: Setup, start: u64, pool: Lent<'_>, runs: [&mut [u64]; 2]) -> Answer;
+}
+
+/// The memory of a pool that is only read.
+#[derive(Clone, Copy)]
+pub struct Lent<'a> {
+    pub words: &'a [u64],
+    pub second: &'a [u64],
+    pub list: &'a [u32],
 }
 
 /// The plain program.
@@ -181,8 +205,19 @@ impl Engine for Plain {
                 let (setup, result) = plain::add(setup, words, second, list, base, tables);
                 with_setup(setup, result.map(|()| []))
             }
+            Call::List { .. } => unreachable!("it is lent two runs more"),
         }
     }
+
+    fn list(&mut self, setup: Setup, start: u64, pool: Lent<'_>, [places, entries]: [&mut [u64]; 2]) -> Answer {
+        let result = plain::list(setup, pool.words, pool.second, pool.list, start, places, entries);
+        without_setup(result.map(|Listed { written, next }| listed(written, next)))
+    }
+}
+
+/// The numbers of a list's answer.
+pub fn listed(written: u64, next: Option<u64>) -> [u64; 3] {
+    [written, u64::from(next.is_some()), next.unwrap_or(0)]
 }
 
 /// A refusal answers its number, and 9 the hole, after the places of what would have been found.

@@ -3,13 +3,23 @@
 use std::collections::BTreeMap;
 use std::fmt;
 
-use plain::{Setup, GRANULES};
+use plain::{Refusal, Setup, GRANULES};
 
-use crate::{Answer, Call, Damage, Memory, Shape, Step, SETUP};
+use crate::damage::link;
+use crate::{Answer, Call, Damage, Lent, Memory, Shape, Step, SETUP};
 
 /// The refusals that each call can give, in the order of [`Call::NAMES`].
-const POSSIBLE: [&[usize]; 8] =
-    [&[2, 3, 4, 5], &[2, 8], &[1], &[1, 2, 3, 4, 5, 6, 7, 8, 11], &[1, 4, 5, 8, 9, 10], &[1, 4, 8, 9], &[1, 8], &[1, 8, 11]];
+const POSSIBLE: [&[usize]; 9] = [
+    &[2, 3, 4, 5],
+    &[2, 8],
+    &[1],
+    &[1, 2, 3, 4, 5, 6, 7, 8, 11],
+    &[1, 4, 5, 8, 9, 10],
+    &[1, 4, 8, 9],
+    &[1, 8],
+    &[1, 8, 11],
+    &[1, 4, 8],
+];
 
 /// The reasons for refusal 8 of map, unmap and query, and for 1 and 8 of add. Each must be met with both granules.
 const CAUSES: [&str; 18] = [
@@ -31,6 +41,22 @@ const CAUSES: [&str; 18] = [
     "add: the regions overlap",
     "add: a length",
     "add: a damaged word or a table twice",
+];
+
+/// What lists must have met, with both granules.
+const LISTS: [&str; 12] = [
+    "nothing to list",
+    "no place, and one left out",
+    "all places used, and none left out",
+    "some written, and one left out",
+    "places past the count",
+    "the start a base",
+    "the start within a mapping",
+    "a page from the base that the last answered",
+    "runs of unequal length",
+    "a damaged word",
+    "nothing but a table reached twice",
+    "nothing but damage below the start",
 ];
 
 /// What must be met of the granule. The first four are refused with 1, by a format and by another call.
@@ -62,9 +88,9 @@ const REGIONS: [&str; 3] = ["the first", "the second", "both"];
 #[derive(Default)]
 pub struct Coverage {
     /// For each call, how often each refusal came, and 0 for none.
-    answers: [[u64; 16]; 8],
+    answers: [[u64; 16]; 9],
     /// The same of the calls with the larger granule.
-    answers_16: [[u64; 16]; 8],
+    answers_16: [[u64; 16]; 9],
     /// How many maps took 0 to 3 tables, by the trees.
     taken: [[u64; 4]; 3],
     /// How many unmaps gave back 0 to 3 tables.
@@ -81,6 +107,9 @@ pub struct Coverage {
     formatted: u64,
     /// By the granule's number.
     causes: BTreeMap<(u64, &'static str), u64>,
+    lists: BTreeMap<(u64, &'static str), u64>,
+    /// The base that the last list answered.
+    next: Option<u64>,
     granule: BTreeMap<&'static str, [u64; 2]>,
     /// For each damage, how often the audit that came next accepted and refused.
     damages: BTreeMap<Damage, [u64; 2]>,
@@ -111,6 +140,11 @@ impl Coverage {
                     self.answers_16[call.kind()][answer.refusal as usize] += 1;
                 }
                 self.count_granule(call, setup, answer, words);
+                if let Call::List { .. } = call {
+                    let pool =
+                        Lent { words: &memory.words[..words], second: &memory.second[..second], list: &memory.list[..places] };
+                    self.count_list(call, answer, pool);
+                }
                 match (call, answer.refusal, last_damage) {
                     (Call::Format { .. }, 0, _) => self.added = None,
                     (Call::Add { tables, .. }, 0, _) => self.added = Some(*tables),
@@ -184,6 +218,37 @@ impl Coverage {
         }
     }
 
+    /// Counts what a list has met.
+    fn count_list(&mut self, call: &Call, answer: &Answer, pool: Lent<'_>) {
+        let &Call::List { setup, start, places, entries } = call else { return };
+        let last = self.next.take();
+        let [written, more, next, ..] = answer.numbers;
+        let full = written == places as u64;
+        let (damaged, twice) = if answer.refusal == 8 { Reached::of(setup, pool) } else { (false, false) };
+        let holder = plain::query(setup, pool.words, pool.second, pool.list, start).map(|found| found.base);
+        let good = answer.refusal == 0;
+        let met = [
+            good && written + more == 0,
+            good && places == 0 && more == 1,
+            good && places > 0 && full && more == 0,
+            good && written > 0 && more == 1,
+            good && written > 0 && !full,
+            good && holder == Ok(start),
+            good && holder.is_ok_and(|base| base != start),
+            good && written > 0 && last == Some(start),
+            answer.refusal == 1
+                && places != entries
+                && plain::audit(setup, pool.words, pool.second, pool.list) != Err(Refusal::Setup),
+            damaged,
+            twice && !damaged,
+            answer.refusal == 8 && is_fine_from(setup, pool, start),
+        ];
+        for (what, _) in LISTS.into_iter().zip(met).filter(|(_, met)| *met) {
+            *self.lists.entry((setup.granule, what)).or_default() += 1;
+        }
+        self.next = (more == 1).then_some(next);
+    }
+
     /// Counts where tables that a map took, or an unmap gave back, stand in a pool of two regions.
     fn count_regions(&mut self, call: usize, setup: Setup, numbers: &[u32]) {
         let more = numbers.iter().filter(|&&number| u64::from(number) >= setup.tables).count();
@@ -225,6 +290,11 @@ impl Coverage {
         for cause in CAUSES {
             for granule in GRANULES {
                 need(self.causes.contains_key(&(granule, cause)), format!("{cause}, with the granule {granule}"));
+            }
+        }
+        for what in LISTS {
+            for granule in GRANULES {
+                need(self.lists.contains_key(&(granule, what)), format!("list: {what}, with the granule {granule}"));
             }
         }
         for what in GRANULE {
@@ -311,6 +381,56 @@ fn cause(call: &Call, words: &[u64], second: &[u64], list: &[u32]) -> Option<&'s
     None
 }
 
+/// A tree that is looked through, as far as that has come.
+struct Reached<'a> {
+    setup: Setup,
+    pool: Lent<'a>,
+    tables: Vec<usize>,
+    damaged: bool,
+    twice: bool,
+}
+
+impl Reached<'_> {
+    /// Whether a damaged word is reached, and whether a table is reached twice.
+    fn of(setup: Setup, pool: Lent<'_>) -> (bool, bool) {
+        let mut reached = Reached { setup, pool, tables: Vec::new(), damaged: false, twice: false };
+        reached.look(0, setup.levels);
+        (reached.damaged, reached.twice)
+    }
+
+    fn look(&mut self, table: usize, left: u64) {
+        if self.tables.contains(&table) {
+            self.twice = true;
+            return;
+        }
+        self.tables.push(table);
+        let Lent { words, second, .. } = self.pool;
+        let shape = Shape::of(self.setup.granule);
+        let entries = shape.entries() as usize;
+        let part = match table.checked_sub(self.setup.tables as usize) {
+            None => &words[entries * table..][..entries],
+            Some(table) => &second[entries * table..][..entries],
+        };
+        for &word in part.iter().filter(|&&word| word != 0) {
+            let child = (1..self.setup.total()).find(|&number| left > 1 && word == link(self.setup, number));
+            match child {
+                Some(child) => self.look(child as usize, left - 1),
+                None => {
+                    let size = shape.region(left);
+                    self.damaged |= !shape.sizes().contains(&size) || plain::word_meaning(word, size) < 16;
+                }
+            }
+        }
+    }
+}
+
+/// Whether a pool could be listed if its root had nothing before the entry of a start.
+fn is_fine_from(setup: Setup, pool: Lent<'_>, start: u64) -> bool {
+    let mut words = pool.words.to_vec();
+    words[..Shape::of(setup.granule).index(start, setup.levels)].fill(0);
+    plain::list(setup, &words, pool.second, pool.list, start, &mut [], &mut []).is_ok()
+}
+
 /// The counts as a table of text.
 impl fmt::Display for Coverage {
     fn fmt(&self, f: &mut fmt::Formatter<'_>) -> fmt::Result {
@@ -338,6 +458,9 @@ impl fmt::Display for Coverage {
         writeln!(f, "maps that an add made possible: {}", self.thanks_to_add)?;
         for ((granule, cause), count) in &self.causes {
             writeln!(f, "{cause}, with the granule {granule}: {count}")?;
+        }
+        for ((granule, what), count) in &self.lists {
+            writeln!(f, "list: {what}, with the granule {granule}: {count}")?;
         }
         for (what, [one, other]) in &self.granule {
             writeln!(f, "{what}: {one} and {other}")?;

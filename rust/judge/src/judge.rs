@@ -57,6 +57,8 @@ impl<E: Engine> Judge<E> {
             .map_err(|place| format!("after {plain:x?} the engine and plain differ: {place}"))?;
         match (step, plain) {
             (Step::Call { call, .. }, Some(answer)) if !changes(call, &answer) => {
+                // what a list wrote is compared with plain's, and is no part of the pool
+                self.before.runs.clone_from(&self.memory.runs);
                 same(&self.memory, &self.before).map_err(|place| format!("{answer:x?} must change nothing, but did: {place}"))?;
             }
             _ => self.before.clone_from(&self.memory),
@@ -82,8 +84,11 @@ fn same(one: &Memory, other: &Memory) -> Result<(), String> {
     if let Some(at) = one.second.iter().zip(&other.second).position(|(a, b)| a != b) {
         return Err(format!("word {at} of the second run is {:x} and {:x}", one.second[at], other.second[at]));
     }
-    match one.list.iter().zip(&other.list).position(|(a, b)| a != b) {
-        Some(at) => Err(format!("place {at} is {:x} and {:x}", one.list[at], other.list[at])),
-        None => Err("the lengths".to_string()),
+    if let Some(at) = one.list.iter().zip(&other.list).position(|(a, b)| a != b) {
+        return Err(format!("place {at} is {:x} and {:x}", one.list[at], other.list[at]));
     }
+    if one.runs != other.runs {
+        return Err(format!("the runs of a list are {:x?} and {:x?}", one.runs, other.runs));
+    }
+    Err("the lengths".to_string())
 }

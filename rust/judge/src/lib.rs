@@ -15,7 +15,7 @@ mod shape;
 mod source;
 mod world;
 
-pub use call::{numbers, Answer, Call, Engine, Plain, SETUP};
+pub use call::{listed, numbers, Answer, Call, Engine, Lent, Plain, SETUP};
 pub use cases::cases;
 pub use coverage::Coverage;
 pub use damage::Damage;
@@ -23,4 +23,4 @@ pub use judge::Judge;
 pub use random::Random;
 pub use shape::Shape;
 pub use source::Source;
-pub use world::{Memory, Step, World};
+pub use world::{Memory, Step, World, BLANK};

@@ -15,11 +15,12 @@
 //! Query  w v l levels base tables free second_base second_tables granule  address 0 0 0
 //! Audit  w v l levels base tables free second_base second_tables granule  0 0 0 0
 //! Grow   w v l levels base tables free second_base second_tables granule  base tables 0 0
+//! View   w v l levels base tables free second_base second_tables granule  start places entries 0
 //! total N lines                      the end: so many steps came before
 //! ```
 //!
-//! Each of the last six calls is lent the first w words of the first run, the first v of the second and the first l places; Grow is
-//! the call that adds a region. After `=` the answer follows in the same line: the number that a call of the host's answers, or the
+//! Each of the last seven calls is lent the first w words of the first run, the first v of the second and the first l places; Grow is
+//! the call that adds a region. View is the list: it is also lent the first places of two runs of 16 numbers, all 7 before. After `=` the answer follows in the same line: the number that a call of the host's answers, or the
 //! refusal, the setup after the call, four numbers and a sum. The four are:
 //!
 //! ```text
@@ -29,15 +30,17 @@
 //! Unmap  frame size attributes given
 //! Query  base frame size attributes
 //! Audit  tables mappings 0 0
+//! View   written more next 0
 //! ```
 //!
 //! The refusal is its number or 0, and what a refusal does not answer is 0; of 9 the four numbers are base and size of the hole, and two zeros. The sum is that of all memory after the call, lent
 //! or not: the sum of (2 i + 1) * number i, modulo 2^64, where word 0 of the first run is number 0, word 0 of the second number 33280
-//! and place 0 number 41472, since no memory has more words in either run.
+//! and place 0 number 41472, since no memory has more words in either run. Of a View it is the sum of its two runs instead, where those of the second are number 16
+//! and so on.
 
 use std::io::{self, Write};
 
-use crate::{cases, numbers, Answer, Call, Memory, Source, Step, World, SETUP};
+use crate::{cases, numbers, Answer, Call, Memory, Source, Step, World, BLANK, SETUP};
 
 /// The line before those of the steps.
 pub const HEADING: &str = "Calls that the second program made, with its answers.";
@@ -45,6 +48,9 @@ pub const HEADING: &str = "Calls that the second program made, with its answers.
 /// The first number of a word of the second run, and of a place.
 pub const SECOND_FROM: u64 = 33280;
 pub const PLACES_FROM: u64 = 41472;
+
+/// The numbers of each run of a list. All are blank before it.
+const ROOM: usize = 16;
 
 /// Writes the document's cases and then so many calls from a seed, with the plain program's answers.
 pub fn write(out: &mut impl Write, seed: u64, calls: u64) -> io::Result<()> {
@@ -94,9 +100,11 @@ fn text(step: &Step, answer: Option<&Answer>, memory: &Memory) -> String {
         Call::Query { setup, address } => ("Query", numbers(setup), [address, 0, 0, 0]),
         Call::Audit { setup } => ("Audit", numbers(setup), [0; 4]),
         Call::Add { setup, base, tables } => ("Grow", numbers(setup), [base, tables, 0, 0]),
+        Call::List { setup, start, places, entries } => ("View", numbers(setup), [start, places as u64, entries as u64, 0]),
     };
     let handed_back = if call.hands_back() { &answer.numbers[..SETUP] } else { &setup };
-    let told = [&[answer.refusal], handed_back, &answer.rest(&call), &[sum(memory)]].concat();
+    let sum = if let Call::List { .. } = call { sum_of_runs(memory) } else { sum(memory) };
+    let told = [&[answer.refusal], handed_back, &answer.rest(&call), &[sum]].concat();
     row(name, &[&lent[..], &setup, &rest].concat(), &told)
 }
 
@@ -119,5 +127,16 @@ fn number(n: u64) -> String {
 pub fn sum(memory: &Memory) -> u64 {
     let words = memory.words.iter().copied().zip(0..).chain(memory.second.iter().copied().zip(SECOND_FROM..));
     let places = memory.list.iter().map(|&place| u64::from(place)).zip(PLACES_FROM..);
-    words.chain(places).fold(0, |sum, (number, i): (u64, u64)| sum.wrapping_add((2 * i + 1).wrapping_mul(number)))
+    sum_up(words.chain(places))
+}
+
+/// The sum of the two runs of a list, of which the first has its first so many numbers counted and the second the next, blank where there are none.
+pub fn sum_of_runs(memory: &Memory) -> u64 {
+    let run = |run: usize| -> [u64; ROOM] { std::array::from_fn(|i| memory.runs[run].get(i).copied().unwrap_or(BLANK)) };
+    sum_up([run(0), run(1)].concat().into_iter().zip(0..))
+}
+
+/// The sum of (2 i + 1) × number i.
+fn sum_up(numbers: impl Iterator<Item = (u64, u64)>) -> u64 {
+    numbers.fold(0, |sum, (number, i)| sum.wrapping_add((2 * i + 1).wrapping_mul(number)))
 }

@@ -51,14 +51,16 @@ pub struct Source {
     growing: bool,
     /// The free count of a wild pool, in place of the one that its format gave.
     free: Option<u64>,
+    /// The most places of a list.
+    room: u64,
 }
 
 impl Source {
     pub fn new(seed: u64) -> Source {
-        Source { large: 1, ..Source::small(seed) }
+        Source { large: 1, room: 600, ..Source::small(seed) }
     }
 
-    /// A stream in which no pool has more than 64 tables in its first region, or 15 in its second; with the larger granule 15 and 3.
+    /// A stream in which no pool has more than 64 tables in its first region, or 15 in its second; with the larger granule 15 and 3. No list has more than 16 places.
     pub fn small(seed: u64) -> Source {
         Source {
             random: Random::new(seed),
@@ -70,6 +72,7 @@ impl Source {
             sweep: None,
             growing: true,
             free: None,
+            room: 16,
         }
     }
 
@@ -260,6 +263,10 @@ impl Source {
             let call = self.add(setup, world);
             self.queue.push_back(lend_what_is_asked(call, world));
         }
+        if self.random.percent(40) {
+            let call = self.list(setup, world);
+            self.queue.push_back(lend(call, setup));
+        }
         if self.random.percent(70) {
             self.queue.push_back(mended);
         }
@@ -303,7 +310,8 @@ impl Source {
                 };
                 Call::Unmap { setup, address }
             }
-            70..=87 => {
+            70..=73 => self.list(setup, world),
+            74..=87 => {
                 let offset = self.random.below(1 << self.random.pick(&[1, 12, 14, 21, 25, 30, 36]));
                 let address = match self.random.below(20) {
                     0 => self.odd_address(space, page),
@@ -415,6 +423,24 @@ impl Source {
         // the free count is tested against the old limit
         let free = if self.random.percent(5) { setup.tables.wrapping_add(self.random.below(4)) } else { setup.free };
         Call::Add { setup: Setup { free, ..setup }, base, tables }
+    }
+
+    /// A list, from 0, from the base that the last one answered, from a mapping or within one, or from anywhere.
+    fn list(&mut self, setup: Setup, world: &World) -> Call {
+        let shape = Shape::of(setup.granule);
+        let start = match self.random.below(16) {
+            0..=3 => 0,
+            4..=6 => world.next.unwrap_or(0),
+            7..=9 => self.live(world),
+            10..=11 => self.live(world) + self.random.below(shape.region(self.random.pick(&[1, 2, 3]))),
+            12..=13 => self.address(),
+            14 => self.odd_address(shape.space(setup.levels.min(4)), shape.page()),
+            _ => self.random.below(shape.space(setup.levels.min(4))),
+        };
+        let places = self.random.pick(&[0, 1, 2, 3, 7, 1 + self.random.below(15), 16, self.random.below(self.room + 1)]);
+        let other = self.random.pick(&[0, places + 1, places.wrapping_sub(1), self.random.below(16)]).min(self.room);
+        let entries = if self.random.percent(4) { other } else { places };
+        Call::List { setup, start, places: places as usize, entries: entries as usize }
     }
 
     /// A format in the middle of a history, mostly one that is refused.

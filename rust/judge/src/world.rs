@@ -1,10 +1,10 @@
 //! What the plain program's side of a run is: its memory, the setup that goes on, and the ledger.
 
-use plain::ledger::Ledger;
+use plain::ledger::{Ledger, Mapping};
 use plain::Setup;
 
 use crate::call::{with_setup, without_setup};
-use crate::{Answer, Call, Damage, Engine, Plain, Shape};
+use crate::{listed, Answer, Call, Damage, Engine, Lent, Plain, Shape};
 
 /// Lent memory. It is longer than the pool in it, so that longer and shorter runs can be lent.
 #[derive(Clone, Debug, Default, PartialEq, Eq)]
@@ -12,7 +12,15 @@ pub struct Memory {
     pub words: Vec<u64>,
     pub second: Vec<u64>,
     pub list: Vec<u32>,
+    /// The two runs of the last list, each with some places more than were lent. All were `BLANK` before it.
+    pub runs: [Vec<u64>; 2],
 }
+
+/// A number that no list writes.
+pub const BLANK: u64 = 7;
+
+/// The places of a run that are not lent.
+const PAST: usize = 3;
 
 /// One step of a history.
 #[derive(Clone, Copy, Debug, PartialEq, Eq)]
@@ -38,6 +46,8 @@ pub struct World {
     pub ledger: Option<Ledger>,
     /// Whether the audit is known to accept the pool, with its setup.
     sound: bool,
+    /// The base that the last list answered.
+    pub next: Option<u64>,
 }
 
 impl Memory {
@@ -45,19 +55,34 @@ impl Memory {
     pub fn apply(&mut self, step: &Step, engine: &mut impl Engine) -> Option<Answer> {
         match *step {
             Step::Memory { words, second, places } => {
-                *self = Memory { words: vec![0; words], second: vec![0; second], list: vec![0; places] }
+                *self = Memory { words: vec![0; words], second: vec![0; second], list: vec![0; places], ..Memory::default() }
             }
             Step::Word { at, word, .. } => match at.checked_sub(self.words.len()) {
                 None => self.words[at] = word,
                 Some(at) => self.second[at] = word,
             },
             Step::Place { at, number, .. } => self.list[at] = number,
+            Step::Call { call: Call::List { setup, start, places: room, entries }, words, second, places } => {
+                let pool = Lent { words: &self.words[..words], second: &self.second[..second], list: &self.list[..places] };
+                self.runs = [room, entries].map(|length| vec![BLANK; length + PAST]);
+                let [one, other] = &mut self.runs;
+                return Some(engine.list(setup, start, pool, [&mut one[..room], &mut other[..entries]]));
+            }
             Step::Call { ref call, words, second, places } => {
                 let (words, second) = (&mut self.words[..words], &mut self.second[..second]);
                 return Some(engine.call(call, words, second, &mut self.list[..places]));
             }
         }
         None
+    }
+
+    /// What a list wrote that wrote so many: nothing past them.
+    pub fn wrote(&self, count: u64) -> Result<Vec<(u64, u64)>, String> {
+        let [one, other] = self.runs.each_ref().map(|run| run.split_at(count as usize));
+        match one.1.iter().chain(other.1).find(|&&number| number != BLANK) {
+            Some(number) => Err(format!("a list of {count} has {number:x} past them")),
+            None => Ok(one.0.iter().copied().zip(other.0.iter().copied()).collect()),
+        }
     }
 
     /// The word at a place, where those of the second run are counted after those of the first.
@@ -95,6 +120,19 @@ impl World {
         let rest = ((entries * second_tables) as usize, (tables + second_tables) as usize);
         let lent = words == (entries * tables) as usize && (brings || (second, places) == rest);
         let known = call.setup() == Some(self.setup) && lent;
+        if let Call::List { start, places, entries, .. } = *call {
+            let wrote = self.memory.wrote(answer.numbers[0])?;
+            if let Some(ledger) = self.ledger.as_ref().filter(|_| known) {
+                let expected = ledger.list(start, places as u64, entries as u64).map_or(vec![], |(mappings, _)| mappings);
+                let numbers = |m: &Mapping| {
+                    (m.address + u64::from(m.size.trailing_zeros()), plain::frame_word(m.frame, m.size, m.attributes))
+                };
+                if !expected.iter().map(numbers).eq(wrote.iter().copied()) {
+                    return Err(format!("plain lists {wrote:x?}\nand the ledger {expected:x?}"));
+                }
+            }
+            self.next = (answer.numbers[1] == 1).then_some(answer.numbers[2]);
+        }
         let expected = self.ledger.as_mut().filter(|_| known).map(|ledger| ask(ledger, self.setup, call, second, places));
         if expected.is_some_and(|expected| expected != answer) {
             return Err(format!("plain answers {answer:x?}\nand the ledger {expected:x?}"));
@@ -140,6 +178,10 @@ fn ask(ledger: &mut Ledger, setup: Setup, call: &Call, second: usize, places: us
             let result = ledger.add(base, tables, second as u64, places as u64);
             let grown = Setup { free: ledger.free(), second_base: base, second_tables: tables, ..setup };
             with_setup(if result.is_ok() { grown } else { setup }, result.map(|()| []))
+        }
+        Call::List { start, places, entries, .. } => {
+            let result = ledger.list(start, places as u64, entries as u64);
+            without_setup(result.map(|(mappings, next)| listed(mappings.len() as u64, next)))
         }
         Call::Format { .. } | Call::FrameWord { .. } | Call::WordMeaning { .. } => unreachable!("these have no setup"),
     }

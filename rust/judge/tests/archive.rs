@@ -4,9 +4,10 @@
 
 use std::env;
 
-use judge::{cases, lines, numbers as of_setup, Answer, Call, Engine, Judge, Memory, Shape, Source, Step, SETUP};
+use judge::{cases, lines, listed, numbers as of_setup};
+use judge::{Answer, Call, Engine, Judge, Lent, Memory, Random, Shape, Source, Step, World, SETUP};
 use oakabut::raw::{self, Found, Mapped, Unmapped};
-use oakabut::{Audit, Hole, Mapping, Pool, Refusal, Setup};
+use oakabut::{Audit, Hole, Listed, Mapping, Pool, Refusal, Setup};
 
 /// How many calls to judge, and from which seed.
 fn calls_and_seed() -> (u64, u64) {
@@ -185,7 +186,61 @@ fn a_region_is_added_to_a_full_pool() {
     }
 }
 
-/// The six calls on a pool with these numbers, on which every one of them is refused with 1, with so many words and places lent.
+/// Pages of any lengths, from 0 and then each from the base that the last one answered, list every mapping exactly once: in pools with a history the ledger's,
+/// in damaged ones that can be listed those that one list has. The iterator of the safe crate gives the same.
+#[test]
+fn pages_list_each_mapping_once() {
+    let (calls, seed) = calls_and_seed();
+    let (mut source, random) = (Source::new(seed.wrapping_add(11)), Random::new(seed));
+    let mut world = World::default();
+    let (mut with_ledger, mut without, mut pages) = (0, 0, 0);
+    for step in 0..calls / 4 {
+        let next = source.next(&world);
+        world.apply(&next).unwrap();
+        // at times there is new memory, and no pool in it yet
+        let (setup, Memory { words, second, list, .. }) = (world.setup, &world.memory);
+        let lengths = [setup.tables, setup.second_tables].map(|tables| (Shape::of(setup.granule).entries() * tables) as usize);
+        let lent = (words.get(..lengths[0]), second.get(..lengths[1]), list.get(..setup.total() as usize));
+        let (0, (Some(words), Some(second), Some(list))) = (step % 16, lent) else { continue };
+        let pool = Lent { words, second, list };
+        let (mut places, mut words_of) = (vec![0; 1 << 18], vec![0; 1 << 18]);
+        let whole = Raw.list(setup, 0, pool, [&mut places, &mut words_of]);
+        if whole.refusal != 0 {
+            assert!(world.ledger.is_none());
+            continue;
+        }
+        let all: Vec<(u64, u64)> = places.into_iter().zip(words_of).take(whole.numbers[0] as usize).collect();
+        let (mut listed, mut start) = (Vec::new(), Some(0));
+        let most = random.pick(&[1, 2, 3, 7, 40, 700]);
+        while let Some(from) = start {
+            let room = 1 + random.below(most) as usize;
+            let (mut places, mut words_of) = (vec![0; room], vec![0; room]);
+            let answer = Raw.list(setup, from, pool, [&mut places, &mut words_of]);
+            let [written, more, next, ..] = answer.numbers;
+            listed.extend(places.into_iter().zip(words_of).take(written as usize));
+            start = (more == 1).then_some(next);
+            pages += 1;
+        }
+        assert!(listed == all && all.windows(2).all(|pair| pair[0].0 & !4095 < pair[1].0 & !4095));
+        let (mut words, mut second, mut list) = (words.to_vec(), second.to_vec(), list.to_vec());
+        let safe = Pool::resume_two(to_theirs(setup), &mut words, &mut second, &mut list);
+        let mappings: Vec<Mapping> = safe.mappings().unwrap().collect();
+        assert!(mappings.iter().copied().map(Ok).eq(all.iter().map(|&(place, entry)| Mapping::listed(place, entry))));
+        match &world.ledger {
+            Some(ledger) => {
+                let mut expected: Vec<_> = ledger.mappings().iter().map(|m| (m.address, m.frame, m.size, m.attributes)).collect();
+                expected.sort_unstable();
+                assert!(mappings.iter().map(|m| (m.base, m.frame, m.size, m.attributes)).eq(expected));
+                with_ledger += 1;
+            }
+            None => without += 1,
+        }
+    }
+    println!("{pages} pages of {with_ledger} pools with a ledger and of {without} others");
+    assert!(with_ledger > 0 && without > 0);
+}
+
+/// The seven calls on a pool with these numbers, on which every one of them is refused with 1, with so many words and places lent.
 fn all_refuse_1(judge: &mut Judge<Raw>, setup: plain::Setup, words: usize, places: usize) {
     let plain::Setup { levels, base, tables, second_base, second_tables, granule, .. } = setup;
     let calls = [
@@ -197,11 +252,12 @@ fn all_refuse_1(judge: &mut Judge<Raw>, setup: plain::Setup, words: usize, place
         Call::Audit { setup },
         Call::Add { setup, base: 0, tables: 0 },
         Call::Add { setup, base: 0, tables: 1 },
+        Call::List { setup, start: 0, places: 2, entries: 2 },
     ];
     for call in calls {
-        judge.step(&Step::Call { call, words, second: 0, places }).unwrap_or_else(|difference| panic!("{difference}"));
-        let mut memory = judge.memory().clone();
-        assert_eq!(Raw.call(&call, &mut memory.words[..words], &mut [], &mut memory.list[..places]).refusal, 1, "{call:x?}");
+        let step = Step::Call { call, words, second: 0, places };
+        judge.step(&step).unwrap_or_else(|difference| panic!("{difference}"));
+        assert_eq!(judge.memory().clone().apply(&step, &mut Raw).unwrap().refusal, 1, "{call:x?}");
     }
 }
 
@@ -285,7 +341,7 @@ fn the_text_form() {
         let call = match (name, &takes[..]) {
             ("Lend", &[words, 0, places, 0, second, 0]) => {
                 let (words, second) = (vec![0; words as usize], vec![0; second as usize]);
-                memory = Memory { words, second, list: vec![0; places as usize] };
+                memory = Memory { words, second, list: vec![0; places as usize], ..Memory::default() };
                 None
             }
             ("Word", &[at, word]) => {
@@ -311,6 +367,9 @@ fn the_text_form() {
             ("Query", &[_, _, _, _, _, _, _, _, _, _, address, 0, 0, 0]) => Some(Call::Query { setup: setup(), address }),
             ("Audit", &[_, _, _, _, _, _, _, _, _, _, 0, 0, 0, 0]) => Some(Call::Audit { setup: setup() }),
             ("Grow", &[_, _, _, _, _, _, _, _, _, _, base, tables, 0, 0]) => Some(Call::Add { setup: setup(), base, tables }),
+            ("View", &[_, _, _, _, _, _, _, _, _, _, start, places, entries, 0]) => {
+                Some(Call::List { setup: setup(), start, places: places as usize, entries: entries as usize })
+            }
             ("total", &[count]) => {
                 end = Some(count);
                 continue;
@@ -322,10 +381,12 @@ fn the_text_form() {
         let expected = match call {
             Call::FrameWord { .. } | Call::WordMeaning { .. } => Raw.call(&call, &mut [], &mut [], &mut []).numbers[..1].to_vec(),
             _ => {
-                let (words, second) = (&mut memory.words[..takes[0] as usize], &mut memory.second[..takes[1] as usize]);
-                let answer = Raw.call(&call, words, second, &mut memory.list[..takes[2] as usize]);
+                let [words, second, places] = [0, 1, 2].map(|i| takes[i] as usize);
+                let answer = memory.apply(&Step::Call { call, words, second, places }, &mut Raw).unwrap();
                 let handed_back = if call.hands_back() { &answer.numbers[..SETUP] } else { &takes[3..10] };
-                [&[answer.refusal], handed_back, &answer.rest(&call), &[lines::sum(&memory)]].concat()
+                let is_list = matches!(call, Call::List { .. });
+                let sum = if is_list { lines::sum_of_runs(&memory) } else { lines::sum(&memory) };
+                [&[answer.refusal], handed_back, &answer.rest(&call), &[sum]].concat()
             }
         };
         assert_eq!(told, expected, "{line}");
@@ -395,8 +456,33 @@ impl Engine for Raw {
                     let refusal = raw::oak_add(&setup, w, wl, v, vl, l, ll, base, tables, &mut a);
                     Answer::new(refusal, &from_theirs(a))
                 }
+                Call::List { .. } => unreachable!("it is lent two runs more"),
             }
         }
+    }
+
+    fn list(&mut self, setup: plain::Setup, start: u64, pool: Lent<'_>, [places, entries]: [&mut [u64]; 2]) -> Answer {
+        let Lent { words, second, list } = pool;
+        let mut a = raw::Listed { written: JUNK, more: JUNK, next: JUNK };
+        // SAFETY: the pointers and lengths are those of the five slices, of which the last two are borrowed mutably.
+        let refusal = unsafe {
+            raw::oak_list(
+                &to_theirs(setup),
+                words.as_ptr(),
+                words.len(),
+                second.as_ptr(),
+                second.len(),
+                list.as_ptr(),
+                list.len(),
+                start,
+                places.as_mut_ptr(),
+                places.len(),
+                entries.as_mut_ptr(),
+                entries.len(),
+                &mut a,
+            )
+        };
+        Answer::new(refusal, &[a.written, a.more, a.next])
     }
 }
 
@@ -433,6 +519,7 @@ impl Engine for Safe {
             Call::Query { address, .. } => (pool.query(address).map(|m| vec![m.base, m.frame, m.size, m.attributes]), 4),
             Call::Audit { .. } => (pool.audit().map(|a| vec![a.tables, a.mappings]), 2),
             Call::Add { .. } => unreachable!("it was made before"),
+            Call::List { .. } => unreachable!("it is lent two runs more"),
         };
         let mut numbers = if call.hands_back() { from_theirs(pool.setup()).to_vec() } else { vec![] };
         let refusal = result.as_ref().map_or_else(|refusal| refusal.number(), |_| 0);
@@ -444,5 +531,15 @@ impl Engine for Safe {
             }
         }
         Answer::new(refusal, &numbers)
+    }
+
+    fn list(&mut self, setup: plain::Setup, start: u64, pool: Lent<'_>, [places, entries]: [&mut [u64]; 2]) -> Answer {
+        let Lent { words, second, list } = pool;
+        let (mut words, mut second, mut list) = (words.to_vec(), second.to_vec(), list.to_vec());
+        let pool = Pool::resume_two(to_theirs(setup), &mut words, &mut second, &mut list);
+        match pool.list_from(start, places, entries) {
+            Ok(Listed { written, next }) => Answer::new(0, &listed(written as u64, next)),
+            Err(refusal) => Answer::new(refusal.number(), &[]),
+        }
     }
 }

@@ -3,7 +3,7 @@
 //! They are the plain program but for the fault. Among them are the wrong engines and the tempting mistakes that the document
 //! names.
 
-use judge::{numbers, Answer, Call, Engine, Judge, Plain, Shape, Source, SETUP};
+use judge::{listed, numbers, Answer, Call, Engine, Judge, Lent, Plain, Shape, Source, BLANK, SETUP};
 use plain::{End, Setup, LIMIT, SIZES, SIZES_16};
 
 type Fault = fn(&Call, &mut [u64], &mut [u64], &mut [u32]) -> Answer;
@@ -13,6 +13,25 @@ struct Faulty(Fault);
 impl Engine for Faulty {
     fn call(&mut self, call: &Call, words: &mut [u64], second: &mut [u64], list: &mut [u32]) -> Answer {
         (self.0)(call, words, second, list)
+    }
+
+    fn list(&mut self, setup: Setup, start: u64, pool: Lent<'_>, runs: [&mut [u64]; 2]) -> Answer {
+        Plain.list(setup, start, pool, runs)
+    }
+}
+
+/// A fault of list: a setup and a start, the pool, and the two runs.
+type ListFault = fn(Setup, u64, Lent<'_>, [&mut [u64]; 2]) -> Answer;
+
+struct FaultyList(ListFault);
+
+impl Engine for FaultyList {
+    fn call(&mut self, call: &Call, words: &mut [u64], second: &mut [u64], list: &mut [u32]) -> Answer {
+        right(call, words, second, list)
+    }
+
+    fn list(&mut self, setup: Setup, start: u64, pool: Lent<'_>, runs: [&mut [u64]; 2]) -> Answer {
+        (self.0)(setup, start, pool, runs)
     }
 }
 
@@ -785,11 +804,206 @@ const FAULTS: &[(&str, Fault)] = &[
     }),
 ];
 
+/// The right list of a pool from a start on: the answer, and the two numbers of all mappings from there on.
+fn right_list(setup: Setup, start: u64, pool: Lent<'_>) -> (Answer, Vec<(u64, u64)>) {
+    let (mut places, mut entries) = (vec![0; 1 << 18], vec![0; 1 << 18]);
+    let answer = Plain.list(setup, start, pool, [&mut places, &mut entries]);
+    let count = answer.numbers[0] as usize;
+    (answer, places.into_iter().zip(entries).take(count).collect())
+}
+
+/// Writes numbers to two runs, as many as fit, and answers that with the base of the first left out.
+fn write_list(all: &[(u64, u64)], [places, entries]: [&mut [u64]; 2]) -> Answer {
+    for (i, &(place, entry)) in all.iter().take(places.len()).enumerate() {
+        (places[i], entries[i]) = (place, entry);
+    }
+    let next = all.get(places.len()).map(|(place, _)| place & !4095);
+    Answer::new(0, &listed(all.len().min(places.len()) as u64, next))
+}
+
+/// The right list with other numbers for its mappings.
+fn other_list(
+    setup: Setup, start: u64, pool: Lent<'_>, runs: [&mut [u64]; 2], other: fn(Setup, u64, Vec<(u64, u64)>) -> Vec<(u64, u64)>,
+) -> Answer {
+    let (answer, all) = right_list(setup, start, pool);
+    if answer.refusal != 0 || runs[0].len() != runs[1].len() {
+        return Plain.list(setup, start, pool, runs);
+    }
+    write_list(&other(setup, start, all), runs)
+}
+
+const LIST_FAULTS: &[(&str, ListFault)] = &[
+    ("a list in falling order", |setup, start, pool, runs| {
+        other_list(setup, start, pool, runs, |_, _, all| all.into_iter().rev().collect())
+    }),
+    ("a list without the start", |setup, start, pool, runs| {
+        other_list(setup, start, pool, runs, |_, start, all| {
+            all.into_iter().filter(|(place, _)| place & !4095 != start).collect()
+        })
+    }),
+    ("a list with the mapping that holds the start", |setup, start, pool, runs| {
+        let Ok(found) = plain::query(setup, pool.words, pool.second, pool.list, start) else {
+            return Plain.list(setup, start, pool, runs);
+        };
+        Plain.list(setup, found.base, pool, runs)
+    }),
+    ("the power of two of the level above", |setup, start, pool, runs| {
+        other_list(setup, start, pool, runs, |_, _, all| all.into_iter().map(|(place, entry)| (place + 9, entry)).collect())
+    }),
+    ("the power of two of a page for all sizes", |setup, start, pool, runs| {
+        other_list(setup, start, pool, runs, |setup, _, all| {
+            all.into_iter().map(|(place, entry)| ((place & !4095) + u64::from(setup.granule.trailing_zeros()), entry)).collect()
+        })
+    }),
+    ("the powers of the smaller granule", |setup, start, pool, runs| {
+        other_list(setup, start, pool, runs, |_, _, all| {
+            all.into_iter().map(|(place, entry)| if place % 4096 == 14 { (place - 2, entry) } else { (place, entry) }).collect()
+        })
+    }),
+    ("the size in the place of its power", |setup, start, pool, runs| {
+        other_list(setup, start, pool, runs, |_, _, all| {
+            all.into_iter().map(|(place, entry)| ((place & !4095) + (1 << (place % 4096)), entry)).collect()
+        })
+    }),
+    ("the frame's base in the place of the word", |setup, start, pool, runs| {
+        other_list(setup, start, pool, runs, |_, _, all| {
+            all.into_iter().map(|(place, entry)| (place, entry & 0xFFFF_FFFF_F000)).collect()
+        })
+    }),
+    ("places past the count that become 0", |setup, start, pool, [places, entries]| {
+        let answer = Plain.list(setup, start, pool, [places, entries]);
+        if answer.refusal == 0 {
+            places[answer.numbers[0] as usize..].fill(0);
+            entries[answer.numbers[0] as usize..].fill(0);
+        }
+        answer
+    }),
+    ("one place past the count", |setup, start, pool, [places, entries]| {
+        let answer = Plain.list(setup, start, pool, [places, entries]);
+        if let (0, Some(place)) = (answer.refusal, places.get_mut(answer.numbers[0] as usize)) {
+            *place = 0;
+        }
+        answer
+    }),
+    ("the next that is the last written", |setup, start, pool, [places, entries]| {
+        let mut answer = Plain.list(setup, start, pool, [places, entries]);
+        let [written, more, ..] = answer.numbers;
+        if more == 1 && written > 0 {
+            answer.numbers[2] = places[written as usize - 1] & !4095;
+        }
+        answer
+    }),
+    ("the next that is the start", |setup, start, pool, runs| {
+        let mut answer = Plain.list(setup, start, pool, runs);
+        if answer.numbers[1] == 1 {
+            answer.numbers[2] = start;
+        }
+        answer
+    }),
+    ("a list that never leaves one out", |setup, start, pool, runs| {
+        let answer = Plain.list(setup, start, pool, runs);
+        Answer::new(answer.refusal, &[answer.numbers[0], 0, 0])
+    }),
+    ("a full list that always leaves one out", |setup, start, pool, [places, entries]| {
+        let mut answer = Plain.list(setup, start, pool, [places, entries]);
+        if answer.refusal == 0 && answer.numbers[0] as usize == places.len() && answer.numbers[1] == 0 {
+            answer.numbers[1] = 1;
+        }
+        answer
+    }),
+    ("no place refused", |setup, start, pool, [places, entries]| match places.len() {
+        0 => Answer::new(1, &[]),
+        _ => Plain.list(setup, start, pool, [places, entries]),
+    }),
+    ("runs of unequal length taken", |setup, start, pool, [places, entries]| {
+        let room = places.len().min(entries.len());
+        Plain.list(setup, start, pool, [&mut places[..room], &mut entries[..room]])
+    }),
+    ("4 before the lengths of the runs", |setup, start, pool, [places, entries]| {
+        let unequal = places.len() != entries.len();
+        let four = Plain.list(setup, start, pool, [&mut [], &mut []]).refusal == 4;
+        match Plain.list(setup, start, pool, [places, entries]) {
+            answer if unequal && four => Answer { refusal: 4, ..answer },
+            answer => answer,
+        }
+    }),
+    ("8 before 4", |setup, start, pool, runs| {
+        let answer = Plain.list(setup, start, pool, runs);
+        let damaged = Plain.list(setup, 0, pool, [&mut [], &mut []]).refusal == 8;
+        if answer.refusal == 4 && damaged {
+            Answer { refusal: 8, ..answer }
+        } else {
+            answer
+        }
+    }),
+    ("a start past the space cut to its low bits", |setup, start, pool, runs| {
+        let space = if (3..=4).contains(&setup.levels) { Shape::of(setup.granule).space(setup.levels) } else { 1 };
+        Plain.list(setup, start % space, pool, runs)
+    }),
+    ("a start that is rounded down to a page", |setup, start, pool, runs| {
+        Plain.list(setup, start & !(Shape::of(setup.granule).page() - 1), pool, runs)
+    }),
+    ("8 for what is from the start on alone", |setup, start, pool, runs| {
+        let answer = Plain.list(setup, start, pool, [&mut [], &mut []]);
+        if answer.refusal != 8 {
+            return Plain.list(setup, start, pool, runs);
+        }
+        let mut words = pool.words.to_vec();
+        words[..root_entry(setup, start)].fill(0);
+        Plain.list(setup, start, Lent { words: &words, ..pool }, runs)
+    }),
+    ("a table reached twice that is not noticed", |setup, start, pool, runs| {
+        let answer = Plain.list(setup, start, pool, [&mut [], &mut []]);
+        // without the second of two equal words that name a table
+        let mut words = pool.words.to_vec();
+        for at in 1..words.len() {
+            if words[at] % 4096 == 3 && words[..at].contains(&words[at]) {
+                words[at] = 0;
+            }
+        }
+        let pool = if answer.refusal == 8 { Lent { words: &words, ..pool } } else { pool };
+        Plain.list(setup, start, pool, runs)
+    }),
+    ("a refused list that has written", |setup, start, pool, [places, entries]| {
+        let answer = Plain.list(setup, start, pool, [places, entries]);
+        if let (8, Some(place)) = (answer.refusal, places.first_mut()) {
+            *place = BLANK + 1;
+        }
+        answer
+    }),
+    ("a list that minds what the audit minds", |setup, start, pool, runs| {
+        let refused = plain::audit(setup, pool.words, pool.second, pool.list).is_err();
+        if Plain.list(setup, start, pool, [&mut [], &mut []]).refusal == 0 && refused && runs[0].len() == runs[1].len() {
+            return Answer::new(8, &[]);
+        }
+        Plain.list(setup, start, pool, runs)
+    }),
+    ("a list of the first region alone", |setup, start, pool, runs| {
+        if setup.second_tables == 0 {
+            return Plain.list(setup, start, pool, runs);
+        }
+        let second = vec![0; pool.second.len()];
+        Plain.list(setup, start, Lent { second: &second, ..pool }, runs)
+    }),
+    ("a setup that a list does not test", |setup, start, pool, runs| Plain.list(Setup { free: 0, ..setup }, start, pool, runs)),
+];
+
 #[test]
 fn every_fault_is_found() {
-    let calls = 200_000;
+    let calls = 500_000;
     for &(name, fault) in FAULTS {
         let mut judge = Judge::new(Faulty(fault));
+        let found = judge.run(&mut Source::new(1), calls);
+        assert!(found.is_err(), "{name} was not found in {calls} calls");
+        println!("{name}: found at call {}", judge.coverage.calls());
+    }
+}
+
+#[test]
+fn every_fault_of_list_is_found() {
+    let calls = 500_000;
+    for &(name, fault) in LIST_FAULTS {
+        let mut judge = Judge::new(FaultyList(fault));
         let found = judge.run(&mut Source::new(1), calls);
         assert!(found.is_err(), "{name} was not found in {calls} calls");
         println!("{name}: found at call {}", judge.coverage.calls());

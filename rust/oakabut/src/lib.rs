@@ -39,6 +39,11 @@
 //! assert_eq!(pool.unmap(0x1000)?.given, 1);
 //! assert_eq!(pool.audit()?.mappings, 1);
 //!
+//! // what a guest can see, line by line
+//! for mapping in pool.mappings()? {
+//!     assert_eq!(mapping.to_string(), "0x00200000  2 MiB  -> 0x80200000  rw-  normal");
+//! }
+//!
 //! // with the other granule tables have 2048 words, and frames 16 KiB or 32 MiB
 //! use oakabut::{BLOCK_32M, GRANULE_16K, PAGE_16K};
 //! let mut pool = Pool::owned(3, 0x4000_0000, 4, GRANULE_16K)?;
@@ -54,11 +59,13 @@
 
 extern crate alloc;
 
+use core::fmt;
+
 mod pool;
 pub mod raw;
 mod refusal;
 
-pub use pool::Pool;
+pub use pool::{Mappings, Pool};
 pub use refusal::Refusal;
 
 /// The granule of 4 KiB: pages and tables of 4096 bytes, 512 entries in a table, three levels or four.
@@ -109,7 +116,7 @@ pub struct Setup {
     pub granule: u64,
 }
 
-/// A mapping, as [`Pool::query`] answers it.
+/// A mapping, as [`Pool::query`] answers it and [`Pool::mappings`] lists it.
 #[repr(C)]
 #[derive(Clone, Copy, Debug, PartialEq, Eq, Hash)]
 pub struct Mapping {
@@ -157,6 +164,41 @@ pub struct Audit {
     pub tables: u64,
     /// The mappings.
     pub mappings: u64,
+}
+
+/// What [`Pool::list_from`] answers.
+#[derive(Clone, Copy, Debug, PartialEq, Eq, Hash)]
+pub struct Listed {
+    /// How many mappings were written.
+    pub written: usize,
+    /// The base of the first that was left out; none where none is left.
+    pub next: Option<u64>,
+}
+
+impl Mapping {
+    /// The mapping that the two numbers of [`Pool::list_from`] stand for. Numbers that no list writes are [`SIZE`](Refusal::SIZE) or [`DAMAGED`](Refusal::DAMAGED).
+    pub fn listed(place: u64, entry: u64) -> Result<Mapping, Refusal> {
+        // the power of two is in the bits in which a base has none
+        let size = 1u64.checked_shl((place & 4095) as u32).unwrap_or(0);
+        let (frame, attributes) = word_meaning(entry, size)?;
+        Ok(Mapping { base: place & !4095, frame, size, attributes })
+    }
+}
+
+/// A line for a person: `0x00200000  2 MiB  -> 0x80200000  rw-  normal`.
+impl fmt::Display for Mapping {
+    fn fmt(&self, f: &mut fmt::Formatter<'_>) -> fmt::Result {
+        let Mapping { base, frame, size, attributes } = *self;
+        let (count, unit) = match size {
+            0x4000_0000.. => (size >> 30, "GiB"),
+            0x10_0000.. => (size >> 20, "MiB"),
+            _ => (size >> 10, "KiB"),
+        };
+        let letter = |attribute: u64, letter: char| if attributes & attribute == 0 { '-' } else { letter };
+        let [read, write, execute] = [letter(READ, 'r'), letter(WRITE, 'w'), letter(EXECUTE, 'x')];
+        let kind = if attributes & DEVICE == 0 { "normal" } else { "device" };
+        write!(f, "{base:#010x}  {count} {unit}  -> {frame:#010x}  {read}{write}{execute}  {kind}")
+    }
 }
 
 /// The entry word of a frame, of any of the five sizes.

@@ -5,7 +5,7 @@ use core::fmt;
 use core::ops::{Deref, DerefMut};
 
 use crate::raw::{self, Found, Mapped, Unmapped};
-use crate::{Audit, Hole, Mapping, Refusal, Removed, Setup, GRANULE_16K, GRANULE_4K, MAX_TABLES};
+use crate::{Audit, Hole, Listed, Mapping, Refusal, Removed, Setup, GRANULE_16K, GRANULE_4K, MAX_TABLES};
 
 const NO_HOLE: Hole = Hole { base: 0, size: 0 };
 
@@ -234,6 +234,83 @@ impl<'a> Pool<'a> {
         Refusal::or(number, answer)
     }
 
+    /// Writes the mappings with base at or above `start`, in rising order and as many as there are places, into two runs of one length: `places` gets the
+    /// address plus the power of two of the size, `entries` the entry word. [`Mapping::listed`] reads the two numbers of a mapping.
+    ///
+    /// The places past those written stay as they were, and runs of no length are fine. A mapping that holds the start and begins below it is left out. Pages of at
+    /// least one place, from 0 and then each from [`Listed::next`] of the last, list every mapping of an unchanged pool exactly once; [`Pool::mappings`] goes on so by itself.
+    ///
+    /// Runs of unequal length are [`Refusal::SETUP`]; a start that is not below the space is [`Refusal::RANGE`]; a damaged word in a table that is reached, or a
+    /// table that is reached twice, is [`Refusal::DAMAGED`], wherever it is. Refused, both runs are as they were.
+    ///
+    /// ```
+    /// # use oakabut::{Mapping, Pool, BLOCK_2M, GRANULE_4K, PAGE};
+    /// let mut pool = Pool::owned(3, 0x4000_0000, 4, GRANULE_4K)?;
+    /// pool.map(0x20_0000, 0x8020_0000, BLOCK_2M, 3)?;
+    /// pool.map(0x1000, 0x8000_1000, PAGE, 5)?;
+    ///
+    /// let (mut places, mut entries) = ([0; 1], [0; 1]);
+    /// let listed = pool.list_from(0, &mut places, &mut entries)?;
+    /// assert_eq!((listed.written, listed.next), (1, Some(0x20_0000)));
+    /// assert_eq!((places[0], entries[0]), (0x1000 + 12, 0x8000_177F));
+    ///
+    /// let listed = pool.list_from(0x20_0000, &mut places, &mut entries)?;
+    /// assert_eq!((listed.written, listed.next), (1, None));
+    /// let mapping = Mapping::listed(places[0], entries[0])?;
+    /// assert_eq!(mapping, Mapping { base: 0x20_0000, frame: 0x8020_0000, size: BLOCK_2M, attributes: 3 });
+    /// # Ok::<(), oakabut::Refusal>(())
+    /// ```
+    pub fn list_from(&self, start: u64, places: &mut [u64], entries: &mut [u64]) -> Result<Listed, Refusal> {
+        let mut answer = raw::Listed { written: 0, more: 0, next: 0 };
+        let (words, second, list) = (&*self.words, &*self.second, &*self.list);
+        // SAFETY: the pointers and lengths are those of five borrowed slices, of which the last two are borrowed mutably.
+        let number = unsafe {
+            raw::oak_list(
+                &self.setup,
+                words.as_ptr(),
+                words.len(),
+                second.as_ptr(),
+                second.len(),
+                list.as_ptr(),
+                list.len(),
+                start,
+                places.as_mut_ptr(),
+                places.len(),
+                entries.as_mut_ptr(),
+                entries.len(),
+                &mut answer,
+            )
+        };
+        let raw::Listed { written, more, next } = Refusal::or(number, answer)?;
+        Ok(Listed { written: written as usize, next: (more == 1).then_some(next) })
+    }
+
+    /// All mappings, in rising order.
+    ///
+    /// It lists a page of 64 at a time ([`Pool::list_from`]), each of which looks at the whole pool. What can be refused is refused here, with the first page: the pool does not change
+    /// while it is listed.
+    ///
+    /// ```
+    /// # use oakabut::{Pool, BLOCK_2M, GRANULE_4K, PAGE};
+    /// # let mut pool = Pool::owned(3, 0x4000_0000, 4, GRANULE_4K)?;
+    /// pool.map(0x20_0000, 0x8020_0000, BLOCK_2M, 3)?;
+    /// pool.map(0x1000, 0x8000_1000, PAGE, 5)?;
+    /// let lines: Vec<String> = pool.mappings()?.map(|mapping| mapping.to_string()).collect();
+    /// assert_eq!(lines, ["0x00001000  4 KiB  -> 0x80001000  r-x  normal", "0x00200000  2 MiB  -> 0x80200000  rw-  normal"]);
+    /// # Ok::<(), oakabut::Refusal>(())
+    /// ```
+    pub fn mappings(&self) -> Result<Mappings<'_>, Refusal> {
+        self.mappings_from(0)
+    }
+
+    /// The mappings with base at or above `start`, in rising order.
+    pub fn mappings_from(&self, start: u64) -> Result<Mappings<'_>, Refusal> {
+        let mut mappings =
+            Mappings { pool: self, places: [0; PAGE_OF], entries: [0; PAGE_OF], at: 0, page: Listed { written: 0, next: None } };
+        mappings.turn_to(start)?;
+        Ok(mappings)
+    }
+
     /// The setup numbers; with the words and the list they are the whole pool.
     pub fn setup(&self) -> Setup {
         self.setup
@@ -252,6 +329,40 @@ impl<'a> Pool<'a> {
     /// The free list; its first [`Setup::free`] places are the free tables.
     pub fn list(&self) -> &[u32] {
         &self.list
+    }
+}
+
+/// How many mappings [`Mappings`] lists at a time.
+const PAGE_OF: usize = 64;
+
+/// The mappings of a pool in rising order, as [`Pool::mappings`] gives them.
+pub struct Mappings<'p> {
+    pool: &'p Pool<'p>,
+    places: [u64; PAGE_OF],
+    entries: [u64; PAGE_OF],
+    /// How many of the page have been given.
+    at: usize,
+    page: Listed,
+}
+
+impl Mappings<'_> {
+    fn turn_to(&mut self, start: u64) -> Result<(), Refusal> {
+        self.page = self.pool.list_from(start, &mut self.places, &mut self.entries)?;
+        self.at = 0;
+        Ok(())
+    }
+}
+
+impl Iterator for Mappings<'_> {
+    type Item = Mapping;
+
+    fn next(&mut self) -> Option<Mapping> {
+        if self.at == self.page.written {
+            self.turn_to(self.page.next?).ok()?;
+        }
+        let at = self.at;
+        self.at += 1;
+        Mapping::listed(*self.places.get(at)?, self.entries[at]).ok()
     }
 }
 

@@ -45,6 +45,18 @@ pub struct Found {
     pub hole: Hole,
 }
 
+/// What `oak_list` answers.
+#[repr(C)]
+#[derive(Clone, Copy, Debug, PartialEq, Eq)]
+pub struct Listed {
+    /// How many mappings were written.
+    pub written: u64,
+    /// 1 where one was left out, else 0.
+    pub more: u64,
+    /// The base of the first left out, else 0.
+    pub next: u64,
+}
+
 extern "C" {
     /// The entry word of a frame, or the number of a refusal, which is below 16.
     pub fn oak_frame_word(base: u64, size: u64, attributes: u64) -> u64;
@@ -105,5 +117,16 @@ extern "C" {
     pub fn oak_audit(
         setup: *const Setup, words: *const u64, words_len: usize, second: *const u64, second_len: usize, list: *const u32,
         list_len: usize, answer: *mut Audit,
+    ) -> u64;
+
+    /// Writes the mappings from a start on to two runs.
+    ///
+    /// # Safety
+    /// As for [`oak_format`]; the words of both runs and the list are only read. `places` and `entries` point to that many elements, which
+    /// nothing else uses during the call.
+    pub fn oak_list(
+        setup: *const Setup, words: *const u64, words_len: usize, second: *const u64, second_len: usize, list: *const u32,
+        list_len: usize, start: u64, places: *mut u64, places_len: usize, entries: *mut u64, entries_len: usize,
+        answer: *mut Listed,
     ) -> u64;
 }

@@ -248,6 +248,86 @@ fn no_other_granule() {
     assert_eq!(mixed.audit(), Err(Refusal::SETUP));
 }
 
+/// The pool of case 4, mapped from the last address down.
+fn case_4() -> Pool<'static> {
+    let mut pool = Pool::owned(3, P, 4, K4).unwrap();
+    pool.map(0x20_0000, 0x8020_0000, BLOCK_2M, 3).unwrap();
+    pool.map(0x1000, 0x8000_1000, PAGE, 5).unwrap();
+    pool.map(0, F, PAGE, 3).unwrap();
+    pool
+}
+
+#[test]
+fn lists() {
+    let pool = case_4();
+    let (mut places, mut entries) = ([7; 4], [7; 4]);
+    assert_eq!(pool.list_from(0, &mut places, &mut entries), Ok(Listed { written: 3, next: None }));
+    assert_eq!(places, [12, 0x1000 + 12, 0x20_0000 + 21, 7]);
+    assert_eq!(entries, [0x40_0000_8000_07FF, 0x8000_177F, 0x40_0000_8020_07FD, 7]);
+    // no place at all, and fewer than there are mappings
+    assert_eq!(pool.list_from(0, &mut [], &mut []), Ok(Listed { written: 0, next: Some(0) }));
+    assert_eq!(pool.list_from(1, &mut places[..1], &mut entries[..1]), Ok(Listed { written: 1, next: Some(0x20_0000) }));
+    assert_eq!(pool.list_from(0x20_0001, &mut places, &mut entries), Ok(Listed { written: 0, next: None }));
+    // refused, both runs stay
+    (places, entries) = ([7; 4], [7; 4]);
+    assert_eq!(pool.list_from(1 << 39, &mut places, &mut entries[..3]), Err(Refusal::SETUP));
+    assert_eq!(pool.list_from(1 << 39, &mut places, &mut entries), Err(Refusal::RANGE));
+    let (mut words, mut list) = (pool.words().to_vec(), pool.list().to_vec());
+    words[1024 + 9] = 5;
+    let damaged = Pool::resume(pool.setup(), &mut words, &mut list);
+    assert_eq!(damaged.list_from(0x20_0000, &mut places, &mut entries), Err(Refusal::DAMAGED));
+    assert_eq!(damaged.mappings().err(), Some(Refusal::DAMAGED));
+    assert_eq!((places, entries), ([7; 4], [7; 4]));
+}
+
+#[test]
+fn all_mappings_one_after_the_other() {
+    let lines = |pool: &Pool| pool.mappings().unwrap().map(|mapping| mapping.to_string()).collect::<Vec<_>>();
+    assert_eq!(
+        lines(&case_4()),
+        [
+            "0x00000000  4 KiB  -> 0x80000000  rw-  normal",
+            "0x00001000  4 KiB  -> 0x80001000  r-x  normal",
+            "0x00200000  2 MiB  -> 0x80200000  rw-  normal"
+        ]
+    );
+    let mut pool = Pool::owned(3, P, 8, K16).unwrap();
+    assert_eq!(lines(&pool), [""; 0]);
+    pool.map(1 << 36, F, PAGE_16K, DEVICE + READ).unwrap();
+    pool.map(BLOCK_32M, F, BLOCK_32M, EXECUTE).unwrap();
+    assert_eq!(
+        lines(&pool),
+        ["0x02000000  32 MiB  -> 0x80000000  --x  normal", "0x1000000000  16 KiB  -> 0x80000000  r--  device"]
+    );
+    // several pages of the iterator, full ones among them
+    for count in [0, 1, 63, 64, 65, 128, 500] {
+        let mut pool = Pool::owned(4, P, 8, K4).unwrap();
+        for i in (0..count).rev() {
+            pool.map(i * PAGE, F + i * PAGE, PAGE, i % 16).unwrap();
+        }
+        pool.map(BLOCK_1G, 0, BLOCK_1G, 0).unwrap();
+        let all: Vec<Mapping> = pool.mappings().unwrap().collect();
+        assert_eq!(all.len() as u64, count + 1);
+        for (i, mapping) in (0..count).zip(&all) {
+            assert_eq!(*mapping, Mapping { base: i * PAGE, frame: F + i * PAGE, size: PAGE, attributes: i % 16 });
+        }
+        assert_eq!(all[count as usize].to_string(), "0x40000000  1 GiB  -> 0x00000000  ---  normal");
+        assert_eq!(pool.mappings_from(PAGE * count + 1).unwrap().count(), 1);
+        assert_eq!(pool.mappings_from(1 << 48).err(), Some(Refusal::RANGE));
+    }
+}
+
+#[test]
+fn numbers_that_no_list_writes() {
+    let word = frame_word(F, PAGE, 3).unwrap();
+    assert_eq!(Mapping::listed(0x1000 + 12, word).unwrap().frame, F);
+    for power in [0, 11, 13, 31, 63, 64, 4095] {
+        assert_eq!(Mapping::listed(0x1000 + power, word), Err(Refusal::SIZE));
+    }
+    assert_eq!(Mapping::listed(21, word), Err(Refusal::DAMAGED));
+    assert_eq!(Mapping::listed(12, 0), Err(Refusal::DAMAGED));
+}
+
 #[test]
 fn the_hosts_two_calls() {
     for size in [PAGE, BLOCK_2M, BLOCK_1G, PAGE_16K, BLOCK_32M] {

@@ -157,6 +157,20 @@ impl Ledger {
         Counts { tables: 1 + self.needed(&self.mappings), mappings: self.mappings.len() as u64 }
     }
 
+    /// The mappings with base at or above a start, in rising order, as many as fit into two runs of these lengths; and the base of the first that does not.
+    pub fn list(&self, start: u64, places: u64, entries: u64) -> Result<(Vec<Mapping>, Option<u64>), Refusal> {
+        if places != entries {
+            return Err(Refusal::Setup);
+        }
+        if u128::from(start) >= self.space() {
+            return Err(Refusal::Range);
+        }
+        let mut listed: Vec<Mapping> = self.mappings.iter().copied().filter(|m| m.address >= start).collect();
+        listed.sort_unstable_by_key(|m| m.address);
+        let left = listed.split_off(listed.len().min(places as usize));
+        Ok((listed, left.first().map(|m| m.address)))
+    }
+
     /// The number of the mapping that holds an address.
     fn holder(&self, address: u64) -> Option<usize> {
         self.mappings.iter().position(|m| m.address <= address && address - m.address < m.size)

@@ -147,6 +147,13 @@ pub struct Counts {
     pub mappings: u64,
 }
 
+/// List's answer: how many mappings were written, and the base of the first that was left out.
+#[derive(Clone, Copy, Debug, PartialEq, Eq)]
+pub struct Listed {
+    pub written: u64,
+    pub next: Option<u64>,
+}
+
 /// Where a walk ended.
 #[derive(Clone, Copy, Debug, PartialEq, Eq)]
 pub enum End {
@@ -238,9 +245,9 @@ fn add_or_refuse<const BITS: u64>(
     refuse_if(!good, Refusal::Setup)?;
 
     // the words are read under the old setup, under which no word names a new table
-    let mut seen = [false; MAX_TABLES as usize];
+    let mut inside = false;
     let bytes = page::<BITS>() * second_tables;
-    let inside = meets_region::<BITS>(setup, words, 0, setup.levels, &mut seen, second_base, bytes)?;
+    look_through::<BITS>(setup, words, &[], |frame, size| inside |= share(frame, size, second_base, bytes))?;
     refuse_if(inside, Refusal::InPool)?;
 
     // nothing was written so far, and nothing is refused from here
@@ -250,25 +257,6 @@ fn add_or_refuse<const BITS: u64>(
         *number = table;
     }
     Ok(Setup { free: setup.free + second_tables, ..grown })
-}
-
-/// Whether a frame in a table or below it shares a byte with so many bytes from an address on. A damaged word or a table that was seen
-/// is refused, wherever it is found; an empty table is not, nor a frame in the pool.
-fn meets_region<const BITS: u64>(
-    setup: &Setup, words: &[u64], table: usize, left: u64, seen: &mut [bool], base: u64, bytes: u64,
-) -> Result<bool, Refusal> {
-    refuse_if(seen[table], Refusal::Damaged)?;
-    seen[table] = true;
-    let mut inside = false;
-    for &word in table_of::<BITS>(words, &[], table) {
-        inside |= match read_entry::<BITS>(setup, word, left) {
-            Entry::Empty => false,
-            Entry::Frame(frame) => share(frame.base, region::<BITS>(left), base, bytes),
-            Entry::Table(child) => meets_region::<BITS>(setup, words, child, left - 1, seen, base, bytes)?,
-            Entry::Damaged => return Err(Refusal::Damaged),
-        };
-    }
-    Ok(inside)
 }
 
 /// Maps a frame at an address. Answers the number of tables taken.
@@ -458,6 +446,121 @@ fn count_pages<const BITS: u64>(entries: &[u64], is_outside: impl Fn(u64) -> boo
         frames += u64::from(read_frame(word, page::<BITS>()).is_some_and(|page| is_outside(page.base)));
     }
     (in_use, frames)
+}
+
+/// Writes the mappings with base at or above a start, in rising order and as many as fit, into two runs of one length: address plus power of
+/// two of the size, and entry word. The places past them stay as they were.
+#[inline]
+pub fn list(
+    setup: Setup, words: &[u64], second: &[u64], list: &[u32], start: u64, places: &mut [u64], entries: &mut [u64],
+) -> Result<Listed, Refusal> {
+    of_granule!(setup.granule, list_or_refuse(&setup, words, second, list, start, places, entries))
+}
+
+fn list_or_refuse<const BITS: u64>(
+    setup: &Setup, words: &[u64], second: &[u64], list: &[u32], start: u64, places: &mut [u64], entries: &mut [u64],
+) -> Result<Listed, Refusal> {
+    refuse_if(!is_good::<BITS>(setup, words, second, list) || places.len() != entries.len(), Refusal::Setup)?;
+    refuse_if(start >= space::<BITS>(setup.levels), Refusal::Range)?;
+    look_through::<BITS>(setup, words, second, |_, _| {})?;
+
+    // nothing was written so far, and nothing is refused from here
+    let mut lister = Lister { setup, words, second, start, places, entries, written: 0, next: None };
+    lister.list_table::<BITS>(0, setup.levels, 0);
+    Ok(Listed { written: lister.written as u64, next: lister.next })
+}
+
+/// The list of a sound tree, as far as it has come.
+struct Lister<'a> {
+    setup: &'a Setup,
+    words: &'a [u64],
+    second: &'a [u64],
+    start: u64,
+    places: &'a mut [u64],
+    entries: &'a mut [u64],
+    written: usize,
+    next: Option<u64>,
+}
+
+impl Lister<'_> {
+    /// Lists a table whose first entry stands for the addresses from `first` on. Answers whether there was a place for each mapping.
+    fn list_table<const BITS: u64>(&mut self, table: usize, left: u64, first: u64) -> bool {
+        let (size, words) = (region::<BITS>(left), table_of::<BITS>(self.words, self.second, table));
+        // the entries before the one that holds the start have nothing to list
+        let from = (self.start.saturating_sub(first) / size) as usize;
+        for (&word, i) in words[from..].iter().zip(from as u64..) {
+            let base = first + size * i;
+            let goes_on = match word {
+                0 => true,
+                _ if left == 1 => self.write(base, BITS, word),
+                _ => match read_entry::<BITS>(self.setup, word, left) {
+                    Entry::Table(child) => self.list_table::<BITS>(child, left - 1, base),
+                    _ => self.write(base, size.trailing_zeros().into(), word),
+                },
+            };
+            if !goes_on {
+                return false;
+            }
+        }
+        true
+    }
+
+    /// Writes a mapping, if its base is not below the start. Answers whether there was a place for it.
+    #[inline(always)]
+    fn write(&mut self, base: u64, power: u64, word: u64) -> bool {
+        if base < self.start {
+            return true;
+        }
+        match (self.places.get_mut(self.written), self.entries.get_mut(self.written)) {
+            (Some(place), Some(entry)) => {
+                (*place, *entry) = (base + power, word);
+                self.written += 1;
+                true
+            }
+            _ => {
+                self.next = Some(base);
+                false
+            }
+        }
+    }
+}
+
+/// Calls a function with the base and the size of each frame that is reached. A damaged word or a table that is reached twice is refused, wherever it is
+/// found; an empty table is not, nor a frame in the pool.
+fn look_through<const BITS: u64>(
+    setup: &Setup, words: &[u64], second: &[u64], mut on_frame: impl FnMut(u64, u64),
+) -> Result<(), Refusal> {
+    let mut seen = [false; MAX_TABLES as usize];
+    look_through_table::<BITS>(setup, words, second, 0, setup.levels, &mut seen, &mut on_frame)
+}
+
+fn look_through_table<const BITS: u64>(
+    setup: &Setup, words: &[u64], second: &[u64], table: usize, left: u64, seen: &mut [bool], on_frame: &mut impl FnMut(u64, u64),
+) -> Result<(), Refusal> {
+    refuse_if(seen[table], Refusal::Damaged)?;
+    seen[table] = true;
+    let entries = table_of::<BITS>(words, second, table);
+    if left == 1 {
+        // no branch where nothing is done with a frame, so that this is done on several words at once
+        let mut damaged = 0;
+        for &word in entries {
+            let frame = read_frame(word, page::<BITS>());
+            damaged += u64::from(word != 0 && frame.is_none());
+            if let Some(frame) = frame {
+                on_frame(frame.base, page::<BITS>());
+            }
+        }
+        return refuse_if(damaged > 0, Refusal::Damaged);
+    }
+    for &word in entries {
+        match read_entry::<BITS>(setup, word, left) {
+            Entry::Empty => {}
+            Entry::Frame(frame) => on_frame(frame.base, region::<BITS>(left)),
+            Entry::Table(child) => look_through_table::<BITS>(setup, words, second, child, left - 1, seen, on_frame)?,
+            Entry::Damaged => return Err(Refusal::Damaged),
+        }
+    }
+    Ok(())
 }
 
 /// The walk that a map of this size at this address makes; that of unmap and query is the one for the size of a page.

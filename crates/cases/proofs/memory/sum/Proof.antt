@@ -5,10 +5,10 @@ use Rattle.cases.proofs.memory.sum.Statement.{statement}
 use Rattle.cases.proofs.memory.sum.Tie as tie
 
 abbrev Inv-loop : tie.InvT-loop
-Inv-loop words more list met₀ twice₀ i₀ met twice i = i ≤ 41553
+Inv-loop words more list count met₀ twice₀ i₀ met twice i = 0 ≤ i
 
 abbrev μ-loop : tie.MeasureT-loop
-μ-loop words more list met₀ twice₀ i₀ met twice i = i
+μ-loop words more list count met₀ twice₀ i₀ met twice i = i
 
 loop-holds : tie.Need-loop-holds Inv-loop μ-loop
 loop-holds c = search needs
