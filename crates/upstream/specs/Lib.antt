@@ -18,3 +18,5 @@ pub mod Tree
 pub mod Node
 pub mod Remove
 pub mod Memory
+pub mod Values
+pub mod ValueVisits
