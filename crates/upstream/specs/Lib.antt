@@ -20,3 +20,4 @@ pub mod Remove
 pub mod Memory
 pub mod Values
 pub mod ValueVisits
+pub mod ValueInserts

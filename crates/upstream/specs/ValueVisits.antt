@@ -39,6 +39,13 @@ put-case f i e j = go (eqb j i) refl
 pub put-same : (f : ℕ → NodeEntry) (i : ℕ) (e : NodeEntry) → put f i e i ≡ e
 put-same f i e = ap (λ (b : Bool). cond b e (f i)) (eq-eqb i i refl)
 
+-- a change of an entry to itself is none
+pub put-itself : (f : ℕ → NodeEntry) (i : ℕ) (e : NodeEntry) → e ≡ f i → put f i e ≡ f
+put-itself f i e q = λ t j. same j t
+  where
+    same : (j : ℕ) → put f i e j ≡ f j
+    same j = ⊎-elim (λ (a, r). r ∙ q ∙ ap f (sym a)) (λ (_, r). r) (put-case f i e j)
+
 -- so each has what the changed one and the old ones have
 pub put-each : (P : ℕ → NodeEntry → Type 0) (f : ℕ → NodeEntry) (i : ℕ) (e : NodeEntry) → P i e → ((j : ℕ) → P j (f j)) → (j : ℕ) → P j (put f i e j)
 put-each P f i e a b j =
