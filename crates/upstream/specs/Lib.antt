@@ -21,3 +21,4 @@ pub mod Memory
 pub mod Values
 pub mod ValueVisits
 pub mod ValueInserts
+pub mod ValueRemoves
