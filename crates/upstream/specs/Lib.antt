@@ -22,3 +22,4 @@ pub mod Values
 pub mod ValueVisits
 pub mod ValueInserts
 pub mod ValueRemoves
+pub mod ValuePrunes

@@ -146,8 +146,8 @@ module _ (A : Arch) where
       insert-adds-path-mapping v q y = (
         λ m. ⊎-elim (λ a. inl a) (λ b. inr ((λ e. vacant k p x self y ok (subst (λ (o : Path). Leads o self (Frame y)) e (maps-is A k f q y .0 b .1))), b)) (insert-not-affect-other-mappings q y m),
         ⊎-elim
-        (λ (a, b). subst (λ (z : SpecFrame). MapsTo A next q z) (sym b) (subst (λ (o : Path). MapsTo A next o x) (sym a) (path-mappings-after-insertion-contains-new-mapping v)))
-        (λ (_, m). path-mappings-after-insertion-is-superset q y m),
+            (λ (a, b). subst (λ (z : SpecFrame). MapsTo A next q z) (sym b) (subst (λ (o : Path). MapsTo A next o x) (sym a) (path-mappings-after-insertion-contains-new-mapping v)))
+            (λ (_, m). path-mappings-after-insertion-is-superset q y m),
       )
 
   -- lemma_empty_implies_insert_ok
@@ -167,8 +167,7 @@ module _ (A : Arch) where
   met k (i ∷ p) x (Node l f) v w a s o =
       let b : i < A .count l = subst (λ (m : ℕ). i < A .count m) (sym (v .1)) (s .1) in
       let (c, d) = w .1 i b in
-      let (q, y, t, h, g) = met l p x (f i) c d (a .1 i b c) (subst (λ (m : ℕ). Steps A (suc m) p) (sym (v .1)) (s .2)) o in
-      (
+      let (q, y, t, h, g) = met l p x (f i) c d (a .1 i b c) (subst (λ (m : ℕ). Steps A (suc m) p) (sym (v .1)) (s .2)) o in (
         i ∷ q,
         y,
         (s .0, s .1, subst (λ (m : ℕ). Steps A (suc m) q) (v .1) t),
@@ -182,8 +181,7 @@ module _ (A : Arch) where
   insert-fails-implies-prefix k f [] x w v o a = absurd (v .0 refl)
   insert-fails-implies-prefix k f (i ∷ p) x w v o a =
       let (c, d) = w .1 i (v .1 .1) in
-      let (q, y, t, h, g) = met k p x (f i) c d (a .1 i (v .1 .1) c) (v .1 .2) o in
-      (
+      let (q, y, t, h, g) = met k p x (f i) c d (a .1 i (v .1 .1) c) (v .1 .2) o in (
         i ∷ q,
         y,
         maps-is A k f (i ∷ q) y .1 ((w .0, v .1 .1, t), h),
@@ -232,8 +230,7 @@ module _ (A : Arch) where
   full k [] x (Frame y) s o v w a = tt
   full k [] x (Node l f) s o v w a = a
   full k (i ∷ p) x Empty s o v w a =
-      let u = insert (suc (suc k)) p x Empty .after in
-      (
+      let u = insert (suc (suc k)) p x Empty .after in (
         (i, s .1, subst (λ (z : NodeEntry). Filled A (suc k) z) (sym (put-same bare i u)) (filled (suc k) p x Empty (s .2) o tt)),
         put-each (λ (j : ℕ) (z : NodeEntry). j < A .count (suc k) → EntryValid A (suc k) z → AllNonempty A z) bare i u (λ _ _. full (suc k) p x Empty (s .2) o tt tt tt) (λ _ _ _. tt),
       )
@@ -242,8 +239,7 @@ module _ (A : Arch) where
       let b : i < A .count l = subst (λ (m : ℕ). i < A .count m) (sym (v .1)) (s .1) in
       let t : Steps A (suc l) p = subst (λ (m : ℕ). Steps A (suc m) p) (sym (v .1)) (s .2) in
       let u = insert (suc l) p x (f i) .after in
-      let (c, d) = w .1 i b in
-      (
+      let (c, d) = w .1 i b in (
         (i, b, subst (λ (z : NodeEntry). Filled A l z) (sym (put-same f i u)) (filled l p x (f i) t o c)),
         put-each (λ (j : ℕ) (z : NodeEntry). j < A .count l → EntryValid A l z → AllNonempty A z) f i u (λ _ _. full l p x (f i) t o c d (a .1 i b c)) (a .1),
       )
@@ -254,8 +250,7 @@ module _ (A : Arch) where
   insert-preserves-all-nonempty k f [] x w v o a = absurd (v .0 refl)
   insert-preserves-all-nonempty k f (i ∷ p) x w v o a =
       let (c, d) = w .1 i (v .1 .1) in
-      let u = insert (suc k) p x (f i) .after in
-      (
+      let u = insert (suc k) p x (f i) .after in (
         (i, v .1 .1, subst (λ (z : NodeEntry). Filled A k z) (sym (put-same f i u)) (filled k p x (f i) (v .1 .2) o c)),
         put-each (λ (j : ℕ) (z : NodeEntry). j < A .count k → EntryValid A k z → AllNonempty A z) f i u (λ _ _. full k p x (f i) (v .1 .2) o c d (each a i (v .1 .1) c)) (each a),
       )

@@ -28,7 +28,7 @@ remove-empty [] = (refl, refl)
 remove-empty (i ∷ p) = (refl, refl)
 
 -- what was removed was a frame, with zeros after it
-frame-cases : (p : Path) (x : SpecFrame) → ((allZero p ≡ true) × (remove p (Frame x) .after ≡ Empty) × (remove p (Frame x) .ok ≡ true)) ⊎ ((remove p (Frame x) .after ≡ Frame x) × (remove p (Frame x) .ok ≡ false))
+pub frame-cases : (p : Path) (x : SpecFrame) → ((allZero p ≡ true) × (remove p (Frame x) .after ≡ Empty) × (remove p (Frame x) .ok ≡ true)) ⊎ ((remove p (Frame x) .after ≡ Frame x) × (remove p (Frame x) .ok ≡ false))
 frame-cases p x = go (allZero p) refl
   where
     go : (b : Bool) → allZero p ≡ b → ((allZero p ≡ true) × (remove p (Frame x) .after ≡ Empty) × (remove p (Frame x) .ok ≡ true)) ⊎ ((remove p (Frame x) .after ≡ Frame x) × (remove p (Frame x) .ok ≡ false))
@@ -183,7 +183,7 @@ module _ (A : Arch) where
         λ (n, m). ⊎-elim (λ e. absurd (n e)) (λ b. b) (remove-not-affect-other-mappings q y m),
       )
 
-  removed-well : (k : ℕ) (p : Path) (e : NodeEntry) → EntryValid A k e → Wf A e → EntryValid A k (remove p e .after) × Wf A (remove p e .after)
+  pub removed-well : (k : ℕ) (p : Path) (e : NodeEntry) → EntryValid A k e → Wf A e → EntryValid A k (remove p e .after) × Wf A (remove p e .after)
   removed-well k [] Empty v w = (tt, tt)
   removed-well k [] (Frame x) v w = (tt, tt)
   removed-well k [] (Node l f) v w = (v, w)

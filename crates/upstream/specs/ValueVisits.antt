@@ -46,10 +46,13 @@ put-itself f i e q = λ t j. same j t
     same : (j : ℕ) → put f i e j ≡ f j
     same j = ⊎-elim (λ (a, r). r ∙ q ∙ ap f (sym a)) (λ (_, r). r) (put-case f i e j)
 
--- so each has what the changed one and the old ones have
+-- so each has what the changed one and the others have
+pub put-rest : (P : ℕ → NodeEntry → Type 0) (f : ℕ → NodeEntry) (i : ℕ) (e : NodeEntry) → P i e → ((j : ℕ) → j ≢ i → P j (f j)) → (j : ℕ) → P j (put f i e j)
+put-rest P f i e a b j =
+    ⊎-elim (λ (q, r). subst (λ (y : NodeEntry). P j y) (sym r) (subst (λ (n : ℕ). P n e) (sym q) a)) (λ (n, r). subst (λ (y : NodeEntry). P j y) (sym r) (b j n)) (put-case f i e j)
+
 pub put-each : (P : ℕ → NodeEntry → Type 0) (f : ℕ → NodeEntry) (i : ℕ) (e : NodeEntry) → P i e → ((j : ℕ) → P j (f j)) → (j : ℕ) → P j (put f i e j)
-put-each P f i e a b j =
-    ⊎-elim (λ (q, r). subst (λ (y : NodeEntry). P j y) (sym r) (subst (λ (n : ℕ). P n e) (sym q) a)) (λ (_, r). subst (λ (y : NodeEntry). P j y) (sym r) (b j)) (put-case f i e j)
+put-each P f i e a b = put-rest P f i e a (λ j _. b j)
 
 -- ---- where a path leads: the entry y stands at the end of the path p from e
 
@@ -183,8 +186,7 @@ module _ (A : Arch) where
       → (length (visit q e) ≤ length (visit p e)) × ((i : ℕ) → i < length (visit q e) → getElem? (visit q e) i ≡ getElem? (visit p e) i)
   visit-preserves-prefix p q e (_, (r, h)) =
       let (s, g) = visit-more q r e in
-      let z : visit p e ≡ visit q e ++ s = ap (λ (x : Path). visit x e) h ∙ g in
-      (
+      let z : visit p e ≡ visit q e ++ s = ap (λ (x : Path). visit x e) h ∙ g in (
         subst (λ (l : List NodeEntry). length (visit q e) ≤ length l) (sym z) (omega (arith, length-append (visit q e) s)),
         λ i l. subst (λ (m : List NodeEntry). getElem? (visit q e) i ≡ getElem? m i) (sym z) (first (visit q e) s i l),
       )
