@@ -23,3 +23,4 @@ pub mod ValueVisits
 pub mod ValueInserts
 pub mod ValueRemoves
 pub mod ValuePrunes
+pub mod ValueCells
