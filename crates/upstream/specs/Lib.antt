@@ -24,3 +24,5 @@ pub mod ValueInserts
 pub mod ValueRemoves
 pub mod ValuePrunes
 pub mod ValueCells
+pub mod ValueTrees
+pub mod ValueMaps

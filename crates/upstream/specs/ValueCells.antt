@@ -20,7 +20,7 @@ use Rattle.upstream.specs.ValueRemoves.{remove-frame, all-empty, not-all
 
 -- K entries of a table, a root of height top, and the frame that a payload stands for at a height
 module _ (K top : ℕ) (pos : 0 < K) (φ : ℕ → ℕ → SpecFrame) where
-  abbrev pick : Ent → (ℕ → SpecFrame) → NodeEntry → NodeEntry
+  abbrev pub pick : Ent → (ℕ → SpecFrame) → NodeEntry → NodeEntry
   pick empty f n = Empty
   pick (frame x) f n = Frame (f x)
   pick table f n = n
