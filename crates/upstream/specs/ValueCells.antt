@@ -140,8 +140,7 @@ module _ (K top : ℕ) (pos : 0 < K) (φ : ℕ → ℕ → SpecFrame) where
     grown-inserted S S′ g x up D zero h k e l q =
         let z : h ≡ g = omega arith in
         let a = cell-empty S h (anc K h v) (ap (λ (j : ℕ). S j (anc K j v)) z ∙ D .vacant) in
-        let b = cell-frame S′ h (anc K h v) x (ap (λ (j : ℕ). S′ j (anc K j v)) z ∙ D .there) in
-        (
+        let b = cell-frame S′ h (anc K h v) x (ap (λ (j : ℕ). S′ j (anc K j v)) z ∙ D .there) in (
           ap (λ (y : NodeEntry). insert k [] (φ g x) y .after) a ∙ ap (λ (j : ℕ). Frame (φ j x)) (sym z) ∙ sym b,
           ap (λ (y : NodeEntry). insert k [] (φ g x) y .ok) a,
         )
@@ -167,7 +166,7 @@ module _ (K top : ℕ) (pos : 0 < K) (φ : ℕ → ℕ → SpecFrame) where
         on t s a b =
             let own = kids-own S h in
             let o : (insert (suc k) (down n h) y (kids S h r i) .after ≡ cell S′ h (anc K h v)) × (insert (suc k) (down n h) y (kids S h r i) .ok ≡ true)
-              = subst (λ (w : NodeEntry). (insert (suc k) (down n h) y w .after ≡ cell S′ h (anc K h v)) × (insert (suc k) (down n h) y w .ok ≡ true)) (sym own) (a, b)
+            = subst (λ (w : NodeEntry). (insert (suc k) (down n h) y w .after ≡ cell S′ h (anc K h v)) × (insert (suc k) (down n h) y w .ok ≡ true)) (sym own) (a, b)
             in
             let z : Inserted k (i ∷ down n h) y (Node k (kids S h r)) (Node k (kids S′ h r)) = (ap (Node k) (kids-put S S′ (D .aside) h _ (o .0)), o .1) in
             let u = cell-table S h r s ∙ ap (λ (m : ℕ). Node m (kids S h r)) (sym q) in
@@ -178,10 +177,10 @@ module _ (K top : ℕ) (pos : 0 < K) (φ : ℕ → ℕ → SpecFrame) where
         new t s a b =
             let own = cell-empty S h (anc K h v) (nothing-in S up h (anc K h v) l s) in
             let o : (insert (suc k) (down n h) y Empty .after ≡ cell S′ h (anc K h v)) × (insert (suc k) (down n h) y Empty .ok ≡ true)
-              = subst (λ (w : NodeEntry). (insert (suc k) (down n h) y w .after ≡ cell S′ h (anc K h v)) × (insert (suc k) (down n h) y w .ok ≡ true)) own (a, b)
+            = subst (λ (w : NodeEntry). (insert (suc k) (down n h) y w .after ≡ cell S′ h (anc K h v)) × (insert (suc k) (down n h) y w .ok ≡ true)) own (a, b)
             in
             let z : Inserted k (i ∷ down n h) y Empty (Node k (kids S′ h r))
-              = (ap (λ (f : ℕ → NodeEntry). Node k (put f i (insert (suc k) (down n h) y Empty .after))) (bare-kids S up h l s) ∙ ap (Node k) (kids-put S S′ (D .aside) h _ (o .0)), o .1)
+            = (ap (λ (f : ℕ → NodeEntry). Node k (put f i (insert (suc k) (down n h) y Empty .after))) (bare-kids S up h l s) ∙ ap (Node k) (kids-put S S′ (D .aside) h _ (o .0)), o .1)
             in
             let w = cell-table S′ h r t ∙ ap (λ (m : ℕ). Node m (kids S′ h r)) (sym q) in
             subst (λ (m : NodeEntry). Inserted k (i ∷ down n h) y (cell S (suc h) r) m) (sym w) (subst (λ (m : NodeEntry). Inserted k (i ∷ down n h) y m (Node k (kids S′ h r))) (sym (cell-empty S (suc h) r s)) z)

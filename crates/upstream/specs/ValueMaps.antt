@@ -137,3 +137,163 @@ module _ (G : Granule) (Z : Sane G) where
   path-is top a zero h = refl
   path-is top a (suc n) zero = refl
   path-is top a (suc n) (suc h) = let e = anc-size G Z a h in let r = path-is top a n h in λ t. (sym e t % entries G) ∷ r t
+
+-- ---- what growing does to a tree of the theory
+
+module _ (X : Geo) (M : Store X) (P : ℕ → ℕ) (g v x : ℕ) where
+  -- from the entry of height h that holds v: tables down to height g, and the frame there
+  pub record GrowsTo (h : ℕ) (S S′ : ℕ → ℕ → Ent) : Type 0 where
+    pub aside : (j r : ℕ) → r ≢ anc X.K j v → S′ j r ≡ S j r
+    pub there : S′ g (anc X.K g v) ≡ frame x
+    pub tables : (j : ℕ) → g < j → j ≤ h → S′ j (anc X.K j v) ≡ table
+    pub above : (j : ℕ) → h < j → S′ j (anc X.K j v) ≡ S j (anc X.K j v)
+
+  abbrev pub GrownTo : (C D : Type 0) (L : List Mapping) (h : ℕ) → ReadyIf X M P g v x C D L h → Type 0
+  GrownTo C D L h o = (T′ : ℕ → ℕ → ℕ) × (S′ : ℕ → ℕ → Ent) × Rendered X (M .rd (grow X M P g v x h (o .m) (o .t) (o .f) .m)) T′ S′ × GrowsTo h (o .S) S′
+
+  framed-to : (h : ℕ) (S : ℕ → ℕ → Ent) → h ≡ g → GrowsTo h S (upd S h (anc X.K h v) (frame x))
+  framed-to h S z = record {
+    aside = λ j r n. upd-other S h (anc X.K h v) (frame x) j r (λ (a, b). n (b ∙ ap (λ (i : ℕ). anc X.K i v) (sym a)));
+    there = upd-at S h (anc X.K h v) (frame x) g (anc X.K g v) (sym z, ap (λ (i : ℕ). anc X.K i v) (sym z));
+    tables = λ j a b. absurd (omega arith);
+    above = λ j c. upd-other S h (anc X.K h v) (frame x) j (anc X.K j v) (λ (a, _). omega arith);
+  }
+
+  linked-to : (h : ℕ) (S S′ : ℕ → ℕ → Ent) → GrowsTo h (upd S (suc h) (anc X.K (suc h) v) table) S′ → GrowsTo (suc h) S S′
+  linked-to h S S′ D = record {
+    aside = λ j r n. D .aside j r n ∙ upd-other S (suc h) (anc X.K (suc h) v) table j r (λ (a, b). n (b ∙ ap (λ (i : ℕ). anc X.K i v) (sym a)));
+    there = D .there;
+    tables = λ j a b. on j a b (ℕ-discrete j (suc h));
+    above = λ j c. D .above j (omega arith) ∙ upd-other S (suc h) (anc X.K (suc h) v) table j (anc X.K j v) (λ (a, _). omega arith);
+  }
+    where
+      on : (j : ℕ) → g < j → j ≤ suc h → Dec (j ≡ suc h) → S′ j (anc X.K j v) ≡ table
+      on j a b (yes q) = D .above j (omega arith) ∙ upd-at S (suc h) (anc X.K (suc h) v) table j (anc X.K j v) (q, ap (λ (i : ℕ). anc X.K i v) q)
+      on j a b (no q) = D .tables j a (omega arith)
+
+  pub grow-to : {C D : Type 0} {L : List Mapping} (h : ℕ) (o : ReadyIf X M P g v x C D L h) → GrownTo C D L h o
+  unfolding grow last more
+  grow-to zero o = let z : 0 ≡ g = omega arith in (_, _, last X M P g v x o z .inv .ren, framed-to zero (o .S) z)
+  grow-to {C} {D} {L} (suc h) o = go (ℕ-discrete (suc h) g) (λ o. grow-to h o)
+    where
+      c : ℕ
+      c = P (o .f - 1)
+
+      go : (d : Dec (suc h ≡ g)) → ((o : ReadyIf X M P g v x C D L h) → GrownTo C D L h o)
+          → (T′ : ℕ → ℕ → ℕ) × (S′ : ℕ → ℕ → Ent) × Rendered X (M .rd (mathlib.Core.Logic.ite d
+          (Rattle.tree.specs.Ops.mem {A = M} (M .wr (o .m) (o .t) (anc X.K (suc h) v % X.K) (X .enc (suc h) (frame x) 0)) (o .f))
+          (grow X M P g v x h (M .wr (M .wipe (o .m) c) (o .t) (anc X.K (suc h) v % X.K) (X .enc (suc h) table c)) c (o .f - 1)) .m)) T′ S′ × GrowsTo (suc h) (o .S) S′
+      go (yes z) ih = (_, _, last X M P g v x o z .inv .ren, framed-to (suc h) (o .S) z)
+      go (no z) ih =
+          let (T′, S′, R′, D′) = ih (more X M P g v x o z (o .f - 1) (omega arith)) in
+          (T′, S′, R′, linked-to h (o .S) S′ D′)
+
+module _ (G : Granule) (Z : Sane G) {p : Pool} (w : WfTree G p) (m : answers.Mapping) (t : ℕ) where
+  -- the call, and what it puts where
+  abbrev mapped : Done
+  mapped = mapW G p (m .at) (m .frame) (m .size) (m .attributes)
+
+  abbrev g : ℕ
+  g = heightOf G (m .size)
+
+  abbrev top : ℕ
+  top = p .numbers .levels
+
+  module _ (e : mapped .answer ≡ took t) (new : TakesNew G p t) where
+    abbrev I : SimIf G Z ⊥ ⊥ p (ledgerOf G p)
+    I = node.I G Z w m t e new {C = ⊥} (λ c. absurd c)
+
+    abbrev F : Rattle.demand.specs.Maps.Fine G top (areaOf (p .numbers)) (m .at) (m .frame) (m .size) (m .attributes)
+    F = node.F G Z w m t e new
+
+    abbrev o : ReadyIf (X G Z I) (A G Z (area G Z I) top (al G Z I)) (placeAt (p .list)) g (pg G Z (m .at)) (m .frame + m .attributes) ⊥ ⊥ (I .L) (node.went G Z w m t e new .left)
+    o = ready G Z I (m .at) (m .frame) (m .size) (m .attributes) F (node.vacant G Z w m t e new {C = ⊥} (λ c. absurd c)) (node.room G Z w m t e new {C = ⊥} (λ c. absurd c)) (node.takes G Z w m t e new {C = ⊥} (λ c. absurd c))
+
+    -- what the theory says of the call's writes
+    grown-to : GrownTo (X G Z I) (A G Z (area G Z I) top (al G Z I)) (placeAt (p .list)) g (pg G Z (m .at)) (m .frame + m .attributes) ⊥ ⊥ (I .L) (node.went G Z w m t e new .left) o
+    grown-to = grow-to (X G Z I) (A G Z (area G Z I) top (al G Z I)) (placeAt (p .list)) g (pg G Z (m .at)) (m .frame + m .attributes) (node.went G Z w m t e new .left) o
+
+    grown : Grown (entries G) top (entries-pos G) (φ G Z) (pg G Z (m .at)) (I .S) (grown-to .1) g (m .frame + m .attributes)
+    unfolding ready
+    grown = record {
+      aside = D .aside;
+      vacant = empty-below g (omega arith) (o .above);
+      there = D .there;
+      above = λ h a b. by h a b (decLt s h);
+    }
+      where
+        v : ℕ
+        v = pg G Z (m .at)
+
+        s : ℕ
+        s = node.went G Z w m t e new .left
+
+        D : GrowsTo (X G Z I) (A G Z (area G Z I) top (al G Z I)) (placeAt (p .list)) g v (m .frame + m .attributes) s (I .S) (grown-to .1)
+        D = grown-to .3
+
+        low-top : suc s ≤ top
+        low-top = R G Z I .bound (suc s) (anc (entries G) (suc s) v) (table≢empty (o .stands))
+
+        empty-below : (h : ℕ) → g ≤ h → h ≤ s → I .S h (anc (entries G) h v) ≡ empty
+        empty-below h a b = go (empty? (I .S h (anc (entries G) h v))) (ℕ-discrete h s)
+          where
+            go : Dec (I .S h (anc (entries G) h v) ≡ empty) → Dec (h ≡ s) → I .S h (anc (entries G) h v) ≡ empty
+            go (yes q) d = q
+            go (no q) (yes d) = absurd (q (ap (λ (j : ℕ). I .S j (anc (entries G) j v)) d ∙ o .vacant))
+            go (no q) (no d) = absurd (table≢empty (chain (R G Z I) v h q s (omega arith) (omega (arith, low-top))) (o .vacant))
+
+        over : (h : ℕ) → s < h → h ≤ top → Dec (suc s ≡ h) → I .S h (anc (entries G) h v) ≡ table
+        over h a b (yes q) = subst (λ (j : ℕ). I .S j (anc (entries G) j v) ≡ table) q (o .stands)
+        over h a b (no q) = chain (R G Z I) v (suc s) (table≢empty (o .stands)) h (omega arith) b
+
+        by : (h : ℕ) → g < h → h ≤ top → Dec (s < h) → (grown-to .1 h (anc (entries G) h v) ≡ table) × ((I .S h (anc (entries G) h v) ≡ table) ⊎ (I .S h (anc (entries G) h v) ≡ empty))
+        by h a b (yes l) = let q = over h l b (ℕ-discrete (suc s) h) in (D .above h l ∙ q, inl q)
+        by h a b (no l) = (D .tables h a (omega arith), inr (empty-below h (omega arith) (omega arith)))
+
+    -- a map that takes tables which are none of the tree does to the tree what upstream's insert does, and insert succeeds
+    pub map-is-insert : (treeOf G (mapped .after) ≡ insert 0 (pathTo G top (m .at) g) (frameOf m) (treeOf G p) .after) × (insert 0 (pathTo G top (m .at) g) (frameOf m) (treeOf G p) .ok ≡ true)
+    unfolding ready
+    map-is-insert = (
+      after ∙ sym (inserted .0) ∙ (λ i. insert 0 (path i) (frame-is i) (before i) .after),
+      sym (λ i. insert 0 (path i) (frame-is i) (before i) .ok) ∙ inserted .1,
+    )
+      where
+        v : ℕ
+        v = pg G Z (m .at)
+
+        x : ℕ
+        x = m .frame + m .attributes
+
+        cells : (ℕ → ℕ → Ent) → NodeEntry
+        cells S = cell (entries G) top (entries-pos G) (φ G Z) S top 0
+
+        around : anc (entries G) top v ≡ 0
+        around = ap (λ (j : ℕ). anc (entries G) j v) (sym (root-at G Z I)) ∙ top-zero G Z I (m .at) (F .start-in)
+
+        before : cells (I .S) ≡ treeOf G p
+        before = sym (root-is G Z (area G Z I) top (al G Z I) (p .words) (R G Z I) (top - 1) (root-at G Z I))
+
+        path : down (entries G) top (entries-pos G) (φ G Z) v (top - g) top ≡ pathTo G top (m .at) g
+        path = sym (path-is G Z top (m .at) (top - g) top)
+
+        frame-is : φ G Z g x ≡ frameOf m
+        frame-is = ap frameOf (new-shown G Z I (m .at) (m .frame) (m .size) (m .attributes) F)
+
+        inserted : (insert 0 (down (entries G) top (entries-pos G) (φ G Z) v (top - g) top) (φ G Z g x) (cells (I .S)) .after ≡ cells (grown-to .1))
+            × (insert 0 (down (entries G) top (entries-pos G) (φ G Z) v (top - g) top) (φ G Z g x) (cells (I .S)) .ok ≡ true)
+        inserted = subst (λ (r : ℕ). (insert 0 (down (entries G) top (entries-pos G) (φ G Z) v (top - g) top) (φ G Z g x) (cell (entries G) top (entries-pos G) (φ G Z) (I .S) top r) .after ≡ cell (entries G) top (entries-pos G) (φ G Z) (grown-to .1) top r)
+            × (insert 0 (down (entries G) top (entries-pos G) (φ G Z) v (top - g) top) (φ G Z g x) (cell (entries G) top (entries-pos G) (φ G Z) (I .S) top r) .ok ≡ true)) around
+            (grown-inserted (entries G) top (entries-pos G) (φ G Z) v (I .S) (grown-to .1) g x (R G Z I .up) grown (top - g) top 0
+            (omega (arith, low G Z I (m .at) (m .frame) (m .size) (m .attributes) F, root-at G Z I)) (omega arith) (omega arith))
+
+        words : mapped .after .words ≡ grow (X G Z I) (A G Z (area G Z I) top (al G Z I)) (placeAt (p .list)) g v x (node.went G Z w m t e new .left) (o .m) (o .t) (o .f) .m
+        words = let (_, a, _, b) = map-took G p (m .at) (m .frame) (m .size) (m .attributes) t e in
+            ap (λ (q : Pool). q .words) b
+            ∙ ap (λ (q : Memory). q .words) (carried G Z I (m .at) (m .frame) (m .size) (m .attributes) F (node.vacant G Z w m t e new {C = ⊥} (λ c. absurd c)) (node.room G Z w m t e new {C = ⊥} (λ c. absurd c)))
+
+        numbers : (areaOf (mapped .after .numbers) ≡ areaOf (p .numbers)) × (mapped .after .numbers .levels ≡ top)
+        numbers = let (_, a, _, b) = map-took G p (m .at) (m .frame) (m .size) (m .attributes) t e in (ap (λ (q : Pool). areaOf (q .numbers)) b, ap (λ (q : Pool). q .numbers .levels) b)
+
+        after : treeOf G (mapped .after) ≡ cells (grown-to .1)
+        after = (λ i. nodeAt G (words i) (numbers .0 i) (numbers .1 i) (numbers .1 i) 0)
+            ∙ root-is G Z (area G Z I) top (al G Z I) _ (grown-to .2) (top - 1) (root-at G Z I)
