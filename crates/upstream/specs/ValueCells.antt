@@ -184,3 +184,114 @@ module _ (K top : ℕ) (pos : 0 < K) (φ : ℕ → ℕ → SpecFrame) where
             in
             let w = cell-table S′ h r t ∙ ap (λ (m : ℕ). Node m (kids S′ h r)) (sym q) in
             subst (λ (m : NodeEntry). Inserted k (i ∷ down n h) y (cell S (suc h) r) m) (sym w) (subst (λ (m : NodeEntry). Inserted k (i ∷ down n h) y m (Node k (kids S′ h r))) (sym (cell-empty S (suc h) r s)) z)
+
+    -- ---- remove and prune
+
+    -- the frame at the region of height g that holds v is gone, and so is each table above it, below the root, that has no entry then
+    pub record Cut (S S′ : ℕ → ℕ → Ent) (g x : ℕ) : Type 0 where
+      pub aside : Aside S S′
+      pub was : S g (anc K g v) ≡ frame x
+      pub gone : S′ g (anc K g v) ≡ empty
+      pub tables : (h : ℕ) → g < h → h ≤ top → S h (anc K h v) ≡ table
+      pub root : S′ top (anc K top v) ≡ table
+      pub leaf : (r : ℕ) → S′ 0 r ≢ table
+      pub each : (h : ℕ) → g ≤ h → suc h < top
+          → ((S′ (suc h) (anc K (suc h) v) ≡ empty) × ((r : ℕ) → r / K ≡ anc K (suc h) v → S′ h r ≡ empty))
+          ⊎ ((S′ (suc h) (anc K (suc h) v) ≡ table) × ((r : ℕ) × (r / K ≡ anc K (suc h) v) × (S′ h r ≢ empty)))
+
+    all-empty-of : (n : ℕ) (f : ℕ → NodeEntry) → ((i : ℕ) → i < n → f i ≡ Empty) → allEmpty n f ≡ true
+    all-empty-of zero f h = refl
+    all-empty-of (suc n) f h = ap (λ (e : NodeEntry). cond (isEmpty e) (allEmpty n f) false) (h n (omega arith)) ∙ all-empty-of n f (λ i l. h i (omega arith))
+
+    put-twice : (f : ℕ → NodeEntry) (i : ℕ) (a b : NodeEntry) → put (put f i a) i b ≡ put f i b
+    put-twice f i a b = λ t j. at j t
+      where
+        at : (j : ℕ) → put (put f i a) i b j ≡ put f i b j
+        at j = ⊎-elim
+            (λ (q, r). r ∙ sym (ap (put f i b) q ∙ put-same f i b))
+            (λ (n, r). r ∙ ⊎-elim (λ (q, _). absurd (n q)) (λ (_, s). s) (put-case f i a j) ∙ sym (⊎-elim (λ (q, _). absurd (n q)) (λ (_, s). s) (put-case f i b j)))
+            (put-case (put f i a) i b j)
+
+    cell-some : (S : ℕ → ℕ → Ent) → ((r : ℕ) → S 0 r ≢ table) → (h r : ℕ) → S h r ≢ empty → isEmpty (cell S h r) ≡ false
+    cell-some S leaf zero r n = go (S zero r) refl
+      where
+        go : (e : Ent) → S zero r ≡ e → isEmpty (pick e (φ zero) Empty) ≡ false
+        go empty q = absurd (n q)
+        go (frame x) q = refl
+        go table q = absurd (leaf r q)
+    cell-some S leaf (suc h) r n = go (S (suc h) r) refl
+      where
+        go : (e : Ent) → S (suc h) r ≡ e → isEmpty (pick e (φ (suc h)) (Node (top - suc h) (kids S h r))) ≡ false
+        go empty q = absurd (n q)
+        go (frame x) q = refl
+        go table q = refl
+
+    -- the architecture: its frame sizes are not asked for
+    module _ (σ : ℕ → ℕ) where
+      abbrev arch : Arch
+      arch = record { levels = top; count = λ l. K; sizeOf = σ }
+
+      trim-empty : (p : Path) → trim arch p Empty ≡ Empty
+      trim-empty [] = refl
+      trim-empty (i ∷ p) = refl
+
+      module _ (S S′ : ℕ → ℕ → Ent) (g x : ℕ) (D : Cut S S′ g x) (zeros : allZero (down g g) ≡ true) where
+        removed-ok : (n h : ℕ) → h ≡ g + n → h ≤ top → remove (down h h) (cell S h (anc K h v)) .ok ≡ true
+        removed-ok zero h e l =
+            let z : h ≡ g = omega arith in
+            subst (λ (j : ℕ). remove (down j j) (cell S j (anc K j v)) .ok ≡ true) (sym z)
+            (ap (λ (y : NodeEntry). remove (down g g) y .ok) (cell-frame S g (anc K g v) x (D .was)) ∙ remove-frame (down g g) (φ g x) .0 zeros .1)
+        removed-ok (suc n) zero e l = absurd (omega arith)
+        removed-ok (suc n) (suc h) e l =
+            ap (λ (y : NodeEntry). remove (down (suc h) (suc h)) y .ok) (cell-table S h (anc K (suc h) v) (D .tables (suc h) (omega arith) l))
+            ∙ ap (λ (y : NodeEntry). remove (down h h) y .ok) (kids-own S h) ∙ removed-ok n h (omega arith) (omega arith)
+
+        -- the entries of a node on the way, once its own entry is trimmed
+        trimmed-kids : (h : ℕ) → trim arch (down h h) (remove (down h h) (cell S h (anc K h v)) .after) ≡ cell S′ h (anc K h v)
+            → put (put (kids S h (anc K (suc h) v)) (anc K h v % K) (remove (down h h) (kids S h (anc K (suc h) v) (anc K h v % K)) .after)) (anc K h v % K)
+            (trim arch (down h h) (put (kids S h (anc K (suc h) v)) (anc K h v % K) (remove (down h h) (kids S h (anc K (suc h) v) (anc K h v % K)) .after) (anc K h v % K)))
+            ≡ kids S′ h (anc K (suc h) v)
+        trimmed-kids h q =
+            put-twice (kids S h (anc K (suc h) v)) (anc K h v % K) _ _
+            ∙ kids-put S S′ (D .aside) h _
+            (ap (trim arch (down h h)) (put-same (kids S h (anc K (suc h) v)) (anc K h v % K) _ ∙ ap (λ (y : NodeEntry). remove (down h h) y .after) (kids-own S h)) ∙ q)
+
+        below-root : (n h : ℕ) → h ≡ g + n → h < top → trim arch (down h h) (remove (down h h) (cell S h (anc K h v)) .after) ≡ cell S′ h (anc K h v)
+        below-root zero h e l =
+            let z : h ≡ g = omega arith in
+            subst (λ (j : ℕ). trim arch (down j j) (remove (down j j) (cell S j (anc K j v)) .after) ≡ cell S′ j (anc K j v)) (sym z)
+            (ap (λ (y : NodeEntry). trim arch (down g g) (remove (down g g) y .after)) (cell-frame S g (anc K g v) x (D .was))
+            ∙ ap (trim arch (down g g)) (remove-frame (down g g) (φ g x) .0 zeros .0) ∙ trim-empty (down g g) ∙ sym (cell-empty S′ g (anc K g v) (D .gone)))
+        below-root (suc n) zero e l = absurd (omega arith)
+        below-root (suc n) (suc h) e l =
+            ap (λ (y : NodeEntry). trim arch (down (suc h) (suc h)) (remove (down (suc h) (suc h)) y .after)) (cell-table S h (anc K (suc h) v) (D .tables (suc h) (omega arith) (omega arith)))
+            ∙ ap (trimmed arch (top - suc h)) (trimmed-kids h (below-root n h (omega arith) (omega arith)))
+            ∙ ⊎-elim none some (D .each h (omega arith) l)
+          where
+            r : ℕ
+            r = anc K (suc h) v
+
+            none : (S′ (suc h) r ≡ empty) × ((c : ℕ) → c / K ≡ r → S′ h c ≡ empty) → trimmed arch (top - suc h) (kids S′ h r) ≡ cell S′ (suc h) r
+            none (a, b) = ap (λ (c : Bool). cond c Empty (Node (top - suc h) (kids S′ h r)))
+                (all-empty-of K (kids S′ h r) (λ i m. up-to-in (λ c. cell S′ h (r * K + c)) i m ∙ cell-empty S′ h (r * K + i) (b (r * K + i) (digits-div r m)))) ∙ sym (cell-empty S′ (suc h) r a)
+
+            some : (S′ (suc h) r ≡ table) × ((c : ℕ) × (c / K ≡ r) × (S′ h c ≢ empty)) → trimmed arch (top - suc h) (kids S′ h r) ≡ cell S′ (suc h) r
+            some (a, (c, q, n)) = by (allEmpty K (kids S′ h r)) refl
+              where
+                own : kids S′ h r (c % K) ≡ cell S′ h c
+                own = up-to-in (λ i. cell S′ h (r * K + i)) (c % K) (mod-lt c pos) ∙ ap (cell S′ h) (ap (λ (y : ℕ). y * K + c % K) (sym q) ∙ div-add-mod' c K)
+
+                by : (b : Bool) → allEmpty K (kids S′ h r) ≡ b → trimmed arch (top - suc h) (kids S′ h r) ≡ cell S′ (suc h) r
+                by true z = absurd (true≢false (sym (ap isEmpty (sym own ∙ all-empty K (kids S′ h r) z (c % K) (mod-lt c pos))) ∙ cell-some S′ (D .leaf) h c n))
+                by false z = ap (λ (b : Bool). cond b Empty (Node (top - suc h) (kids S′ h r))) z ∙ sym (cell-table S′ h r a)
+
+        -- at the root
+        pub cut-removed : (k : ℕ) → suc k ≡ top → g < top
+            → (prune arch (down top top) (remove (down top top) (cell S top (anc K top v)) .after) ≡ cell S′ top (anc K top v)) × (remove (down top top) (cell S top (anc K top v)) .ok ≡ true)
+        cut-removed k e l = (subst (λ (j : ℕ). prune arch (down j j) (remove (down j j) (cell S j (anc K j v)) .after) ≡ cell S′ j (anc K j v)) e at, removed-ok (top - g) top (omega arith) (omega arith))
+          where
+            at : prune arch (down (suc k) (suc k)) (remove (down (suc k) (suc k)) (cell S (suc k) (anc K (suc k) v)) .after) ≡ cell S′ (suc k) (anc K (suc k) v)
+            at =
+                ap (λ (y : NodeEntry). prune arch (down (suc k) (suc k)) (remove (down (suc k) (suc k)) y .after)) (cell-table S k (anc K (suc k) v) (D .tables (suc k) (omega arith) (omega arith)))
+                ∙ ap (Node (top - suc k)) (trimmed-kids k (below-root (k - g) k (omega arith) (omega arith)))
+                ∙ sym (cell-table S′ k (anc K (suc k) v) (ap (λ (j : ℕ). S′ j (anc K j v)) e ∙ D .root))
