@@ -26,3 +26,4 @@ pub mod ValuePrunes
 pub mod ValueCells
 pub mod ValueTrees
 pub mod ValueMaps
+pub mod ValueUnmaps
