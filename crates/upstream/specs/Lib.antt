@@ -9,6 +9,10 @@
 --   Node    tree.rs: insert, of a tree of which no more is known than that it is well-formed
 --   Remove  tree.rs: remove and prune of such a tree
 --   Memory  pt_mem.rs, table.rs: where tables stand, what a write changes, which tables are taken and given back
+--   Values  pt_arch.rs, path.rs, tree.rs: upstream's tree as a value, with its own definitions; any architecture, any node
+--   ValueVisits, ValueInserts, ValueRemoves, ValuePrunes   the lemmas on it, each as upstream has it
+--   ValueTrees   the tree in a pool's words as such a node
+--   ValueCells, ValueMaps, ValueUnmaps   a map does to it what insert does, an unmap what remove and prune do
 pub mod State
 pub mod Facts
 pub mod Calls
