@@ -31,3 +31,4 @@ pub mod ValueCells
 pub mod ValueTrees
 pub mod ValueMaps
 pub mod ValueUnmaps
+pub mod ValueMappings
