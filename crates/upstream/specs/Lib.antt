@@ -32,3 +32,4 @@ pub mod ValueTrees
 pub mod ValueMaps
 pub mod ValueUnmaps
 pub mod ValueMappings
+pub mod ValueRefusals

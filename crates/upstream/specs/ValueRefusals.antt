@@ -1,0 +1,118 @@
+-- Where a map or an unmap of a well-formed tree is refused for what it meets there, upstream's insert or remove of that tree fails.
+use mathlib.Core.Path.{_≡_, refl, ap, sym, _∙_, subst}
+use mathlib.Core.Logic.{_≢_, _⊎_, inl, inr, ⊎-elim}
+use mathlib.Core.Bool.{Bool, true, false, cond}
+use mathlib.Core.List.{List, [], _∷_}
+use Prim.Native.Nat.{ℕ, zero, suc, _+_, _-_, _%_, _≤_, _<_}
+use native.Mathlib.Omega.{arith}
+use lib.Dec.{ltb, eqb}
+use lib.ListN.{length, take, replicate}
+use borrow.Author.Tests.{eqb-false}
+use Rattle.laws.specs.Lists.{allZero}
+use Rattle.laws.specs.ListLaws.{allZero-at, allZero-of}
+use Rattle.path.specs.Geometry.{Granule, pageSize, entries, sizeAt, spaceOf, heightOf, Sane}
+use Rattle.path.specs.Areas.{areaOf, total}
+use Rattle.path.specs.Laws.{entries-pos, good-setup}
+use Rattle.path.specs.Paths.{indices, baseAt}
+use Rattle.path.specs.PathLaws.{indices-length}
+use Rattle.path.specs.RegionLaws.{zeros-aligned}
+use Rattle.entry.specs.declared.Entry.{Entry}
+use Rattle.entry.specs.declared.Entry.the-variants as said
+use Rattle.model.specs.Answers as answers
+use Rattle.model.specs.Answers.{took, gave, refused, hole, Pool, done, refuse}
+use Rattle.model.specs.declared.Walked.{Walked}
+use Rattle.model.specs.Writes.{mayTake, freed}
+use Rattle.model.specs.Calls.{goodPool, walkTo, written, mapTests, mapHere, mapAt, mapW, unmapTests, unmapHere, unmapAt, unmapW}
+use Rattle.tree.specs.Region.{anc}
+use Rattle.tree.specs.Tree.{Ent, empty, frame, table}
+use Rattle.demand.specs.Shown.{pg}
+use Rattle.demand.specs.Arm.{readEntry}
+use Rattle.demand.specs.Walks.{Ended, entry-table}
+use Rattle.demand.specs.Holds.{WfTree, ledgerOf}
+use Rattle.demand.specs.Sims.{SimIf, wf-sim}
+use Rattle.demand.specs.Queries.{area, al, X, R, k₀, few, root-at, top-zero, walk-ended, tables-above, entry-empty, entry-frame}
+use Rattle.demand.specs.Maps.{Fine, tests-fine}
+use Rattle.upstream.specs.State.{MapPre, UnmapPre}
+use Rattle.upstream.specs.Trait.{map-pre, unmap-pre}
+use Rattle.upstream.specs.Calls.{took-not, gave-not, writesOfMap, writesOfUnmap}
+use Rattle.upstream.specs.Values.{SpecFrame, NodeEntry, Node, Frame, Empty, Path, insert, remove}
+use Rattle.upstream.specs.ValueRemoves.{remove-frame, remove-empty}
+use Rattle.upstream.specs.ValueTrees.{frameOf, pathTo, treeOf}
+use Rattle.upstream.specs.ValueCells.{cell, cell-empty, cell-frame, cell-table, kids-own, down}
+use Rattle.upstream.specs.ValueMaps.{φ, root-is, path-is}
+
+into-frame : (k : ℕ) (p : Path) (y z : SpecFrame) → insert k p y (Frame z) .ok ≡ false
+into-frame k [] y z = refl
+into-frame k (i ∷ p) y z = refl
+
+-- ---- of the theory's tree, with tables above height s
+
+module _ (K top : ℕ) (pos : 0 < K) (ψ : ℕ → ℕ → SpecFrame) (v : ℕ) (S : ℕ → ℕ → Ent) (leaf : (r : ℕ) → S 0 r ≢ table) (s : ℕ) (over : (h : ℕ) → s < h → h ≤ top → S h (anc K h v) ≡ table) where
+  abbrev at : ℕ → NodeEntry
+  at h = cell K top pos ψ S h (anc K h v)
+
+  -- a frame, or a table at the target, stops an insert
+  insert-stops : (g : ℕ) (y : SpecFrame) → g ≤ s → ((x : ℕ) × (S s (anc K s v) ≡ frame x)) ⊎ ((s ≡ g) × (S s (anc K s v) ≡ table))
+      → (m n h k : ℕ) → h ≡ s + m → h ≡ g + n → h ≤ top → insert k (down K top pos ψ v n h) y (at h) .ok ≡ false
+  insert-stops g y l (inl (x, q)) zero n h k e d b =
+      let z : h ≡ s = omega arith in
+      ap (λ (u : NodeEntry). insert k (down K top pos ψ v n h) y u .ok) (ap at z ∙ cell-frame K top pos ψ S s (anc K s v) x q) ∙ into-frame k (down K top pos ψ v n h) y (ψ s x)
+  insert-stops g y l (inr (c, q)) zero zero zero k e d b = absurd (leaf (anc K 0 v) (let z : 0 ≡ s = omega arith in ap (λ (i : ℕ). S i (anc K i v)) z ∙ q))
+  insert-stops g y l (inr (c, q)) zero zero (suc h) k e d b =
+      ap (λ (u : NodeEntry). insert k [] y u .ok) (cell-table K top pos ψ S h (anc K (suc h) v) (let z : suc h ≡ s = omega arith in ap (λ (i : ℕ). S i (anc K i v)) z ∙ q))
+  insert-stops g y l (inr (c, q)) zero (suc n) h k e d b = absurd (omega arith)
+  insert-stops g y l a (suc m) zero h k e d b = absurd (omega arith)
+  insert-stops g y l a (suc m) (suc n) zero k e d b = absurd (omega arith)
+  insert-stops g y l a (suc m) (suc n) (suc h) k e d b =
+      ap (λ (u : NodeEntry). insert k ((anc K h v % K) ∷ down K top pos ψ v n h) y u .ok) (cell-table K top pos ψ S h (anc K (suc h) v) (over (suc h) (omega arith) b))
+      ∙ ap (λ (u : NodeEntry). insert (suc (top - suc h)) (down K top pos ψ v n h) y u .ok) (kids-own K top pos ψ v S h)
+      ∙ insert-stops g y l a m n h (suc (top - suc h)) (omega arith) (omega arith) (omega arith)
+
+  -- an empty entry, or a frame with more than zeros after it, stops a remove
+  remove-stops : (S s (anc K s v) ≡ empty) ⊎ (((x : ℕ) × (S s (anc K s v) ≡ frame x)) × (allZero (down K top pos ψ v s s) ≡ false))
+      → (m h : ℕ) → h ≡ s + m → h ≤ top → remove (down K top pos ψ v h h) (at h) .ok ≡ false
+  remove-stops (inl q) zero h e b =
+      let z : h ≡ s = omega arith in
+      ap (λ (u : NodeEntry). remove (down K top pos ψ v h h) u .ok) (ap at z ∙ cell-empty K top pos ψ S s (anc K s v) q) ∙ remove-empty (down K top pos ψ v h h) .1
+  remove-stops (inr ((x, q), n)) zero h e b =
+      let z : h ≡ s = omega arith in
+      ap (λ (i : ℕ). remove (down K top pos ψ v i i) (at i) .ok) z
+      ∙ ap (λ (u : NodeEntry). remove (down K top pos ψ v s s) u .ok) (cell-frame K top pos ψ S s (anc K s v) x q) ∙ remove-frame (down K top pos ψ v s s) (ψ s x) .1 n .1
+  remove-stops a (suc m) zero e b = absurd (omega arith)
+  remove-stops a (suc m) (suc h) e b =
+      ap (λ (u : NodeEntry). remove ((anc K h v % K) ∷ down K top pos ψ v h h) u .ok) (cell-table K top pos ψ S h (anc K (suc h) v) (over (suc h) (omega arith) b))
+      ∙ ap (λ (u : NodeEntry). remove (down K top pos ψ v h h) u .ok) (kids-own K top pos ψ v S h)
+      ∙ remove-stops a m h (omega arith) (omega arith)
+
+-- ---- of a pool's words
+
+module _ (G : Granule) (Z : Sane G) {p : Pool} (w : WfTree G p) (good : goodPool G p ≡ true) where
+  abbrev I : SimIf G Z ⊥ ⊥ p (ledgerOf G p)
+  I = wf-sim G Z (good-setup good) w (λ c. absurd c)
+
+  abbrev top : ℕ
+  top = p .numbers .levels
+
+  module _ (a : ℕ) (in-space : a < spaceOf G top) where
+    abbrev v : ℕ
+    v = pg G Z a
+
+    tree-is : treeOf G p ≡ cell (entries G) top (entries-pos G) (φ G Z) (I .S) top (anc (entries G) top v)
+    tree-is = root-is G Z (area G Z I) top (al G Z I) (p .words) (R G Z I) (top - 1) (root-at G Z I)
+        ∙ ap (cell (entries G) top (entries-pos G) (φ G Z) (I .S) top) (sym (ap (λ (j : ℕ). anc (entries G) j v) (sym (root-at G Z I)) ∙ top-zero G Z I a in-space))
+
+    module _ (g : ℕ) (low : g ≤ k₀ G Z I) where
+      abbrev o : Walked
+      o = walkTo G p g a
+
+      abbrev E : Ended G Z (area G Z I) top (al G Z I) (few G Z I) (p .words) (R G Z I) a g (k₀ G Z I) o
+      E = walk-ended G Z I g a low in-space
+
+      abbrev Stood : Type 0
+      Stood = ((x : ℕ) × (I .S (o .left) (anc (entries G) (o .left) v) ≡ frame x)) ⊎ ((o .left ≡ g) × (I .S (o .left) (anc (entries G) (o .left) v) ≡ table))
+
+      -- the walk ends at a frame or a table
+      insert-fails : (y : SpecFrame) → Stood → insert 0 (pathTo G top a g) y (treeOf G p) .ok ≡ false
+      insert-fails y q = (λ i. insert 0 (path-is G Z top a (top - g) top i) y (tree-is i) .ok)
+          ∙ insert-stops (entries G) top (entries-pos G) (φ G Z) v (I .S) (R G Z I .leaf) (o .left) (tables-above G Z I g a o E) g y (E .ends .target low) q
+          (top - o .left) (top - g) top 0 (omega (arith, E .ends .low, root-at G Z I)) (omega (arith, root-at G Z I)) (omega arith)
