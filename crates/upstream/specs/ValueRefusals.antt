@@ -31,7 +31,7 @@ use Rattle.demand.specs.Walks.{Ended, entry-table}
 use Rattle.demand.specs.Holds.{WfTree, ledgerOf}
 use Rattle.demand.specs.Sims.{SimIf, wf-sim}
 use Rattle.demand.specs.Queries.{area, al, X, R, k₀, few, root-at, top-zero, walk-ended, tables-above, entry-empty, entry-frame}
-use Rattle.demand.specs.Maps.{Fine, tests-fine}
+use Rattle.demand.specs.Maps.{Fine, tests-fine, low}
 use Rattle.upstream.specs.State.{MapPre, UnmapPre}
 use Rattle.upstream.specs.Trait.{map-pre, unmap-pre}
 use Rattle.upstream.specs.Calls.{took-not, gave-not, writesOfMap, writesOfUnmap}
@@ -40,6 +40,7 @@ use Rattle.upstream.specs.ValueRemoves.{remove-frame, remove-empty}
 use Rattle.upstream.specs.ValueTrees.{frameOf, pathTo, treeOf}
 use Rattle.upstream.specs.ValueCells.{cell, cell-empty, cell-frame, cell-table, kids-own, down}
 use Rattle.upstream.specs.ValueMaps.{φ, root-is, path-is}
+use Rattle.upstream.specs.ValueUnmaps.{whole}
 
 into-frame : (k : ℕ) (p : Path) (y z : SpecFrame) → insert k p y (Frame z) .ok ≡ false
 into-frame k [] y z = refl
@@ -101,12 +102,12 @@ module _ (G : Granule) (Z : Sane G) {p : Pool} (w : WfTree G p) (good : goodPool
     tree-is = root-is G Z (area G Z I) top (al G Z I) (p .words) (R G Z I) (top - 1) (root-at G Z I)
         ∙ ap (cell (entries G) top (entries-pos G) (φ G Z) (I .S) top) (sym (ap (λ (j : ℕ). anc (entries G) j v) (sym (root-at G Z I)) ∙ top-zero G Z I a in-space))
 
-    module _ (g : ℕ) (low : g ≤ k₀ G Z I) where
+    module _ (g : ℕ) (lower : g ≤ k₀ G Z I) where
       abbrev o : Walked
       o = walkTo G p g a
 
       abbrev E : Ended G Z (area G Z I) top (al G Z I) (few G Z I) (p .words) (R G Z I) a g (k₀ G Z I) o
-      E = walk-ended G Z I g a low in-space
+      E = walk-ended G Z I g a lower in-space
 
       abbrev Stood : Type 0
       Stood = ((x : ℕ) × (I .S (o .left) (anc (entries G) (o .left) v) ≡ frame x)) ⊎ ((o .left ≡ g) × (I .S (o .left) (anc (entries G) (o .left) v) ≡ table))
@@ -114,5 +115,108 @@ module _ (G : Granule) (Z : Sane G) {p : Pool} (w : WfTree G p) (good : goodPool
       -- the walk ends at a frame or a table
       insert-fails : (y : SpecFrame) → Stood → insert 0 (pathTo G top a g) y (treeOf G p) .ok ≡ false
       insert-fails y q = (λ i. insert 0 (path-is G Z top a (top - g) top i) y (tree-is i) .ok)
-          ∙ insert-stops (entries G) top (entries-pos G) (φ G Z) v (I .S) (R G Z I .leaf) (o .left) (tables-above G Z I g a o E) g y (E .ends .target low) q
+          ∙ insert-stops (entries G) top (entries-pos G) (φ G Z) v (I .S) (R G Z I .leaf) (o .left) (tables-above G Z I g a o E) g y (E .ends .target lower) q
           (top - o .left) (top - g) top 0 (omega (arith, E .ends .low, root-at G Z I)) (omega (arith, root-at G Z I)) (omega arith)
+
+    -- the walk to the last level ends at an empty entry, or at a frame that does not begin at the address
+    remove-fails : (let s = walkTo G p 0 a .left in (I .S s (anc (entries G) s v) ≡ empty) ⊎ (((x : ℕ) × (I .S s (anc (entries G) s v) ≡ frame x)) × ((a % pageSize G ≡ 0) × (a % sizeAt G s ≢ 0))))
+        → remove (pathTo G top a 0) (treeOf G p) .ok ≡ false
+    remove-fails q = (λ i. remove (path i) (tree-is i) .ok)
+        ∙ remove-stops (entries G) top (entries-pos G) (φ G Z) v (I .S) (R G Z I .leaf) s (tables-above G Z I 0 a (walkTo G p 0 a) E₀) (⊎-elim (λ z. inl z) (λ (f, (c, d)). inr (f, some c d)) q)
+        (top - s) top (omega (arith, E₀ .ends .low, root-at G Z I)) (omega arith)
+      where
+        s : ℕ
+        s = walkTo G p 0 a .left
+
+        E₀ : Ended G Z (area G Z I) top (al G Z I) (few G Z I) (p .words) (R G Z I) a 0 (k₀ G Z I) (walkTo G p 0 a)
+        E₀ = walk-ended G Z I 0 a (omega arith) in-space
+
+        path : pathTo G top a 0 ≡ down (entries G) top (entries-pos G) (φ G Z) v top top
+        path = let z : top - 0 ≡ top = omega arith in ap (λ (n : ℕ). take n (indices G a top)) z ∙ path-is G Z top a top top
+
+        zeros-list : (l : List ℕ) → allZero l ≡ true → l ≡ replicate (length l) 0
+        zeros-list [] e = refl
+        zeros-list (i ∷ l) e = let h = allZero-at (i ∷ l) e 0 in let r = zeros-list l (allZero-of l (λ j _. allZero-at (i ∷ l) e (suc j))) in λ t. h t ∷ r t
+
+        some : a % pageSize G ≡ 0 → a % sizeAt G s ≢ 0 → allZero (down (entries G) top (entries-pos G) (φ G Z) v s s) ≡ false
+        some c d = go (allZero (down (entries G) top (entries-pos G) (φ G Z) v s s)) refl
+          where
+            go : (b : Bool) → allZero (down (entries G) top (entries-pos G) (φ G Z) v s s) ≡ b → b ≡ false
+            go false e = refl
+            go true e =
+                let is : indices G a s ≡ down (entries G) top (entries-pos G) (φ G Z) v s s = sym (whole s (indices G a s) (omega (arith, indices-length G a s))) ∙ path-is G Z top a s s in
+                absurd (d (zeros-aligned G a s c (zeros-list (indices G a s) (ap allZero is ∙ e) ∙ ap (λ (n : ℕ). replicate n 0) (indices-length G a s))))
+
+  -- refusal 6: insert fails
+  pub map-refused : (m : answers.Mapping) → MapPre G (ledgerOf G p) m → mapW G p (m .at) (m .frame) (m .size) (m .attributes) .answer ≡ refused 6
+      → insert 0 (pathTo G top (m .at) (heightOf G (m .size))) (frameOf m) (treeOf G p) .ok ≡ false
+  unfolding mapW mapAt mapHere
+  map-refused m ok e = by (o₁ .entry) refl (rw (good, tests) at e)
+    where
+      tests : mapTests G top (areaOf (p .numbers)) (m .at) (m .frame) (m .size) (m .attributes) ≡ 0
+      tests = map-pre G Z (ledgerOf G p) (good-setup good .numbers .enough) (good-setup good .numbers .not-more) m .1 ok
+
+      F : Fine G top (areaOf (p .numbers)) (m .at) (m .frame) (m .size) (m .attributes)
+      F = tests-fine G top (areaOf (p .numbers)) (m .at) (m .frame) (m .size) (m .attributes) tests
+
+      g : ℕ
+      g = heightOf G (m .size)
+
+      lower : g ≤ k₀ G Z I
+      lower = low G Z I (m .at) (m .frame) (m .size) (m .attributes) F
+
+      o₁ : Walked
+      o₁ = walkTo G p g (m .at)
+
+      E₁ : Ended G Z (area G Z I) top (al G Z I) (few G Z I) (p .words) (R G Z I) (m .at) g (k₀ G Z I) o₁
+      E₁ = walk-ended G Z I g (m .at) lower (F .start-in)
+
+      Fails : Type 0
+      Fails = insert 0 (pathTo G top (m .at) g) (frameOf m) (treeOf G p) .ok ≡ false
+
+      by : (n : Entry) → o₁ .entry ≡ n → mapAt G p (m .at) (m .frame) g (m .attributes) o₁ n .answer ≡ refused 6 → Fails
+      by (said.Frame b x) q e = insert-fails (m .at) (F .start-in) g lower (frameOf m) (inl (b + x, entry-frame _ _ (b + x) (ap readEntry (sym q) ∙ E₁ .ends .says-is)))
+      by (said.Table c) q e =
+          let s = entry-table _ _ c (ap readEntry (sym q) ∙ E₁ .ends .says-is) .0 in
+          insert-fails (m .at) (F .start-in) g lower (frameOf m) (inr (⊎-elim (λ n. absurd (n s)) (λ z. z) (E₁ .ends .done), s))
+      by said.Damaged q e = let z : _≡_ {A = ℕ} 6 8 = cc in absurd (omega arith)
+      by said.Empty q e = at₁ (ltb (p .numbers .free) (o₁ .left - g)) (mayTake (p .list) (total (areaOf (p .numbers))) (o₁ .tables) (p .numbers .free) (o₁ .left - g)) e
+        where
+          at₁ : (x y : Bool) → cond x (refuse 7 p) (cond y (done (took (o₁ .left - g)) (written G p (writesOfMap G p (m .at) (m .frame) (m .size) (m .attributes)) (p .numbers .free - (o₁ .left - g)))) (refuse 8 p)) .answer ≡ refused 6 → Fails
+          at₁ true y e = let z : _≡_ {A = ℕ} 6 7 = cc in absurd (omega arith)
+          at₁ false true e = absurd (took-not e)
+          at₁ false false e = let z : _≡_ {A = ℕ} 6 8 = cc in absurd (omega arith)
+
+  -- refusals 9 and 10: remove fails
+  pub unmap-refused : (a n : ℕ) (l : List ℕ) → UnmapPre G (ledgerOf G p) a → (n ≡ 9) ⊎ (n ≡ 10) → unmapW G p a .answer ≡ answers.refusal n l → remove (pathTo G top a 0) (treeOf G p) .ok ≡ false
+  unfolding unmapW unmapAt unmapHere
+  unmap-refused a n l pre c e = by (o₁ .entry) refl (rw (good, unmap-pre G Z (ledgerOf G p) a .1 pre) at e)
+    where
+      o₁ : Walked
+      o₁ = walkTo G p 0 a
+
+      not-eight : n ≢ 8
+      not-eight = ⊎-elim (λ z. omega arith) (λ z. omega arith) c
+
+      E₁ : Ended G Z (area G Z I) top (al G Z I) (few G Z I) (p .words) (R G Z I) a 0 (k₀ G Z I) o₁
+      E₁ = walk-ended G Z I 0 a (omega arith) (pre .in-space)
+
+      Fails : Type 0
+      Fails = remove (pathTo G top a 0) (treeOf G p) .ok ≡ false
+
+      by : (w : Entry) → o₁ .entry ≡ w → unmapAt G p a o₁ w .answer ≡ answers.refusal n l → Fails
+      by said.Empty q e = remove-fails a (pre .in-space) (inl (entry-empty _ _ (ap readEntry (sym q) ∙ E₁ .ends .says-is)))
+      by (said.Table d) q e = let z : _≡_ {A = ℕ} 8 n = cc in absurd (not-eight (sym z))
+      by said.Damaged q e = let z : _≡_ {A = ℕ} 8 n = cc in absurd (not-eight (sym z))
+      by (said.Frame b k) q e = at₁ (eqb (a % sizeAt G (o₁ .left)) 0) refl e
+        where
+          given : ℕ
+          given = freed G (p .words) (o₁ .tables) (Rattle.path.specs.Paths.pathOf G a) (o₁ .left) (p .numbers .levels - 1 - o₁ .left)
+
+          full : (y : Bool) → cond y (refuse 8 p) (done (gave b (sizeAt G (o₁ .left)) k given) (written G p (writesOfUnmap G p a) (p .numbers .free + given))) .answer ≡ answers.refusal n l → ⊥
+          full true e = let z : _≡_ {A = ℕ} 8 n = cc in not-eight (sym z)
+          full false e = gave-not e
+
+          at₁ : (y : Bool) → eqb (a % sizeAt G (o₁ .left)) 0 ≡ y → cond y (unmapHere G p a b k o₁ given) (refuse 10 p) .answer ≡ answers.refusal n l → Fails
+          at₁ true z e = absurd (full (ltb (total (areaOf (p .numbers)) - 1) (p .numbers .free + given)) e)
+          at₁ false z e = remove-fails a (pre .in-space) (inr ((b + k, entry-frame _ _ (b + k) (ap readEntry (sym q) ∙ E₁ .ends .says-is)), (pre .aligned, eqb-false _ _ z)))

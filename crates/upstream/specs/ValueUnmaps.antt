@@ -128,14 +128,14 @@ module _ (X : Geo) (M : Store X) (v : ℕ) (tb : ℕ → ℕ) where
         go (yes a) ih = let (T′, S′, R′, D′) = ih (off X M v tb o a) in (T′, S′, R′, off-to d h o a S′ D′)
         go (no n) ih = (o .T, o .S, kept X M v tb o n .ren, stay-to d h o n)
 
-module _ (G : Granule) (Z : Sane G) where
-  -- n indices of n are all
-  whole : (n : ℕ) (l : List ℕ) → length l ≤ n → take n l ≡ l
-  whole zero [] b = refl
-  whole zero (i ∷ l) b = absurd (omega arith)
-  whole (suc n) [] b = refl
-  whole (suc n) (i ∷ l) b = ap {B = List ℕ} (λ (r : List ℕ). i ∷ r) (whole n l (omega arith))
+-- n indices of n are all
+pub whole : (n : ℕ) (l : List ℕ) → length l ≤ n → take n l ≡ l
+whole zero [] b = refl
+whole zero (i ∷ l) b = absurd (omega arith)
+whole (suc n) [] b = refl
+whole (suc n) (i ∷ l) b = ap {B = List ℕ} (λ (r : List ℕ). i ∷ r) (whole n l (omega arith))
 
+module _ (G : Granule) (Z : Sane G) where
   -- the indices below a height are zero where the address is a multiple of its size
   zeros : (top a h : ℕ) → a % sizeAt G h ≡ 0 → allZero (down (entries G) top (entries-pos G) (φ G Z) (pg G Z a) h h) ≡ true
   zeros top a h e = ap allZero (sym (path-is G Z top a h h) ∙ whole h (indices G a h) (omega (arith, indices-length G a h)) ∙ aligned-zeros G a h e) ∙ allZero-replicate h

@@ -7,7 +7,7 @@ use mathlib.Core.Option.{Option, some, none, Option·none-ne-some, Option·some-
 use mathlib.Core.List.{List, [], _∷_, _++_, append-nil}
 use Prim.Native.Nat.{ℕ, zero, suc, _+_, _≤_, _<_}
 use native.Mathlib.Omega.{arith}
-use native.Mathlib.Nat.{add-zero}
+use native.Mathlib.Nat.{add-zero, zero-add}
 use lib.Dec.{eqb}
 use lib.ListN.{length, take, drop, getElem?, length-append, take-append-drop}
 use borrow.Author.Tests.{eqb-true, eqb-false, eq-eqb}
@@ -94,6 +94,60 @@ module _ (A : Arch) where
     λ (v, q, l). (v .1, leads-of p (Node k f) (Frame x) q l),
     λ (s, q). let (a, b) = leads-is p (Node k f) (Frame x) q in ((leads-some p k f x q, s), a, b),
   )
+
+  -- ---- the definitions in upstream's words
+
+  -- `valid`: it has an index, its levels are there, and each index is below the entry count of its level
+  pub record ValidPath (k : ℕ) (p : Path) : Type 0 where
+    pub some-index : 0 < length p
+    pub fits : length p + k ≤ A .levels
+    pub each : (i z : ℕ) → getElem? p i ≡ some z → z < A .count (i + k)
+
+  steps-from : (k : ℕ) (p : Path) → length p + k ≤ A .levels → ((i z : ℕ) → getElem? p i ≡ some z → z < A .count (i + k)) → Steps A k p
+  steps-from k [] l f = tt
+  steps-from k (i ∷ p) l f = (
+    omega arith,
+    subst (λ (m : ℕ). i < A .count m) (zero-add k) (f 0 i refl),
+    steps-from (suc k) p (omega arith) (λ j z q. let e : suc j + k ≡ j + suc k = omega arith in subst (λ (m : ℕ). z < A .count m) e (f (suc j) z q)),
+  )
+
+  steps-to : (k : ℕ) (p : Path) → Steps A k p → 0 < length p → (length p + k ≤ A .levels) × ((i z : ℕ) → getElem? p i ≡ some z → z < A .count (i + k))
+  steps-to k [] s l = absurd (omega arith)
+  steps-to k (i ∷ []) s l = (omega (arith, s .0), at)
+    where
+      at : (j z : ℕ) → getElem? (i ∷ []) j ≡ some z → z < A .count (j + k)
+      at zero z q = subst (λ (m : ℕ). z < A .count m) (sym (zero-add k)) (subst (λ (m : ℕ). m < A .count k) (Option·some-injective i z q) (s .1))
+      at (suc j) z q = absurd (Option·none-ne-some z q)
+  steps-to k (i ∷ (h ∷ p)) s l = let (a, b) = steps-to (suc k) (h ∷ p) (s .2) (omega arith) in (omega (arith, a), at b)
+    where
+      at : ((j z : ℕ) → getElem? (h ∷ p) j ≡ some z → z < A .count (j + suc k)) → (j z : ℕ) → getElem? (i ∷ (h ∷ p)) j ≡ some z → z < A .count (j + k)
+      at b zero z q = subst (λ (m : ℕ). z < A .count m) (sym (zero-add k)) (subst (λ (m : ℕ). m < A .count k) (Option·some-injective i z q) (s .1))
+      at b (suc j) z q = let e : j + suc k ≡ suc j + k = omega arith in subst (λ (m : ℕ). z < A .count m) e (b j z q)
+
+  pub valid-is : (k : ℕ) (p : Path) → Valid A k p ↔ ValidPath k p
+  valid-is k p = (
+    λ (n, s). let l = longer p n in let (a, b) = steps-to k p s l in record { some-index = l; fits = a; each = b },
+    λ v. (λ e. let z = ap (λ (q : Path). length q) e in omega (arith, v .some-index), steps-from k p (v .fits) (v .each)),
+  )
+    where
+      longer : (p : Path) → p ≢ [] → 0 < length p
+      longer [] n = absurd (n refl)
+      longer (i ∷ p) n = omega arith
+
+  -- `visit`: it stops at the last index, goes on below a node, and stops at a frame or an empty entry
+  pub visit-last : (k : ℕ) (f : ℕ → NodeEntry) (i : ℕ) → visit (i ∷ []) (Node k f) ≡ f i ∷ []
+  visit-last k f i = refl
+
+  pub visit-node : (k : ℕ) (f : ℕ → NodeEntry) (i : ℕ) (p : Path) (l : ℕ) (g : ℕ → NodeEntry) → f i ≡ Node l g → visit (i ∷ p) (Node k f) ≡ f i ∷ visit p (Node l g)
+  visit-node k f i p l g q = ap {B = List NodeEntry} (λ (e : NodeEntry). f i ∷ visit p e) q
+
+  pub visit-frame : (k : ℕ) (f : ℕ → NodeEntry) (i : ℕ) (p : Path) (x : SpecFrame) → f i ≡ Frame x → visit (i ∷ p) (Node k f) ≡ f i ∷ []
+  visit-frame k f i [] x q = refl
+  visit-frame k f i (j ∷ p) x q = ap {B = List NodeEntry} (λ (e : NodeEntry). f i ∷ visit (j ∷ p) e) q
+
+  pub visit-empty : (k : ℕ) (f : ℕ → NodeEntry) (i : ℕ) (p : Path) → f i ≡ Empty → visit (i ∷ p) (Node k f) ≡ f i ∷ []
+  visit-empty k f i [] q = refl
+  visit-empty k f i (j ∷ p) q = ap {B = List NodeEntry} (λ (e : NodeEntry). f i ∷ visit (j ∷ p) e) q
 
   -- ---- new and update
 
