@@ -13,6 +13,7 @@
 --   ValueVisits, ValueInserts, ValueRemoves, ValuePrunes   the lemmas on it, each as upstream has it
 --   ValueTrees   the tree in a pool's words as such a node
 --   ValueCells, ValueMaps, ValueUnmaps   a map does to it what insert does, an unmap what remove and prune do
+--   ValueMappings, ValueRefusals   its mappings are those found in the words; refusals 6, 9 and 10 are failures of insert and remove
 pub mod State
 pub mod Facts
 pub mod Calls
