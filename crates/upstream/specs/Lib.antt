@@ -13,7 +13,8 @@
 --   ValueVisits, ValueInserts, ValueRemoves, ValuePrunes   the lemmas on it, each as upstream has it
 --   ValueTrees   the tree in a pool's words as such a node
 --   ValueCells, ValueMaps, ValueUnmaps   a map does to it what insert does, an unmap what remove and prune do
---   ValueMappings, ValueRefusals   its mappings are those found in the words; refusals 6, 9 and 10 are failures of insert and remove
+--   ValueMappings, ValueRefusals, ValueWalks   its mappings are those found in the words; refusals 6, 9 and 10 are failures of insert and remove; a walk
+--           is a visit
 pub mod State
 pub mod Facts
 pub mod Calls
@@ -34,3 +35,4 @@ pub mod ValueMaps
 pub mod ValueUnmaps
 pub mod ValueMappings
 pub mod ValueRefusals
+pub mod ValueWalks

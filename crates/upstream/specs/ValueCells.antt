@@ -1,22 +1,21 @@
 -- The tree of the theory of crate `tree`, two functions of height and region, as one of upstream's nodes: what an insert, and a remove with its prune, do
 -- to the one is what they do to the other.
 use mathlib.Core.Path.{_≡_, refl, ap, sym, _∙_, subst}
-use mathlib.Core.Logic.{_≢_, _⊎_, inl, inr, ⊎-elim}
-use mathlib.Core.Bool.{Bool, true, false, cond, false≢true, true≢false}
-use mathlib.Core.List.{List, [], _∷_}
+use mathlib.Core.Logic.{_≢_, _⊎_, ⊎-elim}
+use mathlib.Core.Bool.{Bool, true, false, cond, true≢false}
+use mathlib.Core.List.{[], _∷_}
 use Prim.Native.Nat.{ℕ, zero, suc, _+_, _-_, _*_, _/_, _%_, _≤_, _<_}
 use native.Mathlib.Nat.{mod-lt, div-add-mod'}
 use native.Mathlib.Omega.{arith}
-use native.Mathlib.Decide.{ℕ-discrete}
 use lib.Dec.{ltb}
 use lib.Arith.{digits-div, digits-mod}
 use borrow.Author.Tests.{ltb-true, lt-ltb}
 use Rattle.laws.specs.Lists.{allZero}
 use Rattle.tree.specs.Region.{anc}
-use Rattle.tree.specs.Tree.{Ent, empty, frame, table, table≢empty, empty≢frame, table≢frame, empty?}
+use Rattle.tree.specs.Tree.{Ent, empty, frame, table, table≢empty, empty?}
 use Rattle.upstream.specs.Values.{Arch, SpecFrame, NodeEntry, Node, Frame, Empty, Path, put, bare, isEmpty, allEmpty, insert, remove, trimmed, trim, prune}
 use Rattle.upstream.specs.ValueVisits.{put-case, put-same}
-use Rattle.upstream.specs.ValueRemoves.{remove-frame, all-empty, not-all-empty}
+use Rattle.upstream.specs.ValueRemoves.{remove-frame, all-empty}
 
 -- K entries of a table, a root of height top, and the frame that a payload stands for at a height
 module _ (K top : ℕ) (pos : 0 < K) (φ : ℕ → ℕ → SpecFrame) where

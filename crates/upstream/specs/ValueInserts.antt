@@ -1,13 +1,13 @@
 -- tree.rs, insert into any well-formed node, at any valid path from it, as upstream has it.
 use mathlib.Core.Path.{_≡_, refl, ap, sym, _∙_, subst}
 use mathlib.Core.Logic.{_≢_, _⊎_, inl, inr, ⊎-elim, _↔_}
-use mathlib.Core.Bool.{Bool, true, false, false≢true, true≢false}
-use mathlib.Core.List.{List, [], _∷_, _++_}
-use Prim.Native.Nat.{ℕ, zero, suc, _+_, _≤_, _<_}
+use mathlib.Core.Bool.{true, false, false≢true, true≢false}
+use mathlib.Core.List.{[], _∷_, _++_}
+use Prim.Native.Nat.{ℕ, suc, _+_, _<_}
 use native.Mathlib.Omega.{arith}
 use lib.ListN.{length}
-use Rattle.upstream.specs.Values.{Arch, SpecFrame, NodeEntry, Node, Frame, Empty, Path, HasPrefix, put, bare, levelOf, visit, ending, insert, Steps, Valid, EntryValid, Wf, Filled, AllNonempty, NoEntry, MapsTo}
-use Rattle.upstream.specs.ValueVisits.{empty-not-frame, node-not-frame, put-case, put-same, put-itself, put-each, Leads, leads-none, leads-some, cons-not-nil, maps-is, update-preserves-wf, new-implies-wf, At, at-below, kid, some-frame}
+use Rattle.upstream.specs.Values.{Arch, SpecFrame, NodeEntry, Node, Frame, Empty, Path, HasPrefix, put, bare, ending, insert, Steps, Valid, EntryValid, Wf, Filled, AllNonempty, NoEntry, MapsTo}
+use Rattle.upstream.specs.ValueVisits.{empty-not-frame, node-not-frame, put-case, put-same, put-itself, put-each, Leads, leads-none, cons-not-nil, maps-is, update-preserves-wf, new-implies-wf, some-frame}
 
 -- ---- the definition, clause by clause in upstream's words
 

@@ -1,8 +1,8 @@
 -- What upstream's `path_mappings` has of the tree in a pool's words are the mappings that are found in the words, at the paths of their addresses.
 use mathlib.Core.Path.{_≡_, refl, ap, sym, _∙_, subst}
-use mathlib.Core.Logic.{_≢_, _⊎_, inl, inr, ⊎-elim, _↔_}
+use mathlib.Core.Logic.{_≢_, _↔_}
 use mathlib.Core.Bool.{Bool, true, false, cond}
-use mathlib.Core.List.{List, [], _∷_, map, List·Memᴰ, Memᴰ·map, Memᴰ·of-map}
+use mathlib.Core.List.{List, [], _∷_, List·Memᴰ, Memᴰ·map, Memᴰ·of-map}
 use Prim.Native.Nat.{ℕ, zero, suc, _+_, _-_, _*_, _/_, _%_, _≤_, _<_}
 use native.Mathlib.Nat.{mod-lt}
 use native.Mathlib.Omega.{arith}
@@ -24,7 +24,7 @@ use Rattle.tree.specs.Inv.{Mapping, mapping}
 use Rattle.demand.specs.Shown.{shown, pg, page-of}
 use Rattle.demand.specs.Holds.{WfTree, ledgerOf}
 use Rattle.demand.specs.Sims.{SimIf, wf-sim, sim-live, sim-listed}
-use Rattle.demand.specs.Queries.{area, al, X, R, root-at}
+use Rattle.demand.specs.Queries.{area, al, R, root-at}
 use Rattle.upstream.specs.Tree.{InTree}
 use Rattle.upstream.specs.Values.{SpecFrame, NodeEntry, Node, Frame, Empty, Path, Steps, MapsTo}
 use Rattle.upstream.specs.ValueVisits.{empty-not-frame, node-not-frame, Leads, leads-none, maps-is}

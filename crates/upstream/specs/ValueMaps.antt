@@ -1,34 +1,34 @@
 -- The tree in a pool's words is well-formed where upstream's is, and a map does to it what upstream's insert does.
 use mathlib.Core.Path.{_≡_, refl, ap, sym, _∙_, subst}
-use mathlib.Core.Logic.{_≢_, _⊎_, inl, inr, ⊎-elim}
-use mathlib.Core.Bool.{Bool, true, false, cond}
-use mathlib.Core.List.{List, [], _∷_}
-use Prim.Native.Nat.{ℕ, zero, suc, _+_, _-_, _*_, _/_, _%_, _≤_, _<_}
+use mathlib.Core.Logic.{_≢_, _⊎_, inl, inr}
+use mathlib.Core.Bool.{Bool, true, cond}
+use mathlib.Core.List.{List, _∷_}
+use Prim.Native.Nat.{ℕ, zero, suc, _+_, _-_, _*_, _%_, _≤_, _<_}
 use native.Mathlib.Omega.{arith}
 use native.Mathlib.Decide.{ℕ-discrete, decLt}
 use lib.Dec.{ltb}
 use lib.Arith.{digits-div, digits-mod}
-use lib.ListN.{length, getD, take}
+use lib.ListN.{take}
 use borrow.Author.Tests.{lt-ltb}
-use Rattle.path.specs.Geometry.{Granule, entries, sizeAt, spaceOf, heightOf, Sane}
+use Rattle.path.specs.Geometry.{Granule, entries, sizeAt, heightOf, Sane}
 use Rattle.path.specs.Areas.{Area, areaOf, GoodArea}
 use Rattle.path.specs.Laws.{entries-pos, good-setup}
 use Rattle.path.specs.Paths.{indexAt, indices}
-use Rattle.entry.specs.Words.{entryAt, Framed}
+use Rattle.entry.specs.Words.{entryAt}
 use Rattle.entry.specs.Laws.{frame-only, framed-paged}
 use Rattle.entry.specs.declared.Entry.{Entry}
 use Rattle.entry.specs.declared.Entry.the-variants as said
 use Rattle.model.specs.Answers as answers
 use Rattle.model.specs.Answers.{took, Pool, Done}
 use Rattle.model.specs.Sound.{SoundEntry, SoundTable, wordAt}
-use Rattle.model.specs.Calls.{goodPool, written, mapW}
+use Rattle.model.specs.Calls.{goodPool, mapW}
 use Rattle.model.specs.Writes.{Memory}
-use Rattle.tree.specs.Region.{anc, Same, upd, upd-at, upd-other}
-use Rattle.tree.specs.Tree.{Ent, empty, frame, table, table≢empty, empty≢frame, empty?, Read, readOf, Geo, Rendered}
+use Rattle.tree.specs.Region.{anc, upd, upd-at, upd-other}
+use Rattle.tree.specs.Tree.{Ent, empty, frame, table, table≢empty, empty?, readOf, Geo, Rendered}
 use Rattle.tree.specs.Walk.{read-is, chain}
-use Rattle.tree.specs.Inv.{Mapping, mapping, Store}
-use Rattle.tree.specs.Ops.{Mem, grow, ReadyIf, MappedIf, last, more}
-use Rattle.demand.specs.Shown.{shown, pg, anc-size, baseOf, attrsOf}
+use Rattle.tree.specs.Inv.{Mapping, Store}
+use Rattle.tree.specs.Ops.{grow, ReadyIf, last, more}
+use Rattle.demand.specs.Shown.{pg, anc-size, baseOf, attrsOf}
 use Rattle.demand.specs.Arm.{readEntry, geo, payload-base, payload-attrs}
 use Rattle.demand.specs.Memories.{readAt, placeAt}
 use Rattle.demand.specs.Carried.{A}
@@ -36,12 +36,12 @@ use Rattle.demand.specs.Holds.{WfTree, ledgerOf}
 use Rattle.demand.specs.Sims.{SimIf}
 use Rattle.demand.specs.Queries.{area, al, X, R, root-at, top-zero}
 use Rattle.demand.specs.Maps.{ready, carried, new-shown, low}
-use Rattle.upstream.specs.Calls.{lacking, writesOfMap, map-took}
+use Rattle.upstream.specs.Calls.{map-took}
 use Rattle.upstream.specs.Node.{TakesNew}
 use Rattle.upstream.specs.Node as node
-use Rattle.upstream.specs.Values.{Arch, SpecFrame, NodeEntry, Node, Frame, Empty, Path, insert, EntryValid, Wf}
+use Rattle.upstream.specs.Values.{SpecFrame, NodeEntry, Node, Frame, Empty, insert, EntryValid, Wf}
 use Rattle.upstream.specs.ValueTrees.{archOf, frameOf, pathTo, entryOf, nodeAt, treeOf}
-use Rattle.upstream.specs.ValueCells.{pick, upTo, cell, kids, up-to-same, cell-table, down, Aside, Grown, grown-inserted}
+use Rattle.upstream.specs.ValueCells.{pick, cell, kids, up-to-same, cell-table, down, Grown, grown-inserted}
 
 module _ (G : Granule) (Z : Sane G) where
   -- the frame that a payload stands for

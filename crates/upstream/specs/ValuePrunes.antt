@@ -2,10 +2,10 @@
 use mathlib.Core.Path.{_≡_, refl, ap, sym, _∙_, subst}
 use mathlib.Core.Logic.{_≢_, _⊎_, inl, inr, ⊎-elim, _↔_}
 use mathlib.Core.Bool.{Bool, true, false, cond, false≢true, true≢false}
-use mathlib.Core.List.{List, [], _∷_}
-use Prim.Native.Nat.{ℕ, zero, suc, _<_}
-use Rattle.upstream.specs.Values.{Arch, SpecFrame, NodeEntry, Node, Frame, Empty, Path, put, isEmpty, allEmpty, ending, remove, Steps, Valid, EntryValid, Wf, Filled, AllNonempty, NoEntry, MapsTo, trimmed, trim, prune}
-use Rattle.upstream.specs.ValueVisits.{node-not-frame, put-case, put-same, put-itself, put-rest, put-each, Leads, leads-none, maps-is, At, at-below, kid}
+use mathlib.Core.List.{[], _∷_}
+use Prim.Native.Nat.{ℕ, suc, _<_}
+use Rattle.upstream.specs.Values.{Arch, SpecFrame, NodeEntry, Node, Frame, Empty, Path, put, isEmpty, allEmpty, remove, Steps, Valid, EntryValid, Wf, Filled, AllNonempty, NoEntry, MapsTo, trimmed, trim, prune}
+use Rattle.upstream.specs.ValueVisits.{node-not-frame, put-case, put-same, put-itself, put-rest, put-each, Leads, leads-none, maps-is, At, kid}
 use Rattle.upstream.specs.ValueRemoves.{frame-cases, all-empty, not-all-empty, removed-well}
 
 module _ (A : Arch) where

@@ -1,5 +1,5 @@
 -- Where a map or an unmap of a well-formed tree is refused for what it meets there, upstream's insert or remove of that tree fails.
-use mathlib.Core.Path.{_≡_, refl, ap, sym, _∙_, subst}
+use mathlib.Core.Path.{_≡_, refl, ap, sym, _∙_}
 use mathlib.Core.Logic.{_≢_, _⊎_, inl, inr, ⊎-elim}
 use mathlib.Core.Bool.{Bool, true, false, cond}
 use mathlib.Core.List.{List, [], _∷_}
@@ -13,16 +13,16 @@ use Rattle.laws.specs.ListLaws.{allZero-at, allZero-of}
 use Rattle.path.specs.Geometry.{Granule, pageSize, entries, sizeAt, spaceOf, heightOf, Sane}
 use Rattle.path.specs.Areas.{areaOf, total}
 use Rattle.path.specs.Laws.{entries-pos, good-setup}
-use Rattle.path.specs.Paths.{indices, baseAt}
+use Rattle.path.specs.Paths.{indices}
 use Rattle.path.specs.PathLaws.{indices-length}
 use Rattle.path.specs.RegionLaws.{zeros-aligned}
 use Rattle.entry.specs.declared.Entry.{Entry}
 use Rattle.entry.specs.declared.Entry.the-variants as said
 use Rattle.model.specs.Answers as answers
-use Rattle.model.specs.Answers.{took, gave, refused, hole, Pool, done, refuse}
+use Rattle.model.specs.Answers.{took, gave, refused, Pool, done, refuse}
 use Rattle.model.specs.declared.Walked.{Walked}
 use Rattle.model.specs.Writes.{mayTake, freed}
-use Rattle.model.specs.Calls.{goodPool, walkTo, written, mapTests, mapHere, mapAt, mapW, unmapTests, unmapHere, unmapAt, unmapW}
+use Rattle.model.specs.Calls.{goodPool, walkTo, written, mapTests, mapHere, mapAt, mapW, unmapHere, unmapAt, unmapW}
 use Rattle.tree.specs.Region.{anc}
 use Rattle.tree.specs.Tree.{Ent, empty, frame, table}
 use Rattle.demand.specs.Shown.{pg}
@@ -30,12 +30,12 @@ use Rattle.demand.specs.Arm.{readEntry}
 use Rattle.demand.specs.Walks.{Ended, entry-table}
 use Rattle.demand.specs.Holds.{WfTree, ledgerOf}
 use Rattle.demand.specs.Sims.{SimIf, wf-sim}
-use Rattle.demand.specs.Queries.{area, al, X, R, k₀, few, root-at, top-zero, walk-ended, tables-above, entry-empty, entry-frame}
+use Rattle.demand.specs.Queries.{area, al, R, k₀, few, root-at, top-zero, walk-ended, tables-above, entry-empty, entry-frame}
 use Rattle.demand.specs.Maps.{Fine, tests-fine, low}
 use Rattle.upstream.specs.State.{MapPre, UnmapPre}
 use Rattle.upstream.specs.Trait.{map-pre, unmap-pre}
 use Rattle.upstream.specs.Calls.{took-not, gave-not, writesOfMap, writesOfUnmap}
-use Rattle.upstream.specs.Values.{SpecFrame, NodeEntry, Node, Frame, Empty, Path, insert, remove}
+use Rattle.upstream.specs.Values.{SpecFrame, NodeEntry, Frame, Empty, Path, insert, remove}
 use Rattle.upstream.specs.ValueRemoves.{remove-frame, remove-empty}
 use Rattle.upstream.specs.ValueTrees.{frameOf, pathTo, treeOf}
 use Rattle.upstream.specs.ValueCells.{cell, cell-empty, cell-frame, cell-table, kids-own, down}
@@ -88,7 +88,7 @@ module _ (K top : ℕ) (pos : 0 < K) (ψ : ℕ → ℕ → SpecFrame) (v : ℕ) 
 -- ---- of a pool's words
 
 module _ (G : Granule) (Z : Sane G) {p : Pool} (w : WfTree G p) (good : goodPool G p ≡ true) where
-  abbrev I : SimIf G Z ⊥ ⊥ p (ledgerOf G p)
+  abbrev pub I : SimIf G Z ⊥ ⊥ p (ledgerOf G p)
   I = wf-sim G Z (good-setup good) w (λ c. absurd c)
 
   abbrev top : ℕ
@@ -98,7 +98,7 @@ module _ (G : Granule) (Z : Sane G) {p : Pool} (w : WfTree G p) (good : goodPool
     abbrev v : ℕ
     v = pg G Z a
 
-    tree-is : treeOf G p ≡ cell (entries G) top (entries-pos G) (φ G Z) (I .S) top (anc (entries G) top v)
+    pub tree-is : treeOf G p ≡ cell (entries G) top (entries-pos G) (φ G Z) (I .S) top (anc (entries G) top v)
     tree-is = root-is G Z (area G Z I) top (al G Z I) (p .words) (R G Z I) (top - 1) (root-at G Z I)
         ∙ ap (cell (entries G) top (entries-pos G) (φ G Z) (I .S) top) (sym (ap (λ (j : ℕ). anc (entries G) j v) (sym (root-at G Z I)) ∙ top-zero G Z I a in-space))
 

@@ -2,14 +2,14 @@
 use mathlib.Core.Path.{_≡_, refl, ap, sym, _∙_, subst}
 use mathlib.Core.Logic.{_≢_, _⊎_, inl, inr, ⊎-elim, _↔_}
 use mathlib.Core.Bool.{Bool, true, false, cond, false≢true, true≢false}
-use mathlib.Core.List.{List, [], _∷_, _++_}
-use Prim.Native.Nat.{ℕ, zero, suc, _+_, _≤_, _<_}
+use mathlib.Core.List.{[], _∷_, _++_}
+use Prim.Native.Nat.{ℕ, zero, suc, _+_, _<_}
 use native.Mathlib.Omega.{arith}
 use native.Mathlib.Decide.{ℕ-discrete}
-use lib.ListN.{length, take, drop}
+use lib.ListN.{length, drop}
 use Rattle.laws.specs.Lists.{allZero}
-use Rattle.upstream.specs.Values.{Arch, SpecFrame, NodeEntry, Node, Frame, Empty, Path, HasPrefix, HasZeroTail, HasPaddedPrefix, put, isEmpty, allEmpty, levelOf, visit, ending, realPath, outcome, remove, Steps, Valid, EntryValid, Wf, Filled, AllNonempty, NoEntry, MapsTo, trimmed, trim, prune}
-use Rattle.upstream.specs.ValueVisits.{empty-not-frame, node-not-frame, put-case, put-same, put-itself, put-each, Leads, leads-none, leads-some, cons-not-nil, maps-is, update-preserves-wf, At, at-below, kid}
+use Rattle.upstream.specs.Values.{Arch, SpecFrame, NodeEntry, Node, Frame, Empty, Path, HasZeroTail, HasPaddedPrefix, put, isEmpty, allEmpty, visit, ending, realPath, outcome, remove, Steps, Valid, EntryValid, Wf, NoEntry, MapsTo}
+use Rattle.upstream.specs.ValueVisits.{empty-not-frame, node-not-frame, put-case, put-same, put-itself, put-each, Leads, leads-none, maps-is}
 
 -- ---- the definitions, clause by clause in upstream's words
 

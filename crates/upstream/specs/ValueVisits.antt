@@ -2,8 +2,8 @@
 -- entry is after a change, where a path leads.
 use mathlib.Core.Path.{_≡_, refl, ap, sym, _∙_, subst}
 use mathlib.Core.Logic.{_≢_, _⊎_, inl, inr, ⊎-elim, _↔_}
-use mathlib.Core.Bool.{Bool, true, false, cond, false≢true}
-use mathlib.Core.Option.{Option, some, none, Option·none-ne-some, Option·some-injective}
+use mathlib.Core.Bool.{Bool, true, false, cond}
+use mathlib.Core.Option.{some, Option·none-ne-some, Option·some-injective}
 use mathlib.Core.List.{List, [], _∷_, _++_, append-nil}
 use Prim.Native.Nat.{ℕ, zero, suc, _+_, _≤_, _<_}
 use native.Mathlib.Omega.{arith}
@@ -11,7 +11,7 @@ use native.Mathlib.Nat.{add-zero, zero-add}
 use lib.Dec.{eqb}
 use lib.ListN.{length, take, drop, getElem?, length-append, take-append-drop}
 use borrow.Author.Tests.{eqb-true, eqb-false, eq-eqb}
-use Rattle.upstream.specs.Values.{Arch, SpecFrame, NodeEntry, Node, Frame, Empty, Path, HasPrefix, put, bare, isEmpty, allEmpty, lastOf, visit, ending, realPath, Steps, Valid, EntryValid, Wf, Filled, AllNonempty, NoEntry, MapsTo}
+use Rattle.upstream.specs.Values.{Arch, SpecFrame, NodeEntry, Node, Frame, Empty, Path, HasPrefix, put, bare, visit, ending, realPath, Steps, Valid, EntryValid, Wf, Filled, AllNonempty, MapsTo}
 
 -- ---- entries
 
