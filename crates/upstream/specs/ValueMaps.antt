@@ -12,7 +12,7 @@ use lib.ListN.{take}
 use borrow.Author.Tests.{lt-ltb}
 use Rattle.path.specs.Geometry.{Granule, entries, sizeAt, heightOf, Sane}
 use Rattle.path.specs.Areas.{Area, areaOf, GoodArea}
-use Rattle.path.specs.Laws.{entries-pos, good-setup}
+use Rattle.path.specs.Laws.{entries-pos, entries-more, size-suc′, good-setup}
 use Rattle.path.specs.Paths.{indexAt, indices}
 use Rattle.entry.specs.Words.{entryAt}
 use Rattle.entry.specs.Laws.{frame-only, framed-paged}
@@ -39,7 +39,7 @@ use Rattle.demand.specs.Maps.{ready, carried, new-shown, low}
 use Rattle.upstream.specs.Calls.{map-took}
 use Rattle.upstream.specs.Node.{TakesNew}
 use Rattle.upstream.specs.Node as node
-use Rattle.upstream.specs.Values.{SpecFrame, NodeEntry, Node, Frame, Empty, insert, EntryValid, Wf}
+use Rattle.upstream.specs.Values.{ArchValid, SpecFrame, NodeEntry, Node, Frame, Empty, insert, EntryValid, Wf}
 use Rattle.upstream.specs.ValueTrees.{archOf, frameOf, pathTo, entryOf, nodeAt, treeOf}
 use Rattle.upstream.specs.ValueCells.{pick, cell, kids, up-to-same, cell-table, down, Grown, grown-inserted}
 
@@ -49,6 +49,14 @@ module _ (G : Granule) (Z : Sane G) where
   φ h x = record { base = baseOf x; size = sizeAt G h; attributes = attrsOf x }
 
   -- ---- well-formedness
+
+  -- the architecture of a granule is valid
+  pub arch-valid : (n : ℕ) → 0 < n → ArchValid (archOf G n)
+  arch-valid n l = record {
+    some-level = l;
+    some-entries = λ _ _. entries-more G Z;
+    nested = λ l m. let e : n - suc l ≡ suc (n - suc (suc l)) = omega arith in ap (sizeAt G) e ∙ size-suc′ G (n - suc (suc l));
+  }
 
   entry-wf : (ws : List ℕ) (area : Area) (n h w : ℕ) (e : Entry) → entryAt G area h w ≡ e → suc h ≤ n → (below : ℕ → NodeEntry) (Below : ℕ → Type 0)
       → ((c : ℕ) → Below c → EntryValid (archOf G n) (n - suc h) (below c) × Wf (archOf G n) (below c)) → SoundEntry Below e

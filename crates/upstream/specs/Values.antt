@@ -1,6 +1,6 @@
 -- pt_arch.rs, path.rs, tree.rs: upstream's page table tree as a value, and what `PTTreeNode` does with it, for any architecture. The entries of a node are
 -- a function of their index; of those past the level's entry count nothing is asked. A level is counted from the root down, as upstream counts it.
-use Prim.Native.Nat.{ℕ, zero, suc, _%_, _<_}
+use Prim.Native.Nat.{ℕ, zero, suc, _*_, _%_, _<_}
 use mathlib.Core.Path.{_≡_}
 use mathlib.Core.Logic.{_≢_}
 use mathlib.Core.Bool.{Bool, true, false, cond}
@@ -14,6 +14,12 @@ pub record Arch : Type 0 where
   pub levels : ℕ
   pub count : ℕ → ℕ
   pub sizeOf : ℕ → ℕ
+
+-- its `valid`: it has a level, each level more than one entry, and a frame is what the entries of the next level make together
+pub record ArchValid (A : Arch) : Type 0 where
+  pub some-level : 0 < A .levels
+  pub some-entries : (l : ℕ) → l < A .levels → 1 < A .count l
+  pub nested : (l : ℕ) → suc l < A .levels → A .sizeOf l ≡ A .sizeOf (suc l) * A .count (suc l)
 
 -- `SpecFrame`
 pub record SpecFrame : Type 0 where
