@@ -143,28 +143,28 @@ module _ (G : Granule) (Z : Sane G) where
       mapped = mapW G p (m .at) (m .frame) (m .size) (m .attributes)
 
       module _ (t : ℕ) (e : mapped .answer ≡ took t) (new : TakesNew G p t) where
-        good : GoodSetup G (p .numbers) (p .cut) (length (p .words)) (length (p .list))
+        pub good : GoodSetup G (p .numbers) (p .cut) (length (p .words)) (length (p .list))
         good = good-setup (took-passed G p (m .at) (m .frame) (m .size) (m .attributes) t e .0)
 
-        F : Fine G (p .numbers .levels) (areaOf (p .numbers)) (m .at) (m .frame) (m .size) (m .attributes)
+        pub F : Fine G (p .numbers .levels) (areaOf (p .numbers)) (m .at) (m .frame) (m .size) (m .attributes)
         F = tests-fine G (p .numbers .levels) (areaOf (p .numbers)) (m .at) (m .frame) (m .size) (m .attributes) (took-passed G p (m .at) (m .frame) (m .size) (m .attributes) t e .1)
 
-        abbrev went : Walked
+        abbrev pub went : Walked
         went = walkTo G p (heightOf G (m .size)) (m .at)
 
         -- the tree after it, with entries in its tables where there were
         module _ {C : Type 0} (used : C → TreeNonempty G p) where
-          abbrev I : SimIf G Z C ⊥ p (ledgerOf G p)
+          abbrev pub I : SimIf G Z C ⊥ p (ledgerOf G p)
           I = wf-sim G Z good w used
 
-          vacant : I .S (went .left) (anc (entries G) (went .left) (pg G Z (m .at))) ≡ empty
+          pub vacant : I .S (went .left) (anc (entries G) (went .left) (pg G Z (m .at))) ≡ empty
           vacant = entry-empty _ _ (ap readEntry (sym (map-took G p (m .at) (m .frame) (m .size) (m .attributes) t e .0))
               ∙ walk-ended G Z I (heightOf G (m .size)) (m .at) (low G Z I (m .at) (m .frame) (m .size) (m .attributes) F) (F .start-in) .ends .says-is)
 
-          room : lacking G p (m .at) (m .size) ≤ p .numbers .free
+          pub room : lacking G p (m .at) (m .size) ≤ p .numbers .free
           room = let (_, a, b, _) = map-took G p (m .at) (m .frame) (m .size) (m .attributes) t e in omega arith
 
-          takes : Takes G Z I (m .at) (m .frame) (m .size) (m .attributes) F vacant room
+          pub takes : Takes G Z I (m .at) (m .frame) (m .size) (m .attributes) F vacant room
           takes = record {
             each = λ i l j. (N .low i l j, λ h r s q. unreached i l j (Memᴰ·cast (sym q) (table-reached (I .inv) (k₀ G Z I) (root-at G Z I) h r s)));
             once = N .once;

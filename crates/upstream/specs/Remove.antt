@@ -304,17 +304,17 @@ module _ (G : Granule) (Z : Sane G) where
   -- ---- unmap: remove, then prune
 
   module _ {p : Pool} (w : WfTree G p) (a b s x t : ℕ) (e : unmapW G p a .answer ≡ gave b s x t) where
-    good₁ : GoodSetup G (p .numbers) (p .cut) (length (p .words)) (length (p .list))
+    pub good₁ : GoodSetup G (p .numbers) (p .cut) (length (p .words)) (length (p .list))
     good₁ = good-setup (gave-passed G p a b s x t e .0)
 
-    pre : UnmapPre G (ledgerOf G p) a
+    pub pre : UnmapPre G (ledgerOf G p) a
     pre = unmap-pre G Z (ledgerOf G p) a .0 (gave-passed G p a b s x t e .1)
 
     module _ {C : Type 0} (used : C → TreeNonempty G p) where
-      abbrev J₁ : SimIf G Z C ⊥ p (ledgerOf G p)
+      abbrev pub J₁ : SimIf G Z C ⊥ p (ledgerOf G p)
       J₁ = wf-sim G Z good₁ w used
 
-      framed₁ : J₁ .S (walkTo G p 0 a .left) (anc (entries G) (walkTo G p 0 a .left) (pg G Z a)) ≡ frame (b + x)
+      pub framed₁ : J₁ .S (walkTo G p 0 a .left) (anc (entries G) (walkTo G p 0 a .left) (pg G Z a)) ≡ frame (b + x)
       framed₁ = entry-frame _ _ (b + x) (ap readEntry (sym (unmap-gave G p a b s x t e .0)) ∙ walk-ended G Z J₁ 0 a (omega arith) (pre .in-space) .ends .says-is)
 
       unmapped-tree : SimIf G Z C ⊥ (unmapW G p a .after) (withLive (own G Z J₁) (dropAt a (map (shown G Z) (J₁ .L))))
