@@ -2,8 +2,8 @@
  * words.
  *
  * The functions are in liboakabut.a (`arm/build` makes it), for 64-bit hosts. They answer for every number, keep nothing
- * between calls, and read and write what their pointers name and no other memory. The archive needs one thing from its host: memset,
- * as the C library has it. C, C++ and freestanding code may include this.
+ * between calls, and read and write what their pointers name and no other memory. The archives need two things from their host: memset
+ * and memcpy, as the C library has them. C, C++ and freestanding code may include this.
  *
  * A pool is tables of one granule's size, 4096 bytes or 16384, in one region of memory or in two. So a table has e = granule / 8 words:
  * 512 or 2048. With n tables in the first region, table t below n starts at word e * t of the run `words` and stands at the address
@@ -31,6 +31,8 @@
 extern "C" {
 #endif
 
+#define OAK_VERSION "0.1.0"
+
 /* The sizes of frames with a granule of 4 KiB, and with one of 16 KiB. The first of each is also the granule's number. */
 #define OAK_4_KIB UINT64_C(0x1000)
 #define OAK_2_MIB UINT64_C(0x200000)
@@ -57,6 +59,25 @@ extern "C" {
 #define OAK_REFUSED_EMPTY UINT64_C(9)      /* nothing is mapped there */
 #define OAK_REFUSED_INSIDE UINT64_C(10)    /* the mapping there starts at another address */
 #define OAK_REFUSED_POOL UINT64_C(11)      /* the frame, or one that is mapped, shares a byte with the pool's tables */
+
+/* A refusal's number in words, for people; 0 is no refusal. */
+static inline const char *oak_refusal_text(uint64_t number) {
+    switch (number) {
+    case 0: return "not refused";
+    case OAK_REFUSED_SETUP: return "a setup number or a length breaks the rules";
+    case OAK_REFUSED_SIZE: return "no frame has the size, or none of the pool's granule";
+    case OAK_REFUSED_ATTRIBUTES: return "the attributes are above 15";
+    case OAK_REFUSED_END: return "an address is past the space, or a frame past 2^48";
+    case OAK_REFUSED_BASE: return "an address or a frame's base is not aligned";
+    case OAK_REFUSED_MAPPED: return "something is mapped there";
+    case OAK_REFUSED_TABLES: return "too few tables are free";
+    case OAK_REFUSED_DAMAGED: return "the pool is damaged, or the word is no frame's at the size";
+    case OAK_REFUSED_EMPTY: return "nothing is mapped there";
+    case OAK_REFUSED_INSIDE: return "the mapping there starts at another address";
+    case OAK_REFUSED_POOL: return "the frame, or one that is mapped, shares a byte with the pool's tables";
+    default: return "no refusal has this number";
+    }
+}
 
 /* ---- the entry words, in plain numbers: no memory is read or written
  *
