@@ -307,6 +307,103 @@ OAK_HOLDS(offsetof(oak_listed, more) == 8);
 OAK_HOLDS(offsetof(oak_listed, next) == 16);
 #undef OAK_HOLDS
 
+/* ---- the same calls on a handle, which keeps the setup
+ *
+ * Who makes the plain calls has to hand each the setup that the last one answered: with an older one the next map takes tables that are in
+ * use. A handle has the setup and the lent memory, and each call here makes the plain call of its name and keeps what it hands back.
+ * Numbers, answers and rules are the plain call's; the answer is not a part of the handle, and may be null where it is not wanted. A copy
+ * of a handle has a setup of its own, which the next call makes an old one: of several copies only one may be used. Until oak_pool_format
+ * has returned 0, every other call on a handle returns OAK_REFUSED_SETUP. */
+
+typedef struct {
+    oak_setup setup;
+    uint64_t *words;
+    size_t words_len;
+    uint64_t *second; /* OAK_NO_WORDS, 0 where there is no second region */
+    size_t second_len;
+    uint32_t *list;
+    size_t list_len;
+} oak_pool;
+
+/* What a handle is initialised with: oak_pool pool = OAK_POOL(words, 4 * 512, list, 4); with a second region OAK_POOL_OF_TWO. To go on with
+ * a pool that is in memory already, put its setup into the handle; oak_pool_audit says whether they fit. */
+#define OAK_POOL(words, words_len, list, list_len) OAK_POOL_OF_TWO(words, words_len, OAK_NO_WORDS, 0, list, list_len)
+#define OAK_POOL_OF_TWO(words, words_len, second, second_len, list, list_len)                                                             \
+    { {0, 0, 0, 0, 0, 0, 0}, words, words_len, second, second_len, list, list_len }
+
+/* oak_format over the handle's memory. Refused, it leaves the handle as it was. */
+static inline uint64_t oak_pool_format(oak_pool *pool, uint64_t levels, uint64_t base, uint64_t tables, uint64_t second_base,
+                                       uint64_t second_tables, uint64_t granule) {
+    oak_setup setup;
+    uint64_t number = oak_format(levels, base, tables, second_base, second_tables, granule, pool->words, pool->words_len, pool->second,
+                                 pool->second_len, pool->list, pool->list_len, &setup);
+    if (number == 0) pool->setup = setup;
+    return number;
+}
+
+/* oak_add with the memory of the new region. list is the handle's own, of which more is lent now, or another one, to which the free numbers
+ * are copied; from now on the handle has it, and the second run. Refused, it leaves the handle and all memory as they were. */
+static inline uint64_t oak_pool_add(oak_pool *pool, uint64_t *second, size_t second_len, uint32_t *list, size_t list_len,
+                                    uint64_t second_base, uint64_t second_tables) {
+    oak_setup setup;
+    uint64_t number;
+    if (pool->list_len != pool->setup.tables) return OAK_REFUSED_SETUP; /* as each call on the handle does */
+    number = oak_add(&pool->setup, pool->words, pool->words_len, second, second_len, list, list_len, second_base, second_tables, &setup);
+    if (number != 0) return number;
+    for (size_t i = 0; i < pool->setup.free; i++) list[i] = pool->list[i]; /* oak_add neither reads nor writes these places */
+    pool->setup = setup;
+    pool->second = second;
+    pool->second_len = second_len;
+    pool->list = list;
+    pool->list_len = list_len;
+    return 0;
+}
+
+static inline uint64_t oak_pool_map(oak_pool *pool, uint64_t address, uint64_t frame, uint64_t size, uint64_t attributes,
+                                    oak_mapped *answer) {
+    oak_mapped mapped;
+    uint64_t number = oak_map(&pool->setup, pool->words, pool->words_len, pool->second, pool->second_len, pool->list, pool->list_len,
+                              address, frame, size, attributes, &mapped);
+    pool->setup = mapped.setup;
+    if (answer != NULL) *answer = mapped;
+    return number;
+}
+
+static inline uint64_t oak_pool_unmap(oak_pool *pool, uint64_t address, oak_unmapped *answer) {
+    oak_unmapped unmapped;
+    uint64_t number = oak_unmap(&pool->setup, pool->words, pool->words_len, pool->second, pool->second_len, pool->list, pool->list_len,
+                                address, &unmapped);
+    pool->setup = unmapped.setup;
+    if (answer != NULL) *answer = unmapped;
+    return number;
+}
+
+static inline uint64_t oak_pool_query(const oak_pool *pool, uint64_t address, oak_found *answer) {
+    oak_found found;
+    uint64_t number = oak_query(&pool->setup, pool->words, pool->words_len, pool->second, pool->second_len, pool->list, pool->list_len,
+                                address, &found);
+    if (answer != NULL) *answer = found;
+    return number;
+}
+
+static inline uint64_t oak_pool_audit(const oak_pool *pool, oak_audited *answer) {
+    oak_audited audited;
+    uint64_t number =
+        oak_audit(&pool->setup, pool->words, pool->words_len, pool->second, pool->second_len, pool->list, pool->list_len, &audited);
+    if (answer != NULL) *answer = audited;
+    return number;
+}
+
+/* oak_list into two runs of one length. */
+static inline uint64_t oak_pool_list(const oak_pool *pool, uint64_t start, uint64_t *places, uint64_t *entries, size_t len,
+                                     oak_listed *answer) {
+    oak_listed listed;
+    uint64_t number = oak_list(&pool->setup, pool->words, pool->words_len, pool->second, pool->second_len, pool->list, pool->list_len,
+                               start, places, len, entries, len, &listed);
+    if (answer != NULL) *answer = listed;
+    return number;
+}
+
 #ifdef __cplusplus
 }
 #endif
