@@ -19,8 +19,29 @@
  * The machine. Tables are little-endian (SCTLR_EL2.EE 0). Stage 2 is set up with HCR_EL2.FWB 0, VTCR_EL2.HA and HD 0, without stage 2
  * permission indirection; and with a granule of 4096 with TG0 4 KiB, and T0SZ 25 with SL0 1 for three levels or T0SZ 16 with SL0 2 for
  * four; with one of 16384 with TG0 16 KiB, T0SZ 17 and SL0 2. A walker may read the pool while oak_map or oak_unmap runs, and sees the
- * mappings from before the call or from after it; of what oak_add writes it sees nothing. It may not read the pool while oak_format
- * runs, which fills it by memset. */
+ * mappings from before the call or from after it, in whatever order it sees the words written; of what oak_add writes it sees nothing. It
+ * may not read the pool while oak_format runs, which fills it by memset.
+ *
+ * What is the host's. The calls write words: they issue no barrier, invalidate no TLB and clean no cache, and one runs at a time. By our
+ * reading of the Arm manual the host, with the guest's VTTBR_EL2 in place, does this:
+ *
+ *   after oak_map and oak_add  dsb ishst
+ *   after oak_unmap            dsb ishst; tlbi ipas2e1is, Xt (the address >> 12); dsb ish; tlbi vmalle1is; dsb ish; isb
+ *   or, for the whole guest    dsb ishst; tlbi vmalls12e1is; dsb ish; isb
+ *
+ * - dsb after a map: before it the guest may fault on the address as if nothing were mapped. There is no tlbi to do: only entries that
+ *   were 0 changed, and a TLB keeps nothing of a fault. After an add: the next map links tables that must be seen as zeros.
+ * - tlbi after an unmap, and the dsb behind it, come before the frame is used for anything else, before something is mapped at the address
+ *   again, and before the next oak_map of the pool, which may take a table that came back. Till then the guest may still reach the frame.
+ * - `given` above 0: tables left the tree, and a walker may have kept the way to them in a walk cache. It reads zeros there, a fault, until
+ *   a map takes the table for other addresses: so the tlbi is one for all levels, as above, and not ipas2le1is, which leaves walk caches.
+ *   With `given` 0 the entry of the page or block alone changed, and ipas2le1is will do in the place of ipas2e1is.
+ * - A walker that does not see the caches through which the host writes (VTCR_EL2.IRGN0 and ORGN0 not cacheable, or an SMMU that is not
+ *   coherent): after each call and before the dsb, dc cvac over the words, of both runs where it is not known better. An SMMU that takes
+ *   no part in broadcast invalidation has commands of its own for it, and a dsb does not wait for them.
+ * - oak_format only for a pool that no walker reads: no VTTBR_EL2 and no SMMU names its root. Where its VMID was used before, vmalls12e1is
+ *   as above comes before a walker is shown the root.
+ * - What a frame holds when a guest gets it, and whose it is, the calls don't know. */
 #ifndef OAKABUT_H
 #define OAKABUT_H
 
