@@ -350,7 +350,14 @@ fn the_hosts_two_calls() {
 
 #[test]
 fn refusals_say_their_number_and_why() {
-    let refusal: Box<dyn std::error::Error> = Box::new(Pool::owned(5, P, 4, K4).unwrap_err());
+    let refusal = Pool::owned(5, P, 4, K4).unwrap_err();
     assert_eq!(refusal.to_string(), "refusal 1, a setup number or a length breaks the rules");
     assert_eq!((Refusal::NOT_THE_START.number(), Refusal::IN_POOL.number()), (10, 11));
+}
+
+#[cfg(feature = "std")]
+#[test]
+fn a_refusal_is_an_error() {
+    let refusal: Box<dyn std::error::Error> = Box::new(Refusal::IN_POOL);
+    assert_eq!(refusal.to_string(), Refusal::IN_POOL.to_string());
 }
