@@ -2,8 +2,8 @@
  * words.
  *
  * The functions are in liboakabut.a (`arm/build` makes it), for 64-bit hosts. They answer for every number, keep nothing
- * between calls, and read and write what their pointers name and no other memory. The archive needs one thing from its host: memset,
- * as the C library has it. C, C++ and freestanding code may include this.
+ * between calls, and read and write what their pointers name and no other memory. The archives need two things from their host: memset
+ * and memcpy, as the C library has them. C, C++ and freestanding code may include this.
  *
  * A pool is tables of one granule's size, 4096 bytes or 16384, in one region of memory or in two. So a table has e = granule / 8 words:
  * 512 or 2048. With n tables in the first region, table t below n starts at word e * t of the run `words` and stands at the address
@@ -19,8 +19,29 @@
  * The machine. Tables are little-endian (SCTLR_EL2.EE 0). Stage 2 is set up with HCR_EL2.FWB 0, VTCR_EL2.HA and HD 0, without stage 2
  * permission indirection; and with a granule of 4096 with TG0 4 KiB, and T0SZ 25 with SL0 1 for three levels or T0SZ 16 with SL0 2 for
  * four; with one of 16384 with TG0 16 KiB, T0SZ 17 and SL0 2. A walker may read the pool while oak_map or oak_unmap runs, and sees the
- * mappings from before the call or from after it; of what oak_add writes it sees nothing. It may not read the pool while oak_format
- * runs, which fills it by memset. */
+ * mappings from before the call or from after it, in whatever order it sees the words written; of what oak_add writes it sees nothing. It
+ * may not read the pool while oak_format runs, which fills it by memset.
+ *
+ * What is the host's. The calls write words: they issue no barrier, invalidate no TLB and clean no cache, and one runs at a time. By our
+ * reading of the Arm manual the host, with the guest's VTTBR_EL2 in place, does this:
+ *
+ *   after oak_map and oak_add  dsb ishst
+ *   after oak_unmap            dsb ishst; tlbi ipas2e1is, Xt (the address >> 12); dsb ish; tlbi vmalle1is; dsb ish; isb
+ *   or, for the whole guest    dsb ishst; tlbi vmalls12e1is; dsb ish; isb
+ *
+ * - dsb after a map: before it the guest may fault on the address as if nothing were mapped. There is no tlbi to do: only entries that
+ *   were 0 changed, and a TLB keeps nothing of a fault. After an add: the next map links tables that must be seen as zeros.
+ * - tlbi after an unmap, and the dsb behind it, come before the frame is used for anything else, before something is mapped at the address
+ *   again, and before the next oak_map of the pool, which may take a table that came back. Till then the guest may still reach the frame.
+ * - `given` above 0: tables left the tree, and a walker may have kept the way to them in a walk cache. It reads zeros there, a fault, until
+ *   a map takes the table for other addresses: so the tlbi is one for all levels, as above, and not ipas2le1is, which leaves walk caches.
+ *   With `given` 0 the entry of the page or block alone changed, and ipas2le1is will do in the place of ipas2e1is.
+ * - A walker that does not see the caches through which the host writes (VTCR_EL2.IRGN0 and ORGN0 not cacheable, or an SMMU that is not
+ *   coherent): after each call and before the dsb, dc cvac over the words, of both runs where it is not known better. An SMMU that takes
+ *   no part in broadcast invalidation has commands of its own for it, and a dsb does not wait for them.
+ * - oak_format only for a pool that no walker reads: no VTTBR_EL2 and no SMMU names its root. Where its VMID was used before, vmalls12e1is
+ *   as above comes before a walker is shown the root.
+ * - What a frame holds when a guest gets it, and whose it is, the calls don't know. */
 #ifndef OAKABUT_H
 #define OAKABUT_H
 
@@ -30,6 +51,8 @@
 #ifdef __cplusplus
 extern "C" {
 #endif
+
+#define OAK_VERSION "0.1.0"
 
 /* The sizes of frames with a granule of 4 KiB, and with one of 16 KiB. The first of each is also the granule's number. */
 #define OAK_4_KIB UINT64_C(0x1000)
@@ -57,6 +80,25 @@ extern "C" {
 #define OAK_REFUSED_EMPTY UINT64_C(9)      /* nothing is mapped there */
 #define OAK_REFUSED_INSIDE UINT64_C(10)    /* the mapping there starts at another address */
 #define OAK_REFUSED_POOL UINT64_C(11)      /* the frame, or one that is mapped, shares a byte with the pool's tables */
+
+/* A refusal's number in words, for people; 0 is no refusal. */
+static inline const char *oak_refusal_text(uint64_t number) {
+    switch (number) {
+    case 0: return "not refused";
+    case OAK_REFUSED_SETUP: return "a setup number or a length breaks the rules";
+    case OAK_REFUSED_SIZE: return "no frame has the size, or none of the pool's granule";
+    case OAK_REFUSED_ATTRIBUTES: return "the attributes are above 15";
+    case OAK_REFUSED_END: return "an address is past the space, or a frame past 2^48";
+    case OAK_REFUSED_BASE: return "an address or a frame's base is not aligned";
+    case OAK_REFUSED_MAPPED: return "something is mapped there";
+    case OAK_REFUSED_TABLES: return "too few tables are free";
+    case OAK_REFUSED_DAMAGED: return "the pool is damaged, or the word is no frame's at the size";
+    case OAK_REFUSED_EMPTY: return "nothing is mapped there";
+    case OAK_REFUSED_INSIDE: return "the mapping there starts at another address";
+    case OAK_REFUSED_POOL: return "the frame, or one that is mapped, shares a byte with the pool's tables";
+    default: return "no refusal has this number";
+    }
+}
 
 /* ---- the entry words, in plain numbers: no memory is read or written
  *
@@ -285,6 +327,103 @@ OAK_HOLDS(offsetof(oak_listed, written) == 0);
 OAK_HOLDS(offsetof(oak_listed, more) == 8);
 OAK_HOLDS(offsetof(oak_listed, next) == 16);
 #undef OAK_HOLDS
+
+/* ---- the same calls on a handle, which keeps the setup
+ *
+ * Who makes the plain calls has to hand each the setup that the last one answered: with an older one the next map takes tables that are in
+ * use. A handle has the setup and the lent memory, and each call here makes the plain call of its name and keeps what it hands back.
+ * Numbers, answers and rules are the plain call's; the answer is not a part of the handle, and may be null where it is not wanted. A copy
+ * of a handle has a setup of its own, which the next call makes an old one: of several copies only one may be used. Until oak_pool_format
+ * has returned 0, every other call on a handle returns OAK_REFUSED_SETUP. */
+
+typedef struct {
+    oak_setup setup;
+    uint64_t *words;
+    size_t words_len;
+    uint64_t *second; /* OAK_NO_WORDS, 0 where there is no second region */
+    size_t second_len;
+    uint32_t *list;
+    size_t list_len;
+} oak_pool;
+
+/* What a handle is initialised with: oak_pool pool = OAK_POOL(words, 4 * 512, list, 4); with a second region OAK_POOL_OF_TWO. To go on with
+ * a pool that is in memory already, put its setup into the handle; oak_pool_audit says whether they fit. */
+#define OAK_POOL(words, words_len, list, list_len) OAK_POOL_OF_TWO(words, words_len, OAK_NO_WORDS, 0, list, list_len)
+#define OAK_POOL_OF_TWO(words, words_len, second, second_len, list, list_len)                                                             \
+    { {0, 0, 0, 0, 0, 0, 0}, words, words_len, second, second_len, list, list_len }
+
+/* oak_format over the handle's memory. Refused, it leaves the handle as it was. */
+static inline uint64_t oak_pool_format(oak_pool *pool, uint64_t levels, uint64_t base, uint64_t tables, uint64_t second_base,
+                                       uint64_t second_tables, uint64_t granule) {
+    oak_setup setup;
+    uint64_t number = oak_format(levels, base, tables, second_base, second_tables, granule, pool->words, pool->words_len, pool->second,
+                                 pool->second_len, pool->list, pool->list_len, &setup);
+    if (number == 0) pool->setup = setup;
+    return number;
+}
+
+/* oak_add with the memory of the new region. list is the handle's own, of which more is lent now, or another one, to which the free numbers
+ * are copied; from now on the handle has it, and the second run. Refused, it leaves the handle and all memory as they were. */
+static inline uint64_t oak_pool_add(oak_pool *pool, uint64_t *second, size_t second_len, uint32_t *list, size_t list_len,
+                                    uint64_t second_base, uint64_t second_tables) {
+    oak_setup setup;
+    uint64_t number;
+    if (pool->list_len != pool->setup.tables) return OAK_REFUSED_SETUP; /* as each call on the handle does */
+    number = oak_add(&pool->setup, pool->words, pool->words_len, second, second_len, list, list_len, second_base, second_tables, &setup);
+    if (number != 0) return number;
+    for (size_t i = 0; i < pool->setup.free; i++) list[i] = pool->list[i]; /* oak_add neither reads nor writes these places */
+    pool->setup = setup;
+    pool->second = second;
+    pool->second_len = second_len;
+    pool->list = list;
+    pool->list_len = list_len;
+    return 0;
+}
+
+static inline uint64_t oak_pool_map(oak_pool *pool, uint64_t address, uint64_t frame, uint64_t size, uint64_t attributes,
+                                    oak_mapped *answer) {
+    oak_mapped mapped;
+    uint64_t number = oak_map(&pool->setup, pool->words, pool->words_len, pool->second, pool->second_len, pool->list, pool->list_len,
+                              address, frame, size, attributes, &mapped);
+    pool->setup = mapped.setup;
+    if (answer != NULL) *answer = mapped;
+    return number;
+}
+
+static inline uint64_t oak_pool_unmap(oak_pool *pool, uint64_t address, oak_unmapped *answer) {
+    oak_unmapped unmapped;
+    uint64_t number = oak_unmap(&pool->setup, pool->words, pool->words_len, pool->second, pool->second_len, pool->list, pool->list_len,
+                                address, &unmapped);
+    pool->setup = unmapped.setup;
+    if (answer != NULL) *answer = unmapped;
+    return number;
+}
+
+static inline uint64_t oak_pool_query(const oak_pool *pool, uint64_t address, oak_found *answer) {
+    oak_found found;
+    uint64_t number = oak_query(&pool->setup, pool->words, pool->words_len, pool->second, pool->second_len, pool->list, pool->list_len,
+                                address, &found);
+    if (answer != NULL) *answer = found;
+    return number;
+}
+
+static inline uint64_t oak_pool_audit(const oak_pool *pool, oak_audited *answer) {
+    oak_audited audited;
+    uint64_t number =
+        oak_audit(&pool->setup, pool->words, pool->words_len, pool->second, pool->second_len, pool->list, pool->list_len, &audited);
+    if (answer != NULL) *answer = audited;
+    return number;
+}
+
+/* oak_list into two runs of one length. */
+static inline uint64_t oak_pool_list(const oak_pool *pool, uint64_t start, uint64_t *places, uint64_t *entries, size_t len,
+                                     oak_listed *answer) {
+    oak_listed listed;
+    uint64_t number = oak_list(&pool->setup, pool->words, pool->words_len, pool->second, pool->second_len, pool->list, pool->list_len,
+                               start, places, len, entries, len, &listed);
+    if (answer != NULL) *answer = listed;
+    return number;
+}
 
 #ifdef __cplusplus
 }

@@ -27,7 +27,7 @@ fn main() {
 }
 
 fn run(command: &mut Command) {
-    if !command.status().is_ok_and(|status| status.success()) {
+    if !matches!(command.status(), Ok(status) if status.success()) {
         eprintln!("bench: failed: {command:?}");
         process::exit(1);
     }

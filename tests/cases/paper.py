@@ -1,4 +1,4 @@
-"""Document 01 with the requests that have landed, written out as a model over plain lists. Independent of the Rattle code: only the papers'
+"""The rules (docs/RULES.md) written out as a model over plain lists, from the customer's papers. Independent of the Rattle code: only the papers'
 text was used."""
 LIMIT = 2 ** 48
 
@@ -11,7 +11,7 @@ class Granule:
     def region(g, h): return 2 ** g.lowest[h]
 
 
-# document 01; and request 11: indices in bits 46:36, 35:25 and 24:14
+# rule 7; and request 11: indices in bits 46:36, 35:25 and 24:14
 GRANULES = {
     4096: Granule(512, [12, 21, 30, 39], [4096, 2 ** 21, 2 ** 30], {3: 2 ** 39, 4: 2 ** 48}),
     16384: Granule(2048, [14, 25, 36], [2 ** 14, 2 ** 25], {3: 2 ** 47}),

@@ -121,7 +121,7 @@ impl Case {
 
 /// All cases. The smoke run makes a hundredth of the calls.
 pub fn all(smoke: bool) -> Vec<Case> {
-    let share = |calls: usize| if smoke { calls.div_ceil(100) } else { calls };
+    let share = |calls: usize| if smoke { (calls + 99) / 100 } else { calls };
     let mut cases = vec![
         query("the customer's case: a million addresses in the tables", THREE, Where::Tables, share(1_000_000)),
         query("the customer's case: a million addresses anywhere", THREE, Where::Anywhere, share(1_000_000)),

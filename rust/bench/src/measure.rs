@@ -1,5 +1,7 @@
 //! Compares the sides, and times them in turn.
 
+use std::array::from_fn;
+
 use judge::{Judge, Source};
 
 use crate::cases::Case;
@@ -23,13 +25,13 @@ pub fn judge(side: Side, calls: u64) -> Result<(), String> {
 /// counted. There is no row where an answer or a place of the memory differs.
 pub fn measure(case: &Case, repetitions: usize) -> Result<Row, String> {
     let mut pools = SIDES.map(|side| case.pool(side));
-    let mut answers = [const { Vec::new() }; SIDES.len()];
+    let mut answers = SIDES.map(|_| Vec::new());
     for (pool, answers) in pools.iter_mut().zip(&mut answers) {
         let mut kept = Kept::default();
         case.run(pool, &mut kept);
         *answers = kept.0;
     }
-    let mut times = [const { Vec::new() }; SIDES.len()];
+    let mut times = SIDES.map(|_| Vec::new());
     for side in 1..SIDES.len() {
         if answers[side] != answers[0] {
             return Err(format!("the answers of {} differ", SIDES[side].name));
@@ -51,7 +53,7 @@ pub fn measure(case: &Case, repetitions: usize) -> Result<Row, String> {
         let ratios: Vec<f64> = times[0].iter().zip(side).map(|(ours, theirs)| ours / theirs).collect();
         [0.25, 0.5, 0.75].map(|part| below(&ratios, part))
     };
-    Ok(Row { times: times.each_ref().map(|times| below(times, 0.5)), ratios: times.each_ref().map(ratios) })
+    Ok(Row { times: from_fn(|side| below(&times[side], 0.5)), ratios: from_fn(|side| ratios(&times[side])) })
 }
 
 /// The time that this thread has run, in nanoseconds: the waiting for a processor that others use is no part of it.

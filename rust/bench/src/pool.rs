@@ -1,6 +1,6 @@
 //! A pool of one side, with the calls of that side on it.
 
-use std::hint::black_box;
+use std::arch::asm;
 use std::slice::from_raw_parts_mut;
 
 use oakabut::Setup;
@@ -22,7 +22,9 @@ pub struct Timed;
 impl Note for Timed {
     #[inline(always)]
     fn note(&mut self, refusal: u64, numbers: &[u64]) {
-        black_box((refusal, numbers.as_ptr()));
+        let answer = (refusal, numbers.as_ptr());
+        // SAFETY: there is no instruction. The compiler has to have the answer in memory there, as for std::hint::black_box, which is younger than 1.63.
+        unsafe { asm!("/* {0} */", in(reg) &answer, options(nostack, preserves_flags)) };
     }
 }
 
@@ -51,7 +53,7 @@ pub struct Words {
 
 impl Words {
     fn new(count: usize) -> Words {
-        Words { memory: vec![Tables([0; 2048]); count.div_ceil(2048)], count }
+        Words { memory: vec![Tables([0; 2048]); (count + 2047) / 2048], count }
     }
 
     #[inline(always)]

@@ -92,7 +92,10 @@ fn in_large() -> Vec<Call> {
 fn story(calls: &[Call]) -> Vec<Call> {
     let setup = Setup::default();
     let add = Call::Add { setup, base: 0x5000_0000, tables: MORE as u64 };
-    let Call::Map { address: page, size, .. } = calls[1] else { unreachable!("the second call is a map") };
+    let (page, size) = match calls[1] {
+        Call::Map { address, size, .. } => (address, size),
+        _ => unreachable!("the second call is a map"),
+    };
     let (far, near) = (Shape::of(size).region(3), 2 * Shape::of(size).region(2));
     let seven = map(far, 0x8000_0000, size, 3);
     [&calls[..3], &[seven, add, seven, add, unmap(0), unmap(page), map(near, 0x8000_0000, size, 3)]].concat()

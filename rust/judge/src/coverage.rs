@@ -152,7 +152,7 @@ impl Coverage {
                         let taken = answer.numbers[SETUP];
                         self.taken[tree(setup)][taken as usize] += 1;
                         self.count_regions(0, setup, &memory.list[(setup.free - taken) as usize..setup.free as usize]);
-                        let needed = self.added.is_some_and(|tables| taken > 0 && taken + tables > setup.free);
+                        let needed = matches!(self.added, Some(tables) if taken > 0 && taken + tables > setup.free);
                         self.thanks_to_add += u64::from(needed);
                     }
                     (Call::Unmap { .. }, 0, _) => {
@@ -220,7 +220,10 @@ impl Coverage {
 
     /// Counts what a list has met.
     fn count_list(&mut self, call: &Call, answer: &Answer, pool: Lent<'_>) {
-        let &Call::List { setup, start, places, entries } = call else { return };
+        let (setup, start, places, entries) = match *call {
+            Call::List { setup, start, places, entries } => (setup, start, places, entries),
+            _ => return,
+        };
         let last = self.next.take();
         let [written, more, next, ..] = answer.numbers;
         let full = written == places as u64;
@@ -234,7 +237,7 @@ impl Coverage {
             good && written > 0 && more == 1,
             good && written > 0 && !full,
             good && holder == Ok(start),
-            good && holder.is_ok_and(|base| base != start),
+            good && matches!(holder, Ok(base) if base != start),
             good && written > 0 && last == Some(start),
             answer.refusal == 1
                 && places != entries
@@ -322,7 +325,10 @@ fn setup_of(call: &Call) -> Setup {
 
 /// Why add gave 1, where that is one thing alone.
 fn cause_of_1(call: &Call, words: usize, second: usize, places: usize) -> Option<&'static str> {
-    let &Call::Add { setup, base, tables } = call else { return None };
+    let (setup, base, tables) = match *call {
+        Call::Add { setup, base, tables } => (setup, base, tables),
+        _ => return None,
+    };
     let (page, entries) = (Shape::of(setup.granule).page(), Shape::of(setup.granule).entries());
     let good = |at: u64, tables: u64| at % page == 0 && tables <= 512 && at <= plain::LIMIT - page * tables;
     let is_tree = TREES.iter().any(|&(levels, granule, _)| (levels, granule) == (setup.levels, setup.granule));

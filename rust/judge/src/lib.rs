@@ -15,11 +15,11 @@ mod shape;
 mod source;
 mod world;
 
+pub use self::judge::Judge;
 pub use call::{listed, numbers, Answer, Call, Engine, Lent, Plain, SETUP};
 pub use cases::cases;
 pub use coverage::Coverage;
 pub use damage::Damage;
-pub use judge::Judge;
 pub use random::Random;
 pub use shape::Shape;
 pub use source::Source;

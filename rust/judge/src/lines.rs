@@ -58,7 +58,7 @@ pub fn write(out: &mut impl Write, seed: u64, calls: u64) -> io::Result<()> {
     let mut world = World::default();
     let mut written = 0;
     let mut carry_out = |world: &mut World, step: &Step| {
-        let (answer, _) = world.apply(step).map_err(io::Error::other)?;
+        let (answer, _) = world.apply(step).map_err(|why| io::Error::new(io::ErrorKind::Other, why))?;
         written += 1;
         writeln!(out, "plain: {}", text(step, answer.as_ref(), &world.memory))?;
         Ok::<_, io::Error>(u64::from(answer.is_some()))

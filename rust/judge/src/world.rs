@@ -78,7 +78,7 @@ impl Memory {
 
     /// What a list wrote that wrote so many: nothing past them.
     pub fn wrote(&self, count: u64) -> Result<Vec<(u64, u64)>, String> {
-        let [one, other] = self.runs.each_ref().map(|run| run.split_at(count as usize));
+        let [one, other] = [0, 1].map(|i: usize| self.runs[i].split_at(count as usize));
         match one.1.iter().chain(other.1).find(|&&number| number != BLANK) {
             Some(number) => Err(format!("a list of {count} has {number:x} past them")),
             None => Ok(one.0.iter().copied().zip(other.0.iter().copied()).collect()),
@@ -109,9 +109,12 @@ impl World {
     /// Where there is none, a pool that the audit has accepted must not give 8.
     pub fn apply(&mut self, step: &Step) -> Result<(Option<Answer>, bool), String> {
         let answer = self.memory.apply(step, &mut Plain);
-        let (&Step::Call { ref call, words, second, places }, Some(answer)) = (step, answer) else {
-            (self.ledger, self.sound) = (None, false);
-            return Ok((answer, false));
+        let (call, words, second, places, answer) = match (step, answer) {
+            (&Step::Call { ref call, words, second, places }, Some(answer)) => (call, words, second, places, answer),
+            (_, answer) => {
+                (self.ledger, self.sound) = (None, false);
+                return Ok((answer, false));
+            }
         };
         // the ledger knows nothing of other setups and lengths, but for those of the memory that an add brings
         let Setup { tables, second_tables, granule, .. } = self.setup;
@@ -134,7 +137,7 @@ impl World {
             self.next = (answer.numbers[1] == 1).then_some(answer.numbers[2]);
         }
         let expected = self.ledger.as_mut().filter(|_| known).map(|ledger| ask(ledger, self.setup, call, second, places));
-        if expected.is_some_and(|expected| expected != answer) {
+        if matches!(expected, Some(expected) if expected != answer) {
             return Err(format!("plain answers {answer:x?}\nand the ledger {expected:x?}"));
         }
         if self.sound && known && answer.refusal == 8 {

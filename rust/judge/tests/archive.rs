@@ -201,7 +201,10 @@ fn pages_list_each_mapping_once() {
         let (setup, Memory { words, second, list, .. }) = (world.setup, &world.memory);
         let lengths = [setup.tables, setup.second_tables].map(|tables| (Shape::of(setup.granule).entries() * tables) as usize);
         let lent = (words.get(..lengths[0]), second.get(..lengths[1]), list.get(..setup.total() as usize));
-        let (0, (Some(words), Some(second), Some(list))) = (step % 16, lent) else { continue };
+        let (words, second, list) = match (step % 16, lent) {
+            (0, (Some(words), Some(second), Some(list))) => (words, second, list),
+            _ => continue,
+        };
         let pool = Lent { words, second, list };
         let (mut places, mut words_of) = (vec![0; 1 << 18], vec![0; 1 << 18]);
         let whole = Raw.list(setup, 0, pool, [&mut places, &mut words_of]);
@@ -377,7 +380,10 @@ fn the_text_form() {
             _ => panic!("{line}"),
         };
         replayed += 1;
-        let Some(call) = call else { continue };
+        let call = match call {
+            Some(call) => call,
+            None => continue,
+        };
         let expected = match call {
             Call::FrameWord { .. } | Call::WordMeaning { .. } => Raw.call(&call, &mut [], &mut [], &mut []).numbers[..1].to_vec(),
             _ => {

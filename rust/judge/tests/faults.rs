@@ -66,7 +66,7 @@ fn bytes(setup: Setup, tables: u64) -> u64 {
 
 /// Whether a call is on a pool of the larger granule.
 fn is_16(call: &Call) -> bool {
-    call.setup().is_some_and(|setup| setup.granule == SIZES_16[0])
+    matches!(call.setup(), Some(setup) if setup.granule == SIZES_16[0])
 }
 
 /// The right answer with another hole, made from the address and the right one.
@@ -842,10 +842,8 @@ const LIST_FAULTS: &[(&str, ListFault)] = &[
         })
     }),
     ("a list with the mapping that holds the start", |setup, start, pool, runs| {
-        let Ok(found) = plain::query(setup, pool.words, pool.second, pool.list, start) else {
-            return Plain.list(setup, start, pool, runs);
-        };
-        Plain.list(setup, found.base, pool, runs)
+        let found = plain::query(setup, pool.words, pool.second, pool.list, start);
+        Plain.list(setup, found.map_or(start, |found| found.base), pool, runs)
     }),
     ("the power of two of the level above", |setup, start, pool, runs| {
         other_list(setup, start, pool, runs, |_, _, all| all.into_iter().map(|(place, entry)| (place + 9, entry)).collect())

@@ -52,12 +52,23 @@
 //! # Ok::<(), Refusal>(())
 //! ```
 //!
-//! The upkeep of the TLB and the caches, locking and the allocation of frames are the caller's.
+//! # What is the caller's
+//!
+//! The upkeep of the TLB and the caches, locking and the allocation of frames. The header `oakabut.h` says what the Arm manual asks for, call by call, with the
+//! reasons; in short:
+//!
+//! - after [`Pool::map`] and [`Pool::add`] `dsb ishst`, before the guest counts on the mapping and before the next call;
+//! - after [`Pool::unmap`] `dsb ishst`, `tlbi`, `dsb ish`, before the frame is used again and before the next [`Pool::map`]; where [`Removed::given`] is above 0 a
+//!   `tlbi` for all levels, since walk caches may know the way to the tables that came back;
+//! - where a walker does not see the caches, the words are cleaned to memory after each call;
+//! - [`Pool::format`] and its kin are for a pool that no walker reads.
 
 #![no_std]
 #![deny(missing_docs)]
 
 extern crate alloc;
+#[cfg(feature = "std")]
+extern crate std;
 
 use core::fmt;
 
@@ -144,6 +155,10 @@ pub struct Hole {
 }
 
 /// What [`Pool::unmap`] removed.
+///
+/// The translation may still be in a TLB, and the way to tables that were given back in a walk cache. The host invalidates both before it uses the frame for
+/// anything else, maps something at the address again, or calls [`Pool::map`], which may take such a table.
+#[must_use = "until the TLB is invalidated for it the guest may still reach the frame, and no map may take the tables given back"]
 #[derive(Clone, Copy, Debug, PartialEq, Eq, Hash)]
 pub struct Removed {
     /// The base of the frame.

@@ -25,7 +25,7 @@ pub struct Pool<'a> {
 }
 
 impl<'a> Pool<'a> {
-    /// Sets up an empty pool in lent memory: all words become zero, and every table but the root is free.
+    /// Sets up an empty pool in lent memory: all words become zero, and every table but the root is free. No walker may read the pool meanwhile.
     ///
     /// `granule` is [`GRANULE_4K`] or [`GRANULE_16K`], and the size of a table. `levels` is 3 or 4; the space has 2^39 or 2^48
     /// bytes. With [`GRANULE_16K`] it is 3, and the space has 2^47. `base` is the address at which the words stand, a multiple of
@@ -66,7 +66,7 @@ impl<'a> Pool<'a> {
         Pool { setup, words: Memory::Lent(words), second: Memory::Lent(second), list: Memory::Lent(list) }
     }
 
-    /// Empties the pool, possibly with other setup numbers. Where it is refused the pool goes on as it was.
+    /// Empties the pool, possibly with other setup numbers. Where it is refused the pool goes on as it was. No walker may read the pool meanwhile.
     pub fn reformat(&mut self, levels: u64, base: u64, tables: u64, granule: u64) -> Result<(), Refusal> {
         self.reformat_two(levels, base, tables, 0, 0, granule)
     }
@@ -144,6 +144,8 @@ impl<'a> Pool<'a> {
     ///
     /// The size is [`PAGE`](crate::PAGE), [`BLOCK_2M`](crate::BLOCK_2M) or [`BLOCK_1G`](crate::BLOCK_1G), with [`GRANULE_16K`]
     /// [`PAGE_16K`](crate::PAGE_16K) or [`BLOCK_32M`](crate::BLOCK_32M); the attributes are a sum of [`READ`](crate::READ), [`WRITE`](crate::WRITE), [`EXECUTE`](crate::EXECUTE) and [`DEVICE`](crate::DEVICE).
+    ///
+    /// The guest sees the mapping for sure after the caller's `dsb ishst`.
     pub fn map(&mut self, address: u64, frame: u64, size: u64, attributes: u64) -> Result<u64, Refusal> {
         let mut answer = Mapped { setup: self.setup, taken: 0 };
         let (words, second, list) = (&mut *self.words, &mut *self.second, &*self.list);
@@ -170,7 +172,7 @@ impl<'a> Pool<'a> {
     }
 
     /// Removes the mapping that starts at `address`, and gives back each table that this leaves empty. Where nothing is mapped, the
-    /// refusal carries the hole ([`Refusal::hole`]).
+    /// refusal carries the hole ([`Refusal::hole`]). What is done after it to the TLB is the caller's: see [`Removed`].
     pub fn unmap(&mut self, address: u64) -> Result<Removed, Refusal> {
         let mut answer = Unmapped { setup: self.setup, frame: 0, size: 0, attributes: 0, given: 0, hole: NO_HOLE };
         let (words, second, list) = (&mut *self.words, &mut *self.second, &mut *self.list);

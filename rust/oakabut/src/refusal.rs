@@ -106,4 +106,5 @@ impl fmt::Display for Refusal {
     }
 }
 
-impl core::error::Error for Refusal {}
+#[cfg(feature = "std")]
+impl std::error::Error for Refusal {}

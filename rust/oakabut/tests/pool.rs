@@ -79,9 +79,9 @@ fn holes() {
     assert_eq!(hole(&pool, 0x2FFF), sized(0x2000, PAGE));
     // one map that fits it fills it
     assert_eq!(pool.map(0x20_0000, F, BLOCK_2M, 3), Ok(0));
-    pool.unmap(0).unwrap();
+    let _ = pool.unmap(0).unwrap();
     assert_eq!(hole(&pool, 0), sized(0, BLOCK_2M));
-    pool.unmap(0x20_0000).unwrap();
+    let _ = pool.unmap(0x20_0000).unwrap();
     assert_eq!(hole(&pool, 0), sized(0, BLOCK_1G));
     assert_eq!(hole(&Pool::owned(4, P, 4, K4).unwrap(), (1 << 48) - 1), sized(511 << 39, 1 << 39));
     // no other refusal has one
@@ -350,7 +350,14 @@ fn the_hosts_two_calls() {
 
 #[test]
 fn refusals_say_their_number_and_why() {
-    let refusal: Box<dyn std::error::Error> = Box::new(Pool::owned(5, P, 4, K4).unwrap_err());
+    let refusal = Pool::owned(5, P, 4, K4).unwrap_err();
     assert_eq!(refusal.to_string(), "refusal 1, a setup number or a length breaks the rules");
     assert_eq!((Refusal::NOT_THE_START.number(), Refusal::IN_POOL.number()), (10, 11));
+}
+
+#[cfg(feature = "std")]
+#[test]
+fn a_refusal_is_an_error() {
+    let refusal: Box<dyn std::error::Error> = Box::new(Refusal::IN_POOL);
+    assert_eq!(refusal.to_string(), Refusal::IN_POOL.to_string());
 }

@@ -443,7 +443,7 @@ fn count_pages<const BITS: u64>(entries: &[u64], is_outside: impl Fn(u64) -> boo
     let (mut in_use, mut frames) = (0, 0);
     for &word in entries {
         in_use += u64::from(word != 0);
-        frames += u64::from(read_frame(word, page::<BITS>()).is_some_and(|page| is_outside(page.base)));
+        frames += u64::from(matches!(read_frame(word, page::<BITS>()), Some(page) if is_outside(page.base)));
     }
     (in_use, frames)
 }

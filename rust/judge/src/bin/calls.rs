@@ -10,7 +10,7 @@ use std::io::{self, BufWriter, Write};
 
 fn main() -> io::Result<()> {
     let argument = |at: usize, default: u64| match env::args().nth(at) {
-        Some(text) => text.parse().map_err(|_| io::Error::other(format!("{text} is no number"))),
+        Some(text) => text.parse().map_err(|_| io::Error::new(io::ErrorKind::Other, format!("{text} is no number"))),
         None => Ok(default),
     };
     let mut out = BufWriter::new(io::stdout().lock());
