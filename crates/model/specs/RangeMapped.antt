@@ -464,7 +464,7 @@ module _ (G : Granule) (Z : Sane G) (sp : Setup) (few : sp .levels - 1 < 4) (cut
               on (no z) = inl (
                 omega (arith, from, left-is, ap (λ (o : Walked). o .left) e),
                 ap (λ (o : Walked). atHeight (o .tables) j) w ∙ getD-set-other (walk ws m .tables) (3 - s) (3 - j) c 0 (λ y. omega (arith, from))
-                ∙ ap (λ (o : Walked). atHeight (o .tables) j) (sym e),
+                    ∙ ap (λ (o : Walked). atHeight (o .tables) j) (sym e),
               )
 
       new-mem : (q : Mapping) → List·Memᴰ q ms → (x : ℕ) → List·Memᴰ x (walk new q .tables) → (x ≡ c) ⊎ List·Memᴰ x (walk ws q .tables)

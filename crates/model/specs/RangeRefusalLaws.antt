@@ -134,7 +134,7 @@ module _ (G : Granule) (levels : ℕ) (ws : List Probe) where
   unspoiled e (two-regions v w vi wi i j a b c d z n) =
       let one = not-false (oneRegionEach (onWays G levels ws)) (or-false (anyEnds isDamaged ws) _ e .1) in
       let (x, y) = each-so (onWays G levels ws) one (standingAt G (v .at) (v .end .tables) i) (standingAt G (w .at) (w .end .tables) j)
-          (ways-has G levels ws v vi i a b) (ways-has G levels ws w wi j c d) z in
+      (ways-has G levels ws v vi i a b) (ways-has G levels ws w wi j c d) z in
       ⊎-elim (λ u. u x) (λ u. u y) n
 
 taken-is : (o : Walked) → isTaken (o .entry) ≡ true → Occupied o

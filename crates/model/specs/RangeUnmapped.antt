@@ -398,8 +398,11 @@ module _ (G : Granule) (Z : Sane G) (p : Pool) (a k : ℕ) (O : Ok G p a (suc k)
       where
         go : Dec (a / sizeAt G e₁ ≡ y / sizeAt G e₁) → Gone y ⊎ Stays y
         go (yes z) = inl (hole-region G Z p (O .good) a b c framed y z, z)
-        go (no z) = inr (walk-kept G Z p (O .good) a b c framed y (O .undamaged y (later y i))
-            (λ i₁ j u v w t s. O .one y a (later y i) first i₁ j u (omega (arith, levels-some)) w (omega (arith, levels-some)) s) z, z)
+        go (no z) = inr (
+          walk-kept G Z p (O .good) a b c framed y (O .undamaged y (later y i))
+              (λ i₁ j u v w t s. O .one y a (later y i) first i₁ j u (omega (arith, levels-some)) w (omega (arith, levels-some)) s) z,
+          z,
+        )
 
     there-hole : (walkTo G q₁ 0 a .entry ≡ Empty) × (walkTo G q₁ 0 a .left ≡ e₁) × ((j : ℕ) → e₁ ≤ j → j ≤ p .numbers .levels - 1 → atHeight (walkTo G q₁ 0 a .tables) j ≡ atHeight (walkTo G p 0 a .tables) j)
     there-hole = hole-there G Z p (O .good) a b c framed
@@ -516,7 +519,7 @@ module _ (G : Granule) (Z : Sane G) where
         suc j,
         omega arith,
         subst (λ (x : ℕ). Full G (leftBy (unmapW G) (unmapW G p a .after) (pagesFrom G (a + W) j)) x) (omega (arith, suc-mul j W))
-        (subst (λ (r : Pool). Full G (leftBy (unmapW G) r (pagesFrom G (a + W) j)) (a + W + j * W)) (sym z) f),
+            (subst (λ (r : Pool). Full G (leftBy (unmapW G) r (pagesFrom G (a + W) j)) (a + W + j * W)) (sym z) f),
       )
 
       go : (d : Done) → unmapW G p a ≡ d → Next G p a k d → (refusesWith 8 (d .answer) || anyRefused 8 (answersOf (unmapW G) (d .after) (pagesFrom G (a + W) k))) ≡ true

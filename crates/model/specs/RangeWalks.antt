@@ -120,7 +120,7 @@ module _ {G : Granule} {area : Area} {ws : List ℕ} {target : ℕ} {path : List
       let own : atHeight seen (suc h) ≡ t = came-kept C (suc h) (omega arith) l ∙ getD-set-same way (3 - suc h) t 0 (omega (arith, four)) in
       let low = came-low C in
       let same : readBy G area new path′ (suc h) t ≡ Table c =
-          ap (readBy G area new path′ (suc h)) (sym own) ∙ f (suc h) (omega arith) (omega arith) ∙ ap (readBy G area ws path (suc h)) own ∙ r in
+      ap (readBy G area new path′ (suc h)) (sym own) ∙ f (suc h) (omega arith) (omega arith) ∙ ap (readBy G area ws path (suc h)) own ∙ r in
       further same (omega arith) n (came-moved C new other path′ (omega arith) (length-set way (3 - suc h) t ∙ four) o (λ j a b. f j a (omega arith)))
 
   -- no table stands on a way twice
