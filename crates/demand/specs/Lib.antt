@@ -9,8 +9,12 @@ pub mod Sims
 pub mod Queries
 pub mod Maps
 pub mod Unmaps
-pub mod Others
+pub mod Steps
 pub mod Demand3
+pub mod RangeWays
+pub mod RangeMaps
+pub mod RangeUnmaps
+pub mod Others
 pub mod Adds
 pub mod Rest
 pub mod Theorem
