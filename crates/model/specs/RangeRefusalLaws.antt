@@ -11,8 +11,8 @@ use lib.Dec.{ltb, leb, eqb}
 use lib.ListN.{length}
 use borrow.Author.Tests.{ltb-true, ltb-false, leb-true, leb-false, eqb-true, eqb-false, not-true, not-false, lt-ltb, eq-eqb}
 use Rattle.path.specs.Geometry.{Granule, Sane, pageSize, sizeAt, spaceOf, physical}
-use Rattle.path.specs.Areas.{areaOf, total, Shares, meetsArea}
-use Rattle.path.specs.Laws.{page-pos, good-setup, setup-good, meets-shares, meets-apart, size-injective}
+use Rattle.path.specs.Areas.{areaOf, total, meetsArea}
+use Rattle.path.specs.Laws.{page-pos}
 use Rattle.path.specs.Paths.{baseAt, pathOf}
 use Rattle.path.specs.RegionLaws.{base-region}
 use Rattle.entry.specs.declared.Entry.{Entry}
@@ -25,13 +25,14 @@ use Rattle.model.specs.Calls.{goodPool, walkTo, unmapHere, unmapAt, unma
 use Rattle.model.specs.LedgerLaws.{and-true, true-and, or-true, true-or}
 use Rattle.model.specs.DescentLaws.{clash}
 use Rattle.model.specs.LeftLaws.{Kept, leaves-kept, leaves-good, unmap-leaves}
-use Rattle.model.specs.Refusals.{Row, row, None, ByTable, bare, NoAttributes, Misplaced, Occupied}
-use Rattle.model.specs.RefusalLaws.{Told, refused-by, accepted-by, by-table, by-none, none-by, hit, miss, cannot-take, may-not-bad}
+use Rattle.model.specs.Refusals.{Row, row, None, ByTable, bare, areaIn, NoAttributes, Outside, Misplaced, InPool, OffPage, lastWalk, Occupied, Starts, FullList}
+use Rattle.model.specs.Refusals.Outside.{starts-outside, ends-outside, frame-outside}
+use Rattle.model.specs.RefusalLaws.{Told, refused-by, accepted-by, by-table, by-none, none-by, hit, miss, cannot-take, may-not-bad, bad-breaks, good-keeps, in-pool, off-pool, gives-back, gives-one}
 use Rattle.model.specs.Ranges.{longest, goodLength, mapRangeTests, unmapRangeTests, pieces, pagesFrom, pagesOf, Probe, walkFor, pieceWalk, pieceWalks, pageWalk, pageWalks, anyEnds, isDamaged, isTaken, Standing, standing, onWay, onWays, agree, agrees, oneRegionEach, spoiled, ways, lacked, mapPiece, leftBy, answersOf, sumOf, acceptedIn, refusesWith, anyRefused, mapRangeHere, mapRangeAt, mapRangeW, inside, cutAt, anyCutBy, unmapRangeHere, unmapRangeAt, unmapRangeW}
 use Rattle.model.specs.RangeLaws.{FineLength, length-fine, FineUnmap, page-next, pages-from, inside-so, inside-is, or-false, false-or}
 use Rattle.model.specs.RangeMapped.{standingAt, each-so, ways-has, none-ends, some-ends}
-use Rattle.model.specs.RangeRefusals.{NotGood, NoLength, nothing, part-page, too-long, PastSpace, starts-past, ends-past, RangeOutside, Spoils, meets-damage, two-regions, SomeOccupied, tablesFor, BadRange, Cuts, givenAt, Full, FullRange, mapRangeTable, unmapRangeTable, MapRangeNumbers, UnmapRangeNumbers}
-use Rattle.model.specs.RangeUnmapped.{unmap-tests, start, only-full}
+use Rattle.model.specs.RangeRefusals.{NoLength, nothing, part-page, too-long, PastSpace, Spoils, meets-damage, two-regions, SomeOccupied, tablesFor, BadRange, Cuts, FullRange, mapRangeTable, unmapRangeTable, MapRangeNumbers, UnmapRangeNumbers}
+use Rattle.model.specs.RangeUnmapped.{givenAt, Full, unmap-tests, start, only-full}
 
 -- ---- the arguments
 
@@ -52,8 +53,8 @@ module _ (G : Granule) where
   good-length len e (too-long z) = omega (arith, length-fine G len e .not-longer)
 
   not-past : (levels a len : ℕ) → leb (spaceOf G levels) a ≡ false → ltb (spaceOf G levels) (a + len) ≡ false → PastSpace G levels a len → ⊥
-  not-past levels a len p q (starts-past z) = let l = leb-false (spaceOf G levels) a p in omega arith
-  not-past levels a len p q (ends-past z) = let l = ltb-false (spaceOf G levels) (a + len) q in omega arith
+  not-past levels a len p q (inl z) = let l = leb-false (spaceOf G levels) a p in omega arith
+  not-past levels a len p q (inr z) = let l = ltb-false (spaceOf G levels) (a + len) q in omega arith
 
 -- ---- the walks
 
@@ -171,10 +172,10 @@ module _ (G : Granule) (p : Pool) (a b len k : ℕ) where
       ∷ []
 
   abbrev Places : List Row
-  Places = row 5 (Misplaced a b (pageSize G)) ∷ row 11 (Shares G (areaOf (p .numbers)) b len) ∷ Walks
+  Places = row 5 (Misplaced a b (pageSize G)) ∷ row 11 (InPool G (areaIn p) b len) ∷ Walks
 
   abbrev Arguments : List Row
-  Arguments = row 2 (NoLength G len) ∷ row 3 (NoAttributes k) ∷ row 4 (RangeOutside G (p .numbers .levels) a b len) ∷ Places
+  Arguments = row 2 (NoLength G len) ∷ row 3 (NoAttributes k) ∷ row 4 (Outside G (p .numbers .levels) a b len) ∷ Places
 
   walks-told : Told Walks bare p Took (mapRangeAt G p ms)
   unfolding mapRangeAt mapRangeHere
@@ -228,18 +229,23 @@ module _ (G : Granule) (p : Pool) (a b len k : ℕ) where
           → Told Places bare p Took (by (cond x₆ (cond x₇ (cond x₈ 11 0) 5) 5))
       placed false x₇ x₈ e₆ e₇ e₈ = hit (inl (eqb-false _ 0 e₆))
       placed true false x₈ e₆ e₇ e₈ = hit (inr (eqb-false _ 0 e₇))
-      placed true true true e₆ e₇ e₈ = miss (⊎-elim (λ z. z (eqb-true _ 0 e₆)) (λ z. z (eqb-true _ 0 e₇))) (hit (meets-shares e₈))
-      placed true true false e₆ e₇ e₈ = miss (⊎-elim (λ z. z (eqb-true _ 0 e₆)) (λ z. z (eqb-true _ 0 e₇))) (miss (meets-apart e₈) walks-told)
+      placed true true true e₆ e₇ e₈ = miss (⊎-elim (λ z. z (eqb-true _ 0 e₆)) (λ z. z (eqb-true _ 0 e₇))) (hit (in-pool G p a b len k e₈))
+      placed true true false e₆ e₇ e₈ = miss (⊎-elim (λ z. z (eqb-true _ 0 e₆)) (λ z. z (eqb-true _ 0 e₇))) (miss (off-pool G p a b len k e₈) walks-told)
 
       range : (x₃ x₄ x₅ : Bool) → leb space a ≡ x₃ → ltb space (a + len) ≡ x₄ → ltb physical (b + len) ≡ x₅
-          → Told (row 4 (RangeOutside G l a b len) ∷ Places) bare p Took
+          → Told (row 4 (Outside G l a b len) ∷ Places) bare p Took
           (by (cond x₃ 4 (cond x₄ 4 (cond x₅ 4 (cond (eqb (a % pageSize G) 0) (cond (eqb (b % pageSize G) 0) (cond pooled 11 0) 5) 5)))))
-      range true x₄ x₅ e₃ e₄ e₅ = hit (inl (starts-past (leb-true space a e₃)))
-      range false true x₅ e₃ e₄ e₅ = hit (inl (ends-past (ltb-true space (a + len) e₄)))
-      range false false true e₃ e₄ e₅ = hit (inr (ltb-true physical (b + len) e₅))
+      range true x₄ x₅ e₃ e₄ e₅ = hit (starts-outside (leb-true space a e₃))
+      range false true x₅ e₃ e₄ e₅ = hit (ends-outside (ltb-true space (a + len) e₄))
+      range false false true e₃ e₄ e₅ = hit (frame-outside (ltb-true physical (b + len) e₅))
       range false false false e₃ e₄ e₅ =
-          miss (⊎-elim (not-past G l a len e₃ e₄) (λ z. let m = ltb-false physical (b + len) e₅ in omega arith))
+          miss within
           (placed (eqb (a % pageSize G) 0) (eqb (b % pageSize G) 0) pooled refl refl refl)
+        where
+          within : Outside G l a b len → ⊥
+          within (starts-outside z) = not-past G l a len e₃ e₄ (inl z)
+          within (ends-outside z) = not-past G l a len e₃ e₄ (inr z)
+          within (frame-outside z) = let m = ltb-false physical (b + len) e₅ in omega arith
 
       tests : (x₁ x₂ : Bool) → goodLength G len ≡ x₁ → ltb 15 k ≡ x₂
           → Told Arguments bare p Took
@@ -254,8 +260,8 @@ module _ (G : Granule) (p : Pool) (a b len k : ℕ) where
 
       good : (x : Bool) → goodPool G p ≡ x
           → Told (mapRangeTable G p a b len k) bare p Took (cond x (by (mapRangeTests G l (areaOf (p .numbers)) a b len k)) (refuse 1 p))
-      good true e = miss (λ n. n (good-setup e)) (tests (goodLength G len) (ltb 15 k) refl refl)
-      good false e = hit (λ S. true≢false (sym (setup-good S) ∙ e))
+      good true e = miss (good-keeps G p e) (tests (goodLength G len) (ltb 15 k) refl refl)
+      good false e = hit (bad-breaks G p e)
 
   pub map-range-numbers : MapRangeNumbers G p a b len k
   map-range-numbers = record {
@@ -304,6 +310,15 @@ module _ (G : Granule) (p : Pool) (a len : ℕ) where
           let h = walkTo G p 0 x .left in
           let (l, r) = inside-is a len (baseAt G x h) (sizeAt G h) (not-false (inside a len (baseAt G x h) (sizeAt G h)) (ap (cutAt G a len x h) (sym f) ∙ q)) in
           ⊎-elim (λ z. omega arith) (λ z. omega arith) c
+
+-- no room for the tables of a mapping that starts at x
+full-so : (G : Granule) (p : Pool) (x : ℕ) → Full G p x → Starts G x (lastWalk G p x) × FullList G p x
+full-so G p x F = let (b, k, f) = F .frame in ((b, k, f, F .starts), (givenAt G p x, gives-back G p x (lastWalk G p x), F .over))
+
+so-full : (G : Granule) (p : Pool) (x : ℕ) → Starts G x (lastWalk G p x) × FullList G p x → Full G p x
+so-full G p x ((b, k, f, s), (n, B, l)) =
+    let e : n ≡ givenAt G p x = gives-one G p x (lastWalk G p x) B (gives-back G p x (lastWalk G p x)) in
+    record { frame = (b, k, f); starts = s; over = omega arith }
 
 -- an unmap for whose tables there is no room answers 8
 full-eight : (G : Granule) (p : Pool) (x : ℕ) → goodPool G p ≡ true → x < spaceOf G (p .numbers .levels) → x % pageSize G ≡ 0 → Full G p x → unmapW G p x ≡ refuse 8 p
@@ -357,7 +372,10 @@ module _ (G : Granule) (Z : Sane G) (p : Pool) (a len : ℕ) where
       uncut e (x, i, (b, k, f, c)) = no-cut G p a len xs e x i b k f c
 
       roomy : anyRefused 8 answers ≡ false → FullRange G p a len → ⊥
-      roomy e (j, l, f) = true≢false (sym (full-any G (len / pageSize G) p a good (F .address-aligned) (omega (arith, long, F .in-space)) j l f) ∙ e)
+      roomy e (j, l, f) = true≢false (sym (full-any G (len / pageSize G) p a good (F .address-aligned) (omega (arith, long, F .in-space)) j l (so-full G _ _ f)) ∙ e)
+
+      filled : (j : ℕ) × (j < len / pageSize G) × Full G (leftBy (unmapW G) p (pagesFrom G a j)) (a + j * pageSize G) → FullRange G p a len
+      filled (j, l, f) = (j, l, full-so G _ _ f)
 
       go : (x : Bool) → spoiled G (p .numbers .levels) ws ≡ x → (y : Bool) → anyCutBy G a len ws ≡ y → (z : Bool) → anyRefused 8 answers ≡ z
           → Told Pages bare p Cleared
@@ -367,7 +385,7 @@ module _ (G : Granule) (Z : Sane G) (p : Pool) (a len : ℕ) where
       go false e false f true g =
           let (u, w) = or-false (anyEnds isDamaged ws) _ e in
           miss (unspoiled G (p .numbers .levels) ws e) (miss (uncut f)
-          (hit (only-full G Z (len / pageSize G) (start G Z p a len good F u (not-false (oneRegionEach (onWays G (p .numbers .levels) ws)) w) f) g)))
+          (hit (filled (only-full G Z (len / pageSize G) (start G Z p a len good F u (not-false (oneRegionEach (onWays G (p .numbers .levels) ws)) w) f) g))))
       go false e false f false g = miss (unspoiled G (p .numbers .levels) ws e) (miss (uncut f) (miss (roomy g) (accepted-by tt refl)))
 
   clear-told : Told (unmapRangeTable G p a len) bare p Cleared (unmapRangeW G p a len)
@@ -384,18 +402,18 @@ module _ (G : Granule) (Z : Sane G) (p : Pool) (a len : ℕ) where
       by n = cond (eqb n 0) (unmapRangeAt G p a len xs) (refuse n p)
 
       tests : goodPool G p ≡ true → (x₁ x₂ x₃ x₄ : Bool) → goodLength G len ≡ x₁ → leb space a ≡ x₂ → ltb space (a + len) ≡ x₃ → eqb (a % pageSize G) 0 ≡ x₄
-          → Told (row 2 (NoLength G len) ∷ row 4 (PastSpace G l a len) ∷ row 5 (a % pageSize G ≢ 0) ∷ Pages) bare p Cleared (by (cond x₁ (cond x₂ 4 (cond x₃ 4 (cond x₄ 0 5))) 2))
+          → Told (row 2 (NoLength G len) ∷ row 4 (PastSpace G l a len) ∷ row 5 (OffPage G a) ∷ Pages) bare p Cleared (by (cond x₁ (cond x₂ 4 (cond x₃ 4 (cond x₄ 0 5))) 2))
       tests good false x₂ x₃ x₄ e₁ e₂ e₃ e₄ = hit (bad-length G len e₁)
-      tests good true true x₃ x₄ e₁ e₂ e₃ e₄ = miss (good-length G len e₁) (hit (starts-past (leb-true space a e₂)))
-      tests good true false true x₄ e₁ e₂ e₃ e₄ = miss (good-length G len e₁) (hit (ends-past (ltb-true space (a + len) e₃)))
+      tests good true true x₃ x₄ e₁ e₂ e₃ e₄ = miss (good-length G len e₁) (hit (inl (leb-true space a e₂)))
+      tests good true false true x₄ e₁ e₂ e₃ e₄ = miss (good-length G len e₁) (hit (inr (ltb-true space (a + len) e₃)))
       tests good true false false false e₁ e₂ e₃ e₄ = miss (good-length G len e₁) (miss (not-past G l a len e₂ e₃) (hit (eqb-false _ 0 e₄)))
       tests good true false false true e₁ e₂ e₃ e₄ =
           miss (good-length G len e₁) (miss (not-past G l a len e₂ e₃) (miss (λ n. n (eqb-true _ 0 e₄))
           (pages-told good (record { long = length-fine G len e₁; in-space = ltb-false space (a + len) e₃; address-aligned = eqb-true _ 0 e₄ }))))
 
       first : (x : Bool) → goodPool G p ≡ x → Told (unmapRangeTable G p a len) bare p Cleared (cond x (by (unmapRangeTests G l a len)) (refuse 1 p))
-      first true e = miss (λ n. n (good-setup e)) (tests e (goodLength G len) (leb space a) (ltb space (a + len)) (eqb (a % pageSize G) 0) refl refl refl refl)
-      first false e = hit (λ S. true≢false (sym (setup-good S) ∙ e))
+      first true e = miss (good-keeps G p e) (tests e (goodLength G len) (leb space a) (ltb space (a + len)) (eqb (a % pageSize G) 0) refl refl refl refl)
+      first false e = hit (bad-breaks G p e)
 
   pub unmap-range-numbers : UnmapRangeNumbers G p a len
   unmap-range-numbers = record {

@@ -1,42 +1,30 @@
 -- The table of refusals of ranges, for any granule and any pool whatever: when each of the two calls gives each number, in the order of the tests.
-use Prim.Native.Nat.{ℕ, suc, _+_, _-_, _*_, _/_, _%_, _^_, _≤_, _<_}
+use Prim.Native.Nat.{ℕ, suc, _+_, _*_, _/_, _%_, _^_, _≤_, _<_}
 use mathlib.Core.Path.{_≡_}
 use mathlib.Core.Logic.{_≢_, _⊎_, _↔_}
 use mathlib.Core.List.{List, [], _∷_, List·Memᴰ}
 use lib.ListN.{length}
-use Rattle.path.specs.Geometry.{Granule, pageSize, sizeAt, spaceOf}
-use Rattle.path.specs.Areas.{areaOf, total, Shares}
-use Rattle.path.specs.Numbers.{GoodSetup}
-use Rattle.path.specs.Paths.{baseAt, pathOf}
+use Rattle.path.specs.Geometry.{Granule, pageSize, sizeAt}
+use Rattle.path.specs.Paths.{baseAt}
 use Rattle.entry.specs.declared.Entry.the-variants.{Frame}
 use Rattle.model.specs.declared.Walked.{Walked}
-use Rattle.model.specs.Answers.{Mapping, took, cleared, tablesIn, Pool, Done}
+use Rattle.model.specs.Answers.{Mapping, took, cleared, tablesIn, Pool}
 use Rattle.model.specs.Walk.{atHeight}
-use Rattle.model.specs.Writes.{freed}
-use Rattle.model.specs.Calls.{walkTo, unmapW}
+use Rattle.model.specs.Calls.{unmapW}
 use Rattle.model.specs.Ranges.{pieces, pagesFrom, pagesOf, Probe, walkFor, pieceWalks, pageWalks, ways, lacked, leftBy, answersOf, sumOf, acceptedIn, mapRangeW, unmapRangeW}
-use Rattle.model.specs.Refusals.{Row, row, None, ByTable, bare, NoAttributes, Misplaced, Damage, Occupied, BadTaken}
+use Rattle.model.specs.Refusals.{Row, row, None, ByTable, bare, areaIn, tableCount, Breaks, NoAttributes, NotBelow, Above, Outside, Misplaced, InPool, OffPage, lastWalk, Occupied, Damage, BadTaken, Starts, FullList}
 
 -- ---- when a number applies
 
--- 1: a setup number or a length of the lent memory breaks one of the rules
-abbrev pub NotGood : Granule → Pool → Type 0
-NotGood G p = ¬ GoodSetup G (p .numbers) (p .cut) (length (p .words)) (length (p .list))
-
--- 2: the length is 0, no multiple of a page, or above 4 GiB
+-- 2: the length is 0, no multiple of a page's bytes, or above 4 GiB
 pub data NoLength (G : Granule) (len : ℕ) : Type 0 where
   nothing : len ≡ 0 → NoLength G len
   part-page : len % pageSize G ≢ 0 → NoLength G len
   too-long : 2 ^ 32 < len → NoLength G len
 
--- 4: the address is not below the space, or address + length is above it
-pub data PastSpace (G : Granule) (levels a len : ℕ) : Type 0 where
-  starts-past : spaceOf G levels ≤ a → PastSpace G levels a len
-  ends-past : spaceOf G levels < a + len → PastSpace G levels a len
-
--- or frame base + length is above 2^48
-abbrev pub RangeOutside : Granule → ℕ → ℕ → ℕ → ℕ → Type 0
-RangeOutside G levels a b len = PastSpace G levels a len ⊎ (2 ^ 48 < b + len)
+-- 4, unmap: the address is not below the space, or address + length is above it
+abbrev pub PastSpace : Granule → ℕ → ℕ → ℕ → Type 0
+PastSpace G levels a len = NotBelow G levels a ⊎ Above G levels (a + len)
 
 -- 8, the walks: one meets a damaged word or comes to the same table twice; or together they come to one table for two regions, where its entries have height i
 -- on the one way and j on the other
@@ -58,40 +46,34 @@ tablesFor G p ms = length (lacked G p ms [])
 
 -- 8, the free list: of the tables to be taken one is outside 1 to n - 1, is taken twice, or stands on a piece's path
 abbrev pub BadRange : Granule → Pool → List Mapping → Type 0
-BadRange G p ms = BadTaken (p .list) (total (areaOf (p .numbers))) (p .numbers .free) (tablesFor G p ms) (ways (pieceWalks G p ms))
+BadRange G p ms = BadTaken (p .list) (tableCount p) (p .numbers .free) (tablesFor G p ms) (ways (pieceWalks G p ms))
 
 -- 10: the walk of a page finds a frame whose mapping begins before the range or ends past it
 abbrev pub Cuts : Granule → Pool → ℕ → ℕ → Type 0
 Cuts G p a len =
     (x : ℕ)
     × List·Memᴰ x (pagesOf G a len)
-    × (let o = walkTo G p 0 x in
+    × (let o = lastWalk G p x in
     (b : ℕ) × (k : ℕ) × (o .entry ≡ Frame b k) × ((baseAt G x (o .left) < a) ⊎ (a + len < baseAt G x (o .left) + sizeAt G (o .left))))
 
--- the tables that an unmap at x gives back
-abbrev pub givenAt : Granule → Pool → ℕ → ℕ
-givenAt G p x = let o = walkTo G p 0 x in freed G (p .words) (o .tables) (pathOf G x) (o .left) (p .numbers .levels - 1 - o .left)
-
--- the walk for x found a frame whose mapping starts there, and giving back would make the free count exceed the table count less 1
-pub record Full (G : Granule) (p : Pool) (x : ℕ) : Type 0 where
-  pub frame : (b : ℕ) × (k : ℕ) × (walkTo G p 0 x .entry ≡ Frame b k)
-  pub starts : x % sizeAt G (walkTo G p 0 x .left) ≡ 0
-  pub over : total (areaOf (p .numbers)) - 1 < p .numbers .free + givenAt G p x
-
--- 8, the free list: so it is at some page of the range, once the mappings before it are removed
+-- 8, the free list: at some page of the range, once the mappings before it are removed, a mapping starts, and giving back its tables would make the free count
+-- exceed the table count less 1
 abbrev pub FullRange : Granule → Pool → ℕ → ℕ → Type 0
-FullRange G p a len = (j : ℕ) × (j < len / pageSize G) × Full G (leftBy (unmapW G) p (pagesFrom G a j)) (a + j * pageSize G)
+FullRange G p a len =
+    (j : ℕ)
+    × (j < len / pageSize G)
+    × (let q = leftBy (unmapW G) p (pagesFrom G a j) in let x = a + j * pageSize G in Starts G x (lastWalk G q x) × FullList G q x)
 
 -- ---- the tables, in the order of the tests
 
 abbrev pub mapRangeTable : Granule → Pool → ℕ → ℕ → ℕ → ℕ → List Row
 mapRangeTable G p a b len k =
-    row 1 (NotGood G p)
+    row 1 (Breaks G p)
     ∷ row 2 (NoLength G len)
     ∷ row 3 (NoAttributes k)
-    ∷ row 4 (RangeOutside G (p .numbers .levels) a b len)
+    ∷ row 4 (Outside G (p .numbers .levels) a b len)
     ∷ row 5 (Misplaced a b (pageSize G))
-    ∷ row 11 (Shares G (areaOf (p .numbers)) b len)
+    ∷ row 11 (InPool G (areaIn p) b len)
     ∷ row 8 (Spoils G (p .numbers .levels) (pieceWalks G p (pieces G a b len k)))
     ∷ row 6 (SomeOccupied G p (pieces G a b len k))
     ∷ row 7 (p .numbers .free < tablesFor G p (pieces G a b len k))
@@ -100,10 +82,10 @@ mapRangeTable G p a b len k =
 
 abbrev pub unmapRangeTable : Granule → Pool → ℕ → ℕ → List Row
 unmapRangeTable G p a len =
-    row 1 (NotGood G p)
+    row 1 (Breaks G p)
     ∷ row 2 (NoLength G len)
     ∷ row 4 (PastSpace G (p .numbers .levels) a len)
-    ∷ row 5 (a % pageSize G ≢ 0)
+    ∷ row 5 (OffPage G a)
     ∷ row 8 (Spoils G (p .numbers .levels) (pageWalks G p (pagesOf G a len)))
     ∷ row 10 (Cuts G p a len)
     ∷ row 8 (FullRange G p a len)

@@ -22,7 +22,7 @@ use Rattle.path.specs.Paths.{baseAt, pathOf}
 use Rattle.path.specs.PathLaws.{path-of-at, index-below, region-index}
 use Rattle.path.specs.RegionLaws.{multiple-gap, region-above, region-base, base-region, base-aligned, base-le, base-inside, aligned-base, aligned-down}
 use Rattle.entry.specs.Words.{entryAt}
-use Rattle.entry.specs.Laws.{entry-zero, table-only}
+use Rattle.entry.specs.Laws.{entry-zero}
 use Rattle.entry.specs.declared.Entry.{Entry}
 use Rattle.entry.specs.declared.Entry.the-variants.{Empty, Table, Frame, Damaged}
 use Rattle.model.specs.declared.Walked.{Walked}
@@ -36,7 +36,7 @@ use Rattle.model.specs.LeftLaws.{unmap-leaves, leaves-good}
 use Rattle.model.specs.LedgerLaws.{and-true, true-or}
 use Rattle.model.specs.WordLaws.{word-other}
 use Rattle.model.specs.Ranges.{unmapRangeTests, pagesFrom, pagesOf, Probe, probe, pageWalk, pageWalks, anyEnds, isDamaged, Standing, standing, onWays, oneRegionEach, spoiled, inside, cutAt, anyCutBy, answersOf, leftBy, sumOf, acceptedIn, refusesWith, anyRefused, unmapRangeHere, unmapRangeAt, unmapRangeW}
-use Rattle.model.specs.RangeRefusals.{givenAt, Full}
+use Rattle.model.specs.RefusalLaws.{given, no-table-last}
 use Rattle.model.specs.RangeLaws.{FineUnmap, unmap-fine, page-next, pages-from, inside-is, or-false, false-or}
 use Rattle.model.specs.RangeWalks.{readBy, Stopped, left-low, stopped-walk, stopped-apart, stopped-moved, Shorter, stopped-cut, walk-stopped, walk-region, same-index}
 use Rattle.model.specs.RangeMapped.{chosen, each-so, standingAt, ways-has, none-ends}
@@ -97,6 +97,16 @@ unmap-range-view G p a len =
 
 -- ---- one unmap
 
+-- the tables that an unmap at x gives back
+abbrev pub givenAt : Granule → Pool → ℕ → ℕ
+givenAt G p x = given G p x (walkTo G p 0 x)
+
+-- the walk for x found a frame whose mapping starts there, and giving back would make the free count exceed the table count less 1
+pub record Full (G : Granule) (p : Pool) (x : ℕ) : Type 0 where
+  pub frame : (b : ℕ) × (k : ℕ) × (walkTo G p 0 x .entry ≡ Frame b k)
+  pub starts : x % sizeAt G (walkTo G p 0 x .left) ≡ 0
+  pub over : total (areaOf (p .numbers)) - 1 < p .numbers .free + givenAt G p x
+
 -- the pool that an unmap at x leaves
 abbrev pub removedAt : Granule → Pool → ℕ → Pool
 removedAt G p x =
@@ -112,13 +122,6 @@ pub data Goes (G : Granule) (p : Pool) (x : ℕ) : Done → Type 0 where
 
 pub few-levels : (G : Granule) → Sane G → (p : Pool) → goodPool G p ≡ true → p .numbers .levels ≤ 4
 few-levels G Z p good = omega (arith, good-setup good .numbers .not-more, Z .most-four)
-
--- at the last level no entry is a table
-no-table : (G : Granule) → Sane G → (p : Pool) (x : ℕ) → goodPool G p ≡ true → (c : ℕ) → walkTo G p 0 x .entry ≢ Table c
-no-table G Z p x good c e =
-    let E = walk-stopped G p (few-levels G Z p good) 0 x (λ z. clash (cc)) in
-    let l = E .last c e in
-    omega (arith, table-only Z (areaOf (p .numbers)) (walkTo G p 0 x .left) (getD (p .words) (slot G (E .table) (atHeight (pathOf G x) (walkTo G p 0 x .left))) 0) (E .reads ∙ e) .0)
 
 -- an address that passes unmap's tests
 pub unmap-tests : (G : Granule) (levels x : ℕ) → x < spaceOf G levels → x % pageSize G ≡ 0 → unmapTests G levels x ≡ 0
@@ -140,7 +143,7 @@ goes G Z p x good l e d s = rw (good, eq-eqb _ _ (unmap-tests G (p .numbers .lev
 
     at : (w : Entry) → o .entry ≡ w → Goes G p x (unmapAt G p x o w)
     at Empty q = passes q
-    at (Table c) q = absurd (no-table G Z p x good c q)
+    at (Table c) q = absurd (no-table-last G p x c q)
     at Damaged q = absurd (d q)
     at (Frame b k) q = rw (eq-eqb _ _ (s b k q)) (limit b k q (ltb (total (areaOf (p .numbers)) - 1) (p .numbers .free + givenAt G p x)) refl)
 
