@@ -1,18 +1,18 @@
 -- A range mapped on a pool that holds a ledger: the answer is the ledger's, and the pool after it holds the ledger after it.
-use Prim.Native.Nat.{ℕ, zero, suc, _+_, _-_, _*_, _/_, _%_, _≤_, _<_}
+use Prim.Native.Nat.{ℕ, zero, suc, _+_, _-_, _≤_, _<_}
 use mathlib.Core.Path.{_≡_, refl, ap, sym, _∙_, subst}
-use mathlib.Core.Logic.{_≢_, _⊎_, inl, inr, ⊎-elim}
+use mathlib.Core.Logic.{⊎-elim}
 use mathlib.Core.Bool.{Bool, true, false, cond, _||_, false≢true}
-use mathlib.Core.List.{List, [], _∷_, _++_, map, List·Memᴰ, List·Memᴰ·head as here, List·Memᴰ·tail as there, List·Memᴰ·not-nil, List·Memᴰ·cases-cons, Memᴰ·map, Memᴰ·of-map}
+use mathlib.Core.List.{List, [], _∷_, _++_, map, List·Memᴰ, List·Memᴰ·head as here, List·Memᴰ·tail as there, List·Memᴰ·cases-cons, Memᴰ·map, Memᴰ·of-map}
 use native.Mathlib.Nat.{add-zero, add-suc}
 use native.Mathlib.Omega.{arith}
 use native.Mathlib.Decide.{ℕ-discrete}
-use lib.Dec.{ltb, leb, eqb}
+use lib.Dec.{ltb, eqb}
 use lib.ListN.{length, length-append}
-use borrow.Author.Tests.{ltb-true, ltb-false, eqb-true, le-ltb, eq-eqb}
-use Rattle.path.specs.Geometry.{Granule, pageSize, entries, sizeAt, spaceOf, physical, heightOf, Sane}
+use borrow.Author.Tests.{ltb-false, eqb-true, le-ltb, eq-eqb}
+use Rattle.path.specs.Geometry.{Granule, entries, sizeAt, spaceOf, physical, heightOf, Sane}
 use Rattle.path.specs.Areas as areas
-use Rattle.path.specs.Areas.{Area, areaOf, total}
+use Rattle.path.specs.Areas.{areaOf, total}
 use Rattle.path.specs.Laws.{size-pos}
 use Rattle.path.specs.Paths.{baseAt}
 use Rattle.entry.specs.declared.Entry.{Entry}
@@ -21,10 +21,10 @@ use Rattle.model.specs.Answers as answers
 use Rattle.model.specs.Answers.{took, refused, Pool, Done, done, refuse}
 use Rattle.model.specs.declared.Walked.{Walked}
 use Rattle.model.specs.Writes.{mayTake}
-use Rattle.model.specs.Calls.{walkTo, mapTests, mapW}
+use Rattle.model.specs.Calls.{mapTests}
 use Rattle.model.specs.Ledger.{Ledger, withLive, anyOverlap, Region, region, regionsOf, hasRegion, newRegions, regionsNeeded, tablesNeeded, tablesLacking, freeTables, Entered, entered, mapL}
 use Rattle.model.specs.Holes.{Shares}
-use Rattle.model.specs.Ranges.{mapRangeTests, pieces, Probe, walkFor, pieceWalk, pieceWalks, isTaken, anyEnds, spoiled, lacked, ways, mapPiece, leftBy, mapRangeHere, mapRangeAt, mapRangeW, gain, gainOf, mapRangeL}
+use Rattle.model.specs.Ranges.{mapRangeTests, pieces, Probe, walkFor, pieceWalk, pieceWalks, isTaken, anyEnds, lacked, ways, mapPiece, leftBy, mapRangeHere, mapRangeAt, mapRangeW, gain, gainOf, mapRangeL}
 use Rattle.model.specs.RangeLaws.{Tiles, over, piece, FineRange, range-fine, tiles, fits-tests, tiles-tests, tiles-inside, tiles-overlap, overlap-less, overlaps-none, none-overlaps, part-outside}
 use Rattle.model.specs.RangeMapped.{or-assoc, has-append, some-ends, none-ends, neither, MapRangeView, range-takes, range-refuses, map-range-view}
 use Rattle.model.specs.DescentLaws.{clash}

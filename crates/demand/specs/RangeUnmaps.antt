@@ -2,13 +2,13 @@
 use Prim.Native.Nat.{ℕ, zero, suc, _+_, _-_, _*_, _/_, _%_, _≤_, _<_}
 use mathlib.Core.Path.{_≡_, refl, ap, sym, _∙_, subst}
 use mathlib.Core.Logic.{_≢_, _⊎_, inl, inr, ⊎-elim}
-use mathlib.Core.Bool.{Bool, true, false, cond, _||_, not, false≢true}
-use mathlib.Core.List.{List, [], _∷_, map, List·Memᴰ, List·Memᴰ·head as here, List·Memᴰ·tail as there, List·Memᴰ·not-nil, List·Memᴰ·cases-cons, Memᴰ·map, Memᴰ·of-map, Memᴰ·cast}
+use mathlib.Core.Bool.{Bool, true, false, cond, not}
+use mathlib.Core.List.{List, [], _∷_, map, List·Memᴰ, List·Memᴰ·head as here, List·Memᴰ·tail as there, List·Memᴰ·not-nil, List·Memᴰ·cases-cons, Memᴰ·of-map, Memᴰ·cast}
 use mathlib.Core.Option.{Option, some, none}
 use native.Mathlib.Nat.{suc-mul, mul-mod-left, div-add-mod'}
 use native.Mathlib.Omega.{arith}
 use native.Mathlib.Decide.{decLt, decLe}
-use lib.Dec.{ltb, leb, eqb}
+use lib.Dec.{ltb, eqb}
 use lib.ListN.{length}
 use borrow.Author.Tests.{eqb-true, eqb-false, lt-leb, le-leb, lt-ltb, eq-eqb}
 use Rattle.path.specs.Geometry.{Granule, pageSize, entries, sizeAt, spaceOf, Sane}
@@ -23,12 +23,12 @@ use Rattle.model.specs.Answers.{Answer, gave, found, cleared, refused, tablesIn
 use Rattle.model.specs.declared.Walked.{Walked}
 use Rattle.model.specs.Writes.{freed, unmapWrites}
 use Rattle.model.specs.Calls.{goodPool, walkTo, written, foundAt, queryW, unmapTests, unmapHere, unmapAt, unmapW}
-use Rattle.model.specs.Ledger.{Ledger, withLive, holdsAddress, coverOf, dropAt, freeTables, Entered, entered, queryOf, queryL, unmapOf, unmapL}
+use Rattle.model.specs.Ledger.{Ledger, withLive, holdsAddress, coverOf, dropAt, freeTables, entered, queryOf, queryL, unmapOf, unmapL}
 use Rattle.model.specs.LedgerLaws.{true-and, true-or, cover-some, cover-none}
 use Rattle.model.specs.Holes.{Within, Shares}
 use Rattle.model.specs.DescentLaws.{clash}
 use Rattle.model.specs.Unique.{found-same}
-use Rattle.model.specs.Ranges.{unmapRangeTests, pagesFrom, pagesOf, Probe, pageWalk, pageWalks, spoiled, inside, cutAt, anyCutBy, answersOf, leftBy, sumOf, acceptedIn, refusesWith, anyRefused, unmapRangeHere, unmapRangeAt, unmapRangeW, anyCut, dropIn, clearOf, unmapRangeL}
+use Rattle.model.specs.Ranges.{unmapRangeTests, pagesFrom, pagesOf, Probe, pageWalk, pageWalks, inside, cutAt, anyCutBy, answersOf, leftBy, sumOf, acceptedIn, refusesWith, anyRefused, unmapRangeHere, unmapRangeAt, unmapRangeW, anyCut, dropIn, clearOf, unmapRangeL}
 use Rattle.model.specs.RangeUnmapped.{unmap-tests, UnmapRangeView, range-clears, range-stays, unmap-range-view}
 use Rattle.model.specs.RangeLaws.{page-next, pages-from, pages-has, FineUnmap, unmap-fine, Clear, inside-so, cut-clear, cut-some, dropped-from, drop-absent, drop-none, drop-step, false-or}
 use Rattle.tree.specs.Region.{anc, page}
@@ -39,7 +39,7 @@ use Rattle.demand.specs.Shown.{shown, pg, first-address, holds-covers}
 use Rattle.demand.specs.Arm.{readEntry}
 use Rattle.demand.specs.Walks.{Ended, never-bad, entry-table}
 use Rattle.demand.specs.Sims.{Sim}
-use Rattle.demand.specs.Queries.{area, k₀, al, R, own, ledger-is, pool-good, few, root-at, walk-ended, query-own}
+use Rattle.demand.specs.Queries.{area, k₀, al, R, own, ledger-is, pool-good, few, walk-ended, query-own}
 use Rattle.demand.specs.Maps.{Alike, own-sim, free-is}
 use Rattle.demand.specs.Steps.{unmap-step}
 use Rattle.demand.specs.Demand3.{unmapC, poolAfter, ledgerAfter}

@@ -2,7 +2,7 @@
 -- sequence of unmaps only shrink, so that each address reads as before or as after, whatever part of the writes is seen; and write after write the
 -- parts of a range are read one after the other.
 use mathlib.Core.Path.{_≡_, refl, ap, sym, _∙_, subst}
-use mathlib.Core.Logic.{_⊎_, inl, inr, ⊎-elim}
+use mathlib.Core.Logic.{inl}
 use mathlib.Core.Bool.{Bool, true, false, cond, _&&_, false≢true}
 use mathlib.Core.List.{List, [], _∷_, _++_, map, List·Memᴰ, List·Memᴰ·head as here, List·Memᴰ·tail as there}
 use mathlib.Core.Option.{some, Option·map}
@@ -18,7 +18,7 @@ use Rattle.path.specs.Areas.{Area, areaOf, GoodArea}
 use Rattle.path.specs.Numbers.{withFree}
 use Rattle.path.specs.declared.Setup.{Setup}
 use Rattle.model.specs.Answers as answers
-use Rattle.model.specs.Answers.{accepts, tablesIn, Pool, pool, Done, refuse}
+use Rattle.model.specs.Answers.{accepts, tablesIn, Pool, pool, Done}
 use Rattle.model.specs.Writes.{Write, Memory, memory, performAll}
 use Rattle.model.specs.Calls.{unmapW}
 use Rattle.model.specs.Ledger.{Ledger, holdsAddress, coverOf}
@@ -26,7 +26,7 @@ use Rattle.model.specs.LeftLaws.{perform-append}
 use Rattle.model.specs.LedgerLaws.{and-true, true-and}
 use Rattle.model.specs.Ranges.{mapPiece, leftBy, inside, gain, dropIn}
 use Rattle.model.specs.RangeLaws.{inside-is}
-use Rattle.tree.specs.Tree.{Ent, Geo, Rendered, Zeros}
+use Rattle.tree.specs.Tree.{Ent, Rendered, Zeros}
 use Rattle.tree.specs.Inv.{Mapping, Holds}
 use Rattle.demand.specs.Shown.{shown}
 use Rattle.demand.specs.Arm.{geo}

@@ -6,7 +6,7 @@ use mathlib.Core.List.{List, [], _∷_, _++_}
 use lib.ListN.{replicate}
 use Rattle.path.specs.Geometry.{Granule, four, sixteen}
 use Rattle.path.specs.Numbers.{withFree}
-use Rattle.model.specs.Answers.{Mapping, mapping, Answer, took, cleared, refused, Pool, pool, Done}
+use Rattle.model.specs.Answers.{mapping, Answer, took, cleared, refused, Pool, pool, Done}
 use Rattle.model.specs.Ledger.{freeTables}
 use Rattle.model.specs.Cases.{Both, formatAt, format, mapAs, unmapAs}
 use Rattle.model.specs.Ranges.{goodLength, mapRangeTests, unmapRangeTests, fitsAt, pieceAt, piecesFrom, pieces, pagesFrom, anyEnds, onWay, onWays, agrees, oneRegionEach, ways, answersOf, leftBy, sumOf, anyRefused, lacked, mapRangeHere, mapRangeAt, mapRangeW, anyCutBy, unmapRangeHere, unmapRangeAt, unmapRangeW, gain, gainOf, mapRangeL, anyCut, dropIn, clearOf, unmapRangeL}

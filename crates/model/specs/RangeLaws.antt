@@ -1,8 +1,8 @@
 -- Laws of ranges: what their tests say; the pieces tile a range, each of them the largest that fits; each passes map's tests; what overlaps a range
 -- overlaps a piece; and removing what a range holds is removing page by page.
-use Prim.Native.Nat.{ℕ, zero, suc, _+_, _-_, _*_, _/_, _%_, _^_, _≤_, _<_}
+use Prim.Native.Nat.{ℕ, zero, suc, _+_, _-_, _*_, _/_, _%_, _≤_, _<_}
 use mathlib.Core.Path.{_≡_, refl, ap, sym, _∙_, subst}
-use mathlib.Core.Logic.{_≢_, _⊎_, inl, inr, ⊎-elim}
+use mathlib.Core.Logic.{_≢_, inl, inr, ⊎-elim}
 use mathlib.Core.Bool.{Bool, true, false, cond, _&&_, _||_, not, false≢true}
 use mathlib.Core.List.{List, [], _∷_, List·Memᴰ, List·Memᴰ·head as here, List·Memᴰ·tail as there, List·Memᴰ·not-nil, List·Memᴰ·cases-cons}
 use native.Mathlib.Nat.{add-mod, add-mod-right, zero-mod, mod-mod, mod-eq-of-lt, div-add-mod', suc-mul}
@@ -10,8 +10,8 @@ use native.Mathlib.Omega.{arith}
 use native.Mathlib.Decide.{ℕ-discrete, decLt, decLe}
 use lib.Dec.{ltb, leb, eqb}
 use lib.ListN.{length}
-use borrow.Author.Tests.{ltb-true, ltb-false, leb-true, leb-false, eqb-true, eqb-false, lt-ltb, le-ltb, le-leb, lt-leb, eq-eqb, ne-eqb, not-true, not-false}
-use Rattle.path.specs.Geometry.{Granule, pageSize, sizeAt, physical, spaceOf, heightOf, Sane}
+use borrow.Author.Tests.{ltb-true, ltb-false, leb-true, eqb-true, eqb-false, lt-ltb, le-ltb, le-leb, lt-leb, eq-eqb, ne-eqb, not-true}
+use Rattle.path.specs.Geometry.{Granule, pageSize, sizeAt, physical, spaceOf, Sane}
 use Rattle.path.specs.Areas as areas
 use Rattle.path.specs.Areas.{Area, meetsArea}
 use Rattle.path.specs.RegionLaws.{multiple-gap}

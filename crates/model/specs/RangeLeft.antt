@@ -2,7 +2,7 @@
 use Prim.Native.Nat.{ℕ}
 use mathlib.Core.List.{List, [], _∷_}
 use Rattle.path.specs.Geometry.{Granule}
-use Rattle.model.specs.Answers.{Mapping, Pool, Done}
+use Rattle.model.specs.Answers.{Pool, Done}
 use Rattle.model.specs.Calls.{unmapW}
 use Rattle.model.specs.LeftLaws.{Leaves, as-it-was, leaves-on, map-leaves, unmap-leaves}
 use Rattle.model.specs.Ranges.{mapPiece, leftBy, mapRangeW, unmapRangeW}

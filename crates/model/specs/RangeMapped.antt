@@ -5,16 +5,16 @@ use Prim.Native.Nat.{ℕ, zero, suc, _+_, _-_, _*_, _/_, _%_, _≤_, _<_}
 use mathlib.Core.Path.{_≡_, refl, ap, sym, _∙_, subst, subst₂}
 use mathlib.Core.Logic.{_≢_, _⊎_, inl, inr, ⊎-elim}
 use mathlib.Core.Bool.{Bool, true, false, cond, _&&_, _||_, not, false≢true}
-use mathlib.Core.List.{List, [], _∷_, _++_, map, List·Memᴰ, List·Memᴰ·head as here, List·Memᴰ·tail as there, List·Memᴰ·not-nil, List·Memᴰ·cases-cons, Memᴰ·cast, Memᴰ·map, Memᴰ·append-left, Memᴰ·append-right}
+use mathlib.Core.List.{List, [], _∷_, _++_, List·Memᴰ, List·Memᴰ·head as here, List·Memᴰ·tail as there, List·Memᴰ·not-nil, List·Memᴰ·cases-cons, Memᴰ·cast, Memᴰ·map, Memᴰ·append-left, Memᴰ·append-right}
 use native.Mathlib.Omega.{arith}
 use native.Mathlib.Decide.{ℕ-discrete, decLt, decLe}
-use lib.Dec.{ltb, leb, eqb}
+use lib.Dec.{ltb, eqb}
 use lib.ListN.{length, getD, set, length-set, length-append}
 use lib.Seq.{getD-set-same, getD-set-other}
-use borrow.Author.Tests.{ltb-true, ltb-false, eqb-true, eqb-false, lt-ltb, le-ltb, eq-eqb, ne-eqb, not-true, not-false}
-use Rattle.laws.specs.Lists.{zeroed, among}
+use borrow.Author.Tests.{ltb-false, eqb-true, lt-ltb, le-ltb, eq-eqb, ne-eqb, not-false}
+use Rattle.laws.specs.Lists.{zeroed}
 use Rattle.laws.specs.ListLaws.{among-none, mem-at, at-mem, length-zeroed}
-use Rattle.path.specs.Geometry.{Granule, pageSize, entries, sizeAt, spaceOf, physical, heightOf, Sane}
+use Rattle.path.specs.Geometry.{Granule, entries, sizeAt, heightOf, Sane}
 use Rattle.path.specs.Areas as areas
 use Rattle.path.specs.Areas.{Area, areaOf, total}
 use Rattle.path.specs.Numbers.{withFree, GoodSetup}
@@ -29,22 +29,22 @@ use Rattle.entry.specs.Laws.{entry-zero, table-back}
 use Rattle.entry.specs.declared.Entry.{Entry}
 use Rattle.entry.specs.declared.Entry.the-variants.{Empty, Table, Frame, Damaged}
 use Rattle.model.specs.declared.Walked.{Walked}
-use Rattle.model.specs.Answers.{Mapping, mapping, Answer, took, refused, tablesIn, Pool, pool, Done, done, refuse}
+use Rattle.model.specs.Answers.{Mapping, mapping, Answer, took, tablesIn, Pool, pool, Done, done, refuse}
 use Rattle.model.specs.Walk.{slot, atHeight, noWay, stop, walkFrom}
 use Rattle.model.specs.Writes.{Memory, memory, wipe, store, performAll, mapWrites, mayTake}
-use Rattle.model.specs.Calls.{goodPool, walkTo, written, mapTests, mapHere, mapAt, mapW}
+use Rattle.model.specs.Calls.{goodPool, mapTests, mapHere, mapAt, mapW}
 use Rattle.model.specs.Ledger.{Region, region, regionsOf, hasRegion, newRegions}
 use Rattle.model.specs.LedgerLaws.{and-true, or-true}
 use Rattle.model.specs.Sound.{wordAt}
 use Rattle.model.specs.DescentLaws.{clash}
-use Rattle.model.specs.LeftLaws.{Leaves, after-writes, leaves-good}
+use Rattle.model.specs.LeftLaws.{after-writes, leaves-good}
 use Rattle.model.specs.Refusals.{taken, BadTaken}
 use Rattle.model.specs.Refusals.BadTaken.{root-taken, beyond-taken, taken-twice, taken-on-path}
 use Rattle.model.specs.RefusalLaws.{further, cannot-take, may-not-bad}
 use Rattle.model.specs.WordLaws.{word-stored, word-other, word-wiped, word-kept}
-use Rattle.model.specs.Ranges.{mapRangeTests, pieces, Probe, probe, walkFor, pieceWalk, pieceWalks, anyEnds, isDamaged, isTaken, Standing, standing, onWay, onWays, agree, agrees, oneRegionEach, spoiled, lacked, ways, mapPiece, leftBy, answersOf, sumOf, mapRangeHere, mapRangeAt, mapRangeW}
+use Rattle.model.specs.Ranges.{mapRangeTests, pieces, Probe, walkFor, pieceWalk, pieceWalks, anyEnds, isDamaged, isTaken, Standing, standing, onWay, onWays, agree, agrees, oneRegionEach, spoiled, lacked, ways, mapPiece, leftBy, answersOf, sumOf, mapRangeHere, mapRangeAt, mapRangeW}
 use Rattle.model.specs.RangeLaws.{Tiles, over, piece, Fits, FineRange, range-fine, tiles, tiles-tests, tiles-inside, or-false}
-use Rattle.model.specs.RangeWalks.{readBy, Stopped, left-low, stopped, stopped-walk, stopped-long, stopped-in, stopped-moved, stopped-linked, came-target}
+use Rattle.model.specs.RangeWalks.{Stopped, left-low, stopped, stopped-walk, stopped-long, stopped-in, stopped-moved, stopped-linked, came-target}
 
 -- what a list holds after one place is set
 mem-set : (xs : List ℕ) (i y x : ℕ) → List·Memᴰ x (set xs i y) → (x ≡ y) ⊎ List·Memᴰ x xs

@@ -1,35 +1,31 @@
 -- The two calls for ranges keep their tables of refusals.
-use Prim.Native.Nat.{ℕ, zero, suc, _+_, _-_, _*_, _/_, _%_, _^_, _≤_, _<_}
+use Prim.Native.Nat.{ℕ, zero, suc, _+_, _-_, _*_, _/_, _%_, _≤_, _<_}
 use mathlib.Core.Path.{_≡_, refl, sym, ap, subst, _∙_}
-use mathlib.Core.Logic.{_≢_, _⊎_, inl, inr, ⊎-elim, _↔_}
+use mathlib.Core.Logic.{_≢_, _⊎_, inl, inr, ⊎-elim}
 use mathlib.Core.Bool.{Bool, true, false, cond, _&&_, _||_, not, true≢false, false≢true}
-use mathlib.Core.List.{List, [], _∷_, _++_, List·Memᴰ, List·Memᴰ·head as here, List·Memᴰ·tail as there, List·Memᴰ·not-nil, List·Memᴰ·cases-cons, List·Memᴰ·append-cases, Memᴰ·map, Memᴰ·of-map}
-use native.Mathlib.Nat.{suc-mul, div-add-mod', add-mul-mod-self-right}
+use mathlib.Core.List.{List, [], _∷_, List·Memᴰ, List·Memᴰ·head as here, List·Memᴰ·tail as there, List·Memᴰ·not-nil, List·Memᴰ·cases-cons, List·Memᴰ·append-cases, Memᴰ·map, Memᴰ·of-map}
+use native.Mathlib.Nat.{suc-mul, div-add-mod'}
 use native.Mathlib.Omega.{arith}
-use native.Mathlib.Decide.{decLt}
 use lib.Dec.{ltb, leb, eqb}
-use lib.ListN.{length}
 use borrow.Author.Tests.{ltb-true, ltb-false, leb-true, leb-false, eqb-true, eqb-false, not-true, not-false, lt-ltb, eq-eqb}
 use Rattle.path.specs.Geometry.{Granule, Sane, pageSize, sizeAt, spaceOf, physical}
 use Rattle.path.specs.Areas.{areaOf, total, meetsArea}
 use Rattle.path.specs.Laws.{page-pos}
-use Rattle.path.specs.Paths.{baseAt, pathOf}
-use Rattle.path.specs.RegionLaws.{base-region}
+use Rattle.path.specs.Paths.{baseAt}
 use Rattle.entry.specs.declared.Entry.{Entry}
 use Rattle.entry.specs.declared.Entry.the-variants.{Empty, Table, Frame, Damaged}
 use Rattle.model.specs.declared.Walked.{Walked}
-use Rattle.model.specs.Answers.{Answer, refusal, took, cleared, refused, tablesIn, Mapping, Pool, Done, done, refuse}
-use Rattle.model.specs.Walk.{atHeight}
+use Rattle.model.specs.Answers.{Answer, took, cleared, tablesIn, Mapping, Pool, Done, done, refuse}
 use Rattle.model.specs.Writes.{mayTake}
 use Rattle.model.specs.Calls.{goodPool, walkTo, unmapHere, unmapAt, unmapW}
-use Rattle.model.specs.LedgerLaws.{and-true, true-and, or-true, true-or}
+use Rattle.model.specs.LedgerLaws.{or-true, true-or}
 use Rattle.model.specs.DescentLaws.{clash}
-use Rattle.model.specs.LeftLaws.{Kept, leaves-kept, leaves-good, unmap-leaves}
-use Rattle.model.specs.Refusals.{Row, row, None, ByTable, bare, areaIn, NoAttributes, Outside, Misplaced, InPool, OffPage, lastWalk, Occupied, Starts, FullList}
+use Rattle.model.specs.LeftLaws.{leaves-kept, leaves-good, unmap-leaves}
+use Rattle.model.specs.Refusals.{Row, row, bare, areaIn, NoAttributes, Outside, Misplaced, InPool, OffPage, lastWalk, Occupied, Starts, FullList}
 use Rattle.model.specs.Refusals.Outside.{starts-outside, ends-outside, frame-outside}
-use Rattle.model.specs.RefusalLaws.{Told, refused-by, accepted-by, by-table, by-none, none-by, hit, miss, cannot-take, may-not-bad, bad-breaks, good-keeps, in-pool, off-pool, gives-back, gives-one}
-use Rattle.model.specs.Ranges.{longest, goodLength, mapRangeTests, unmapRangeTests, pieces, pagesFrom, pagesOf, Probe, walkFor, pieceWalk, pieceWalks, pageWalk, pageWalks, anyEnds, isDamaged, isTaken, Standing, standing, onWay, onWays, agree, agrees, oneRegionEach, spoiled, ways, lacked, mapPiece, leftBy, answersOf, sumOf, acceptedIn, refusesWith, anyRefused, mapRangeHere, mapRangeAt, mapRangeW, inside, cutAt, anyCutBy, unmapRangeHere, unmapRangeAt, unmapRangeW}
-use Rattle.model.specs.RangeLaws.{FineLength, length-fine, FineUnmap, page-next, pages-from, inside-so, inside-is, or-false, false-or}
+use Rattle.model.specs.RefusalLaws.{Told, accepted-by, by-table, by-none, none-by, hit, miss, cannot-take, may-not-bad, bad-breaks, good-keeps, in-pool, off-pool, gives-back, gives-one}
+use Rattle.model.specs.Ranges.{longest, goodLength, mapRangeTests, unmapRangeTests, pieces, pagesFrom, pagesOf, Probe, walkFor, pieceWalk, pieceWalks, pageWalks, anyEnds, isDamaged, isTaken, Standing, onWay, onWays, agree, agrees, oneRegionEach, spoiled, ways, mapPiece, leftBy, answersOf, sumOf, acceptedIn, refusesWith, anyRefused, mapRangeHere, mapRangeAt, mapRangeW, inside, cutAt, anyCutBy, unmapRangeHere, unmapRangeAt, unmapRangeW}
+use Rattle.model.specs.RangeLaws.{length-fine, FineUnmap, page-next, inside-is, or-false}
 use Rattle.model.specs.RangeMapped.{standingAt, each-so, ways-has, none-ends, some-ends}
 use Rattle.model.specs.RangeRefusals.{NoLength, nothing, part-page, too-long, PastSpace, Spoils, meets-damage, two-regions, SomeOccupied, tablesFor, BadRange, Cuts, FullRange, mapRangeTable, unmapRangeTable, MapRangeNumbers, UnmapRangeNumbers}
 use Rattle.model.specs.RangeUnmapped.{givenAt, Full, unmap-tests, start, only-full}

@@ -7,7 +7,6 @@ use lib.ListN.{length}
 use Rattle.path.specs.Geometry.{Granule, pageSize, sizeAt}
 use Rattle.path.specs.Paths.{baseAt}
 use Rattle.entry.specs.declared.Entry.the-variants.{Frame}
-use Rattle.model.specs.declared.Walked.{Walked}
 use Rattle.model.specs.Answers.{Mapping, took, cleared, tablesIn, Pool}
 use Rattle.model.specs.Walk.{atHeight}
 use Rattle.model.specs.Calls.{unmapW}

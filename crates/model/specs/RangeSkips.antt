@@ -1,7 +1,7 @@
 -- Ranges by stretches: what is done to a sequence is done to its first part and then to the rest; pages of a hole, and the further pages of a mapping that
 -- was removed, change nothing and are passed over at once.
-use Prim.Native.Nat.{ℕ, zero, suc, _+_, _-_, _*_, _/_, _%_, _≤_, _<_}
-use mathlib.Core.Path.{_≡_, refl, ap, sym, _∙_, subst}
+use Prim.Native.Nat.{ℕ, zero, suc, _+_, _*_, _/_, _%_, _≤_, _<_}
+use mathlib.Core.Path.{_≡_, refl, ap, sym, _∙_}
 use mathlib.Core.Logic.{_≢_}
 use mathlib.Core.Bool.{Bool, true, false, cond, _||_}
 use mathlib.Core.List.{List, [], _∷_, _++_, List·Memᴰ, List·Memᴰ·head as here, List·Memᴰ·tail as there}
@@ -21,7 +21,7 @@ use Rattle.model.specs.Ranges.{pagesFrom, answersOf, leftBy, sumOf, acce
 use Rattle.model.specs.RangeLaws.{false-or}
 use Rattle.model.specs.RangeWalks.{walk-region}
 use Rattle.model.specs.RangeMapped.{or-assoc}
-use Rattle.model.specs.RangeUnmapped.{few-levels, removedAt, hole-there, hole-region}
+use Rattle.model.specs.RangeUnmapped.{removedAt, hole-there, hole-region}
 
 -- ---- in two parts
 

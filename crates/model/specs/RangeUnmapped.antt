@@ -6,39 +6,38 @@ use Prim.Native.Nat.{ℕ, zero, suc, _+_, _-_, _*_, _/_, _%_, _≤_, _<_}
 use mathlib.Core.Path.{_≡_, refl, ap, sym, _∙_, subst}
 use mathlib.Core.Logic.{_≢_, _⊎_, inl, inr, ⊎-elim}
 use mathlib.Core.Bool.{Bool, true, false, cond, _||_, not, false≢true, true≢false}
-use mathlib.Core.List.{List, [], _∷_, _++_, List·Memᴰ, List·Memᴰ·head as here, List·Memᴰ·tail as there, List·Memᴰ·not-nil, List·Memᴰ·cases-cons, Memᴰ·map}
+use mathlib.Core.List.{List, [], _∷_, List·Memᴰ, List·Memᴰ·head as here, List·Memᴰ·tail as there, List·Memᴰ·not-nil, List·Memᴰ·cases-cons, Memᴰ·map}
 use native.Mathlib.Nat.{suc-add, suc-mul, add-zero, add-suc, div-add-mod'}
 use native.Mathlib.Omega.{arith}
 use native.Mathlib.Decide.{ℕ-discrete, decLt}
-use lib.Dec.{ltb, leb, eqb}
+use lib.Dec.{ltb, eqb}
 use lib.ListN.{length, getD, set, length-set}
-use lib.Seq.{getD-set-same, getD-set-other}
-use borrow.Author.Tests.{ltb-true, ltb-false, leb-false, eqb-true, eqb-false, ne-eqb, eq-eqb, lt-leb, not-false}
+use lib.Seq.{getD-set-same}
+use borrow.Author.Tests.{ltb-true, eqb-true, eq-eqb, lt-leb, not-false}
 use Rattle.laws.specs.ListLaws.{getD-past}
 use Rattle.path.specs.Geometry.{Granule, pageSize, entries, sizeAt, spaceOf, Sane}
-use Rattle.path.specs.Areas.{Area, areaOf, total}
-use Rattle.path.specs.Laws.{good-setup, page-pos, size-zero, size-le, size-injective}
+use Rattle.path.specs.Areas.{areaOf, total}
+use Rattle.path.specs.Laws.{good-setup, page-pos, size-zero, size-injective}
 use Rattle.path.specs.Paths.{baseAt, pathOf}
 use Rattle.path.specs.PathLaws.{path-of-at, index-below, region-index}
-use Rattle.path.specs.RegionLaws.{multiple-gap, region-above, region-base, base-region, base-aligned, base-le, base-inside, aligned-base, aligned-down}
+use Rattle.path.specs.RegionLaws.{multiple-gap, region-above, base-region, base-aligned, base-le, aligned-base, aligned-down}
 use Rattle.entry.specs.Words.{entryAt}
 use Rattle.entry.specs.Laws.{entry-zero}
 use Rattle.entry.specs.declared.Entry.{Entry}
 use Rattle.entry.specs.declared.Entry.the-variants.{Empty, Table, Frame, Damaged}
 use Rattle.model.specs.declared.Walked.{Walked}
-use Rattle.model.specs.Answers.{Answer, refusal, gave, cleared, refused, hole, tablesIn, Pool, pool, Done, done, refuse}
-use Rattle.model.specs.Walk.{slot, atHeight, noWay, stop, walkFrom}
-use Rattle.model.specs.Writes.{Memory, memory, performAll, onlyEntry, freed, pruneWrites, unmapWrites}
+use Rattle.model.specs.Answers.{Answer, gave, cleared, hole, tablesIn, Pool, Done, done, refuse}
+use Rattle.model.specs.Walk.{slot, atHeight, noWay}
+use Rattle.model.specs.Writes.{memory, performAll, onlyEntry, freed, pruneWrites, unmapWrites}
 use Rattle.model.specs.Calls.{goodPool, walkTo, written, unmapTests, unmapHere, unmapAt, unmapW}
 use Rattle.model.specs.Sound.{wordAt}
 use Rattle.model.specs.DescentLaws.{clash}
 use Rattle.model.specs.LeftLaws.{unmap-leaves, leaves-good}
-use Rattle.model.specs.LedgerLaws.{and-true, true-or}
 use Rattle.model.specs.WordLaws.{word-other}
-use Rattle.model.specs.Ranges.{unmapRangeTests, pagesFrom, pagesOf, Probe, probe, pageWalk, pageWalks, anyEnds, isDamaged, Standing, standing, onWays, oneRegionEach, spoiled, inside, cutAt, anyCutBy, answersOf, leftBy, sumOf, acceptedIn, refusesWith, anyRefused, unmapRangeHere, unmapRangeAt, unmapRangeW}
+use Rattle.model.specs.Ranges.{unmapRangeTests, pagesFrom, pagesOf, Probe, pageWalk, pageWalks, anyEnds, isDamaged, onWays, oneRegionEach, spoiled, cutAt, anyCutBy, answersOf, leftBy, sumOf, acceptedIn, refusesWith, anyRefused, unmapRangeHere, unmapRangeAt, unmapRangeW}
 use Rattle.model.specs.RefusalLaws.{given, no-table-last}
-use Rattle.model.specs.RangeLaws.{FineUnmap, unmap-fine, page-next, pages-from, inside-is, or-false, false-or}
-use Rattle.model.specs.RangeWalks.{readBy, Stopped, left-low, stopped-walk, stopped-apart, stopped-moved, Shorter, stopped-cut, walk-stopped, walk-region, same-index}
+use Rattle.model.specs.RangeLaws.{FineUnmap, unmap-fine, page-next, pages-from, inside-is, or-false}
+use Rattle.model.specs.RangeWalks.{Stopped, left-low, stopped-walk, stopped-apart, stopped-moved, Shorter, stopped-cut, walk-stopped, walk-region}
 use Rattle.model.specs.RangeMapped.{chosen, each-so, standingAt, ways-has, none-ends}
 
 -- ---- what a call comes to
