@@ -29,6 +29,7 @@ pub mod RangeWalks
 pub mod RangeMapped
 pub mod RangeRefusals
 pub mod RangeUnmapped
+pub mod RangeRemoved
 pub mod RangeRefusalLaws
 pub mod RangeSkips
 pub mod RangeLeft

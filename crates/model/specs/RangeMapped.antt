@@ -19,8 +19,8 @@ use Rattle.path.specs.Areas as areas
 use Rattle.path.specs.Areas.{Area, areaOf, total}
 use Rattle.path.specs.Numbers.{withFree, GoodSetup}
 use Rattle.path.specs.Laws.{size-pos, size-le, size-rises, size-injective, size-height, good-setup}
-use Rattle.path.specs.Paths.{baseAt, pathOf, indexAt}
-use Rattle.path.specs.PathLaws.{path-of-at, index-below, region-index}
+use Rattle.path.specs.Paths.{baseAt, pathOf}
+use Rattle.path.specs.PathLaws.{path-of-at, index-below}
 use Rattle.path.specs.PrefixLaws.{region-indices}
 use Rattle.path.specs.RegionLaws.{aligned-down, aligned-base, region-base, base-region, base-le, base-end}
 use Rattle.path.specs.declared.Setup.{Setup}
@@ -44,7 +44,7 @@ use Rattle.model.specs.RefusalLaws.{further, cannot-take, may-not-bad}
 use Rattle.model.specs.WordLaws.{word-stored, word-other, word-wiped, word-kept}
 use Rattle.model.specs.Ranges.{mapRangeTests, pieces, Probe, walkFor, pieceWalk, pieceWalks, anyEnds, isDamaged, isTaken, Standing, standing, onWay, onWays, agree, agrees, oneRegionEach, spoiled, lacked, ways, mapPiece, leftBy, answersOf, sumOf, mapRangeHere, mapRangeAt, mapRangeW}
 use Rattle.model.specs.RangeLaws.{Tiles, over, piece, Fits, FineRange, range-fine, tiles, tiles-tests, tiles-inside, or-false}
-use Rattle.model.specs.RangeWalks.{Stopped, left-low, stopped, stopped-walk, stopped-long, stopped-in, stopped-moved, stopped-linked, came-target}
+use Rattle.model.specs.RangeWalks.{Stopped, left-low, stopped, stopped-walk, stopped-long, stopped-in, stopped-moved, stopped-linked, came-target, index-region}
 
 -- what a list holds after one place is set
 mem-set : (xs : List ℕ) (i y x : ℕ) → List·Memᴰ x (set xs i y) → (x ≡ y) ⊎ List·Memᴰ x xs
@@ -237,11 +237,7 @@ module _ (G : Granule) (Z : Sane G) (sp : Setup) (few : sp .levels - 1 < 4) (cut
 
   -- the same region above, and the same index
   reg-down : (m m′ : Mapping) (h : ℕ) → h ≤ k₀ → reg m (suc h) ≡ reg m′ (suc h) → idx m h ≡ idx m′ h → reg m h ≡ reg m′ h
-  reg-down m m′ h l e i =
-      let z : h < 4 = omega arith in
-      region-index G (m .at) h ∙ ap (λ (x : ℕ). x * K + indexAt G (m .at) h) e
-      ∙ ap (λ (x : ℕ). m′ .at / sizeAt G (suc h) * K + x) (sym (path-of-at G (m .at) {h = h} z) ∙ i ∙ path-of-at G (m′ .at) {h = h} z)
-      ∙ sym (region-index G (m′ .at) h)
+  reg-down m m′ h l e i = index-region G (m .at) (m′ .at) h (omega arith) e i
 
   -- a piece
   pub record Piece (m : Mapping) : Type 0 where

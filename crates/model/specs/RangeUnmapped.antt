@@ -19,7 +19,7 @@ use Rattle.path.specs.Geometry.{Granule, pageSize, entries, sizeAt, spaceOf, Sa
 use Rattle.path.specs.Areas.{areaOf, total}
 use Rattle.path.specs.Laws.{good-setup, page-pos, size-zero, size-injective}
 use Rattle.path.specs.Paths.{baseAt, pathOf}
-use Rattle.path.specs.PathLaws.{path-of-at, index-below, region-index}
+use Rattle.path.specs.PathLaws.{path-of-at, index-below}
 use Rattle.path.specs.RegionLaws.{multiple-gap, region-above, base-region, base-aligned, base-le, aligned-base, aligned-down}
 use Rattle.entry.specs.Words.{entryAt}
 use Rattle.entry.specs.Laws.{entry-zero}
@@ -37,7 +37,7 @@ use Rattle.model.specs.WordLaws.{word-other}
 use Rattle.model.specs.Ranges.{unmapRangeTests, pagesFrom, pagesOf, Probe, pageWalk, pageWalks, anyEnds, isDamaged, onWays, oneRegionEach, spoiled, cutAt, anyCutBy, answersOf, leftBy, sumOf, acceptedIn, refusesWith, anyRefused, unmapRangeHere, unmapRangeAt, unmapRangeW}
 use Rattle.model.specs.RefusalLaws.{given, no-table-last}
 use Rattle.model.specs.RangeLaws.{FineUnmap, unmap-fine, page-next, pages-from, inside-is, or-false}
-use Rattle.model.specs.RangeWalks.{Stopped, left-low, stopped-walk, stopped-apart, stopped-moved, Shorter, stopped-cut, walk-stopped, walk-region}
+use Rattle.model.specs.RangeWalks.{Stopped, left-low, stopped-walk, stopped-apart, stopped-moved, Shorter, stopped-cut, walk-stopped, walk-region, index-region}
 use Rattle.model.specs.RangeMapped.{chosen, each-so, standingAt, ways-has, none-ends}
 
 -- ---- what a call comes to
@@ -164,7 +164,7 @@ set-zero ws i = go (decLt i (length ws))
     go (yes l) = getD-set-same ws i 0 0 l
     go (no l) = getD-past (set ws i 0) i (omega (arith, length-set ws i 0))
 
-index-low : (G : Granule) (x j : ℕ) → j < 4 → atHeight (pathOf G x) j < entries G
+pub index-low : (G : Granule) (x j : ℕ) → j < 4 → atHeight (pathOf G x) j < entries G
 index-low G x j l = subst (λ (y : ℕ). y < entries G) (sym (path-of-at G x {h = j} l)) (index-below G x j)
 
 module _ (G : Granule) (way : List ℕ) (x : ℕ) where
@@ -273,12 +273,6 @@ module _ (G : Granule) (Z : Sane G) (p : Pool) (good : goodPool G p ≡ true) (x
   module _ (y : ℕ) (sound : walkTo G p 0 y .entry ≢ Damaged)
       (one : (i j : ℕ) → walkTo G p 0 y .left ≤ i → i ≤ k₀ → o .left ≤ j → j ≤ k₀ → atHeight (walkTo G p 0 y .tables) i ≡ atHeight (o .tables) j
       → (i ≡ j) × (y / sizeAt G (suc i) ≡ x / sizeAt G (suc i))) (away : x / sizeAt G e ≢ y / sizeAt G e) where
-    -- the same region above, and the same index: the same region
-    meets : (j : ℕ) → j ≤ k₀ → y / sizeAt G (suc j) ≡ x / sizeAt G (suc j) → atHeight (pathOf G y) j ≡ atHeight (pathOf G x) j → y / sizeAt G j ≡ x / sizeAt G j
-    meets j l z i =
-        let m : j < 4 = omega (arith, top) in
-        region-index G y j ∙ (λ w. z w * entries G + (sym (path-of-at G y {h = j} m) ∙ i ∙ path-of-at G x {h = j} m) w) ∙ sym (region-index G x j)
-
     -- one outside that region is walked as before
     pub walk-kept : walkTo G q 0 y ≡ walkTo G p 0 y
     walk-kept =
@@ -292,7 +286,7 @@ module _ (G : Granule) (Z : Sane G) (p : Pool) (good : goodPool G p ≡ true) (x
             → (atHeight (walkTo G p 0 y .tables) i ≡ atHeight (o .tables) j) × (atHeight (pathOf G y) i ≡ atHeight (pathOf G x) j) → ⊥
         clear i j a l u v (s, t) =
             let (w, r) = one i j a l u (omega (arith, high)) s in
-            let c : y / sizeAt G i ≡ x / sizeAt G i = meets i l r (t ∙ ap (atHeight (pathOf G x)) (sym w)) in
+            let c : y / sizeAt G i ≡ x / sizeAt G i = index-region G y x i (omega (arith, top)) r (t ∙ ap (atHeight (pathOf G x)) (sym w)) in
             away (sym (region-above G {j = i} {h = e} (omega arith) y x c))
 
 -- ---- page by page
@@ -367,7 +361,7 @@ module _ (G : Granule) (Z : Sane G) (p : Pool) (a k : ℕ) (O : Ok G p a (suc k)
   same-walk y i z = walk-region G p (few-levels G Z p (O .good)) 0 y a (omega arith) (O .undamaged y (later y i)) z
 
   -- where the first page is a hole
-  pass-ok : walkTo G p 0 a .entry ≡ Empty → Ok G p (a + W) k
+  pub pass-ok : walkTo G p 0 a .entry ≡ Empty → Ok G p (a + W) k
   pass-ok e = record {
     good = O .good;
     aligned = page-next G a (O .aligned);
@@ -382,20 +376,20 @@ module _ (G : Granule) (Z : Sane G) (p : Pool) (a k : ℕ) (O : Ok G p a (suc k)
 
   -- where the mapping that starts there is removed
   module _ (b c : ℕ) (framed : walkTo G p 0 a .entry ≡ Frame b c) (good′ : goodPool G (removedAt G p a) ≡ true) where
-    abbrev q₁ : Pool
+    abbrev pub q₁ : Pool
     q₁ = removedAt G p a
 
-    abbrev e₁ : ℕ
+    abbrev pub e₁ : ℕ
     e₁ = walkTo G p 0 a .left + givenAt G p a
 
     -- a page further on is now a hole like the first, or is walked as before
-    abbrev Gone : ℕ → Type 0
+    abbrev pub Gone : ℕ → Type 0
     Gone y = (walkTo G q₁ 0 y ≡ walkTo G q₁ 0 a) × (a / sizeAt G e₁ ≡ y / sizeAt G e₁)
 
-    abbrev Stays : ℕ → Type 0
+    abbrev pub Stays : ℕ → Type 0
     Stays y = (walkTo G q₁ 0 y ≡ walkTo G p 0 y) × (a / sizeAt G e₁ ≢ y / sizeAt G e₁)
 
-    moved : (y : ℕ) → List·Memᴰ y rest → Gone y ⊎ Stays y
+    pub moved : (y : ℕ) → List·Memᴰ y rest → Gone y ⊎ Stays y
     moved y i = go (ℕ-discrete (a / sizeAt G e₁) (y / sizeAt G e₁))
       where
         go : Dec (a / sizeAt G e₁ ≡ y / sizeAt G e₁) → Gone y ⊎ Stays y
@@ -440,7 +434,7 @@ module _ (G : Granule) (Z : Sane G) (p : Pool) (a k : ℕ) (O : Ok G p a (suc k)
               region-is = sym (region-above G {j = e₁} {h = suc i} (omega arith) a y n);
             }
 
-    remove-ok : Ok G q₁ (a + W) k
+    pub remove-ok : Ok G q₁ (a + W) k
     remove-ok = record {
       good = good′;
       aligned = page-next G a (O .aligned);
@@ -466,8 +460,11 @@ module _ (G : Granule) (Z : Sane G) (p : Pool) (a k : ℕ) (O : Ok G p a (suc k)
             (subst (λ (w : Walked). a / sizeAt G (w .left) ≡ y / sizeAt G (w .left)) (sym (same-walk y i z)) (sym z))
 
   -- the first page, and what is left then
+  pub first-goes : Goes G p a (unmapW G p a)
+  first-goes = goes G Z p a (O .good) (omega (arith, more, page-pos G, O .in-space)) (O .aligned) (O .undamaged a first) first-starts
+
   pub next : Next G p a k (unmapW G p a)
-  next = go (unmapW G p a) refl (goes G Z p a (O .good) (omega (arith, more, page-pos G, O .in-space)) (O .aligned) (O .undamaged a first) first-starts)
+  next = go (unmapW G p a) refl first-goes
     where
       go : (d : Done) → unmapW G p a ≡ d → Goes G p a d → Next G p a k d
       go d z (gives b c f s) =

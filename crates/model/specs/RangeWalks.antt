@@ -1,6 +1,6 @@
 -- Laws of walks that ranges need, of any words, damaged ones too. A walk comes down from table to table and then stops; what it reads on the way, and
 -- nothing else, decides it. So walks share the tables down to where their addresses part, and a walk changes only where a word on its way does.
-use Prim.Native.Nat.{ℕ, zero, suc, _-_, _/_, _≤_, _<_}
+use Prim.Native.Nat.{ℕ, zero, suc, _+_, _-_, _*_, _/_, _≤_, _<_}
 use mathlib.Core.Path.{_≡_, refl, ap, sym, _∙_, subst}
 use mathlib.Core.Logic.{_≢_}
 use mathlib.Core.Bool.{Bool, true, false, cond}
@@ -13,19 +13,20 @@ use lib.Seq.{getD-set-same, getD-set-other}
 use borrow.Author.Tests.{leb-true, leb-false, le-leb, lt-leb}
 use Rattle.laws.specs.Lists.{among}
 use Rattle.laws.specs.ListLaws.{not-among, at-mem}
-use Rattle.path.specs.Geometry.{Granule, sizeAt, Sane}
+use Rattle.path.specs.Geometry.{Granule, entries, sizeAt, Sane}
 use Rattle.path.specs.Areas.{Area, areaOf, total}
 use Rattle.path.specs.Paths.{pathOf}
-use Rattle.path.specs.PathLaws.{path-of-at}
+use Rattle.path.specs.PathLaws.{path-of-at, region-index}
 use Rattle.path.specs.PrefixLaws.{region-indices}
 use Rattle.entry.specs.Words.{entryAt}
-use Rattle.entry.specs.Laws.{table-only}
+use Rattle.entry.specs.Laws.{entry-zero, table-only}
 use Rattle.entry.specs.declared.Entry.{Entry}
 use Rattle.entry.specs.declared.Entry.the-variants.{Empty, Table, Frame, Damaged}
 use Rattle.model.specs.declared.Walked.{Walked}
 use Rattle.model.specs.Answers.{Pool}
 use Rattle.model.specs.Walk.{slot, atHeight, noWay, stop, onward, walkFrom}
 use Rattle.model.specs.Calls.{walkTo}
+use Rattle.model.specs.Sound.{wordAt}
 use Rattle.model.specs.DescentLaws.{clash}
 
 -- what a path's entry of height h says in table t
@@ -367,6 +368,12 @@ module _ {G : Granule} {area : Area} {ws : List ℕ} {target : ℕ} {path : List
 
 -- ---- the walks of a pool
 
+-- the same region one height up, and the same index there: the same region
+pub index-region : (G : Granule) (x y j : ℕ) → j < 4 → x / sizeAt G (suc j) ≡ y / sizeAt G (suc j) → atHeight (pathOf G x) j ≡ atHeight (pathOf G y) j
+    → x / sizeAt G j ≡ y / sizeAt G j
+index-region G x y j l z e =
+    region-index G x j ∙ (λ w. z w * entries G + (sym (path-of-at G x {h = j} l) ∙ e ∙ path-of-at G y {h = j} l) w) ∙ sym (region-index G y j)
+
 module _ (G : Granule) (p : Pool) (few : p .numbers .levels ≤ 4) where
   abbrev area : Area
   area = areaOf (p .numbers)
@@ -402,3 +409,26 @@ module _ (G : Granule) (p : Pool) (few : p .numbers .levels ≤ 4) where
       stopped-walk G area (p .words) target (pathOf G y)
       (stopped-beside (walk-stopped target x d) top-low refl (pathOf G y) q (λ j a b. same-index x y j (omega arith) (omega (arith, top-low)) e))
       ∙ ap (λ (h : ℕ). stop (readBy G area (p .words) (pathOf G y) h (atHeight (walkTo G p target x .tables) h)) h (walkTo G p target x .tables)) q
+
+  -- where an address parts from a walk's way at an entry of its own that is 0, its walk ends there, at a hole
+  pub walk-parts : (x y h : ℕ) → walkTo G p 0 x .entry ≢ Damaged → walkTo G p 0 x .left ≤ h → h ≤ top → x / sizeAt G (suc h) ≡ y / sizeAt G (suc h)
+      → wordAt G (p .words) (atHeight (walkTo G p 0 x .tables) h) (atHeight (pathOf G y) h) ≡ 0 → walkTo G p 0 y .entry ≡ Empty
+  walk-parts x y h d a b e w = from (stopped-through E top-low refl h a b) (through-table E top-low refl h a b)
+    where
+      E : Stopped G area (p .words) 0 (pathOf G x) top noWay 0 (walkTo G p 0 x)
+      E = walk-stopped 0 x d
+
+      from : (T : Through G area (p .words) 0 (pathOf G x) top noWay 0 h (walkTo G p 0 x .left) (E .seen) (E .table)) → atHeight (walkTo G p 0 x .tables) h ≡ T .table
+          → walkTo G p 0 y .entry ≡ Empty
+      from T z =
+          ap (λ (o : Walked). o .entry)
+          (stopped-walk G area (p .words) 0 (pathOf G y) {o = stop Empty h (set (T .mid) (3 - h) (T .table))}
+          (record {
+            seen = T .mid;
+            table = T .table;
+            came = came-moved (T .above) (p .words) 0 (pathOf G y) top-low refl (omega arith)
+                (λ j u v. ap (λ (i : ℕ). entryAt G area j (getD (p .words) (slot G (atHeight (T .mid) j) i) 0)) (same-index x y j u (omega (arith, top-low)) e));
+            tables-are = refl;
+            reads = ap (readBy G area (p .words) (pathOf G y) h) (sym z) ∙ ap (entryAt G area h) w ∙ entry-zero G area h;
+            last = λ c q. clash (cc);
+          }))
