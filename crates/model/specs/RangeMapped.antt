@@ -167,7 +167,7 @@ ways-has G levels (q ∷ ws) w i j a b =
     (λ k. Memᴰ·append-right (onWay G (q .at) (q .end .tables) (q .end .left) (levels - q .end .left)) (ways-has G levels ws w k j a b))
     (List·Memᴰ·cases-cons i)
 
-tables-in : (ws : List Probe) (w : Probe) → List·Memᴰ w ws → (x : ℕ) → List·Memᴰ x (w .end .tables) → List·Memᴰ x (ways ws)
+pub tables-in : (ws : List Probe) (w : Probe) → List·Memᴰ w ws → (x : ℕ) → List·Memᴰ x (w .end .tables) → List·Memᴰ x (ways ws)
 unfolding ways
 tables-in [] w i x j = absurd (List·Memᴰ·not-nil i)
 tables-in (q ∷ ws) w i x j =
