@@ -3,6 +3,27 @@ use entry::Entry;
 use model::MapAnswer;
 use model::Mapped;
 use path::Setup;
+ghost use mathlib.Core.Path.{_≡_};
+ghost use mathlib.Core.Logic.{_≢_};
+ghost use mathlib.Core.Bool.{true};
+ghost use mathlib.Core.List.{List, [], _++_};
+ghost use Prim.Native.Nat.{ℕ, _+_, _-_, _*_, _^_, _≤_, _<_};
+ghost use lib.ListN.{length, getD};
+ghost use Rattle.laws.specs.Lists.{part};
+ghost use Rattle.path.specs.Geometry.{granuleOf, entries, sizeAt, physical};
+ghost use Rattle.path.specs.Areas.{areaAt, areaOf, total};
+ghost use Rattle.path.specs.Numbers.{goodSetup};
+ghost use Rattle.path.specs.Paths.{indexAt};
+ghost use Rattle.entry.specs.Words.{entryAt, frameWord};
+ghost use Rattle.entry.specs.declared.Entry.the-variants.{Empty};
+ghost use Rattle.model.specs.Answers.{took, pool, mapDid};
+ghost use Rattle.model.specs.Walk.{slot, atHeight};
+ghost use Rattle.model.specs.Writes.{mayTake};
+ghost use Rattle.model.specs.Calls.{walkTo};
+ghost use Rattle.model.specs.Ranges.{mapRangeTests, pieces, mapRangeW};
+ghost use Rattle.marks.specs.Marks.{noteWay};
+ghost use Rattle.rangemaps.specs.Rows.{metIn, metAt, begunAt, rowFound, filled};
+ghost use Rattle.rangemaps.specs.Surveys.{Good, MarksOf, Surveyed};
 
 // What the walks of a range find: 8, 6, or 0; and the tables that it needs where they find nothing.
 struct Found {
@@ -19,7 +40,9 @@ fn met_in(
     tables: u16,
     base2: u64,
     tables2: u16,
-) -> u64 {
+) -> u64
+    ensures { λ r. ⌜ r ≡ metIn (granuleOf granule) (areaAt base tables base2 tables2) height 0 (now (part .entry)) ⌝ }
+{
     if pool::zeros_but(part, part.len()) {
         return 0;
     }
@@ -39,7 +62,10 @@ fn met_in(
 }
 
 // What the walks of a stretch find, where the first of them ended above the height of the pieces, at this word: the tables that the first piece lacks, or 6 or 8.
-fn met_above(s: Setup, w: u64, height: usize, left: usize) -> u64 {
+fn met_above(s: Setup, w: u64, height: usize, left: usize) -> u64
+    requires { ⌜ (height ≤ left) × (total (areaOf s) ≤ 512) ⌝ }
+    ensures { λ r. ⌜ r ≡ metAt (entryAt (granuleOf (s .granule)) (areaOf s) left w) (left - height) ⌝ }
+{
     let e = entry::read_word(
         s.granule,
         w,
@@ -66,7 +92,10 @@ fn met_here<'a>(
     address: u64,
     height: usize,
     count: usize,
-) -> u64 {
+) -> u64
+    requires { ⌜ Good (granuleOf (s .granule)) s (now words) (now second) × ((height ≤ granuleOf (s .granule) .large) × ((t < total (areaOf s)) × (indexAt (granuleOf (s .granule)) address height + count ≤ entries (granuleOf (s .granule))))) ⌝ }
+    ensures { λ r. ⌜ r ≡ metIn (granuleOf (s .granule)) (areaOf s) height 0 (part (now (words .entry) ++ now (second .entry)) (slot (granuleOf (s .granule)) t (indexAt (granuleOf (s .granule)) address height)) count) ⌝ }
+{
     let table = pool::table_part(s.granule, words, second, t);
     let from = path::index_at(s.granule, address, height) as usize;
     let to = from + count;
@@ -91,7 +120,13 @@ fn probe<'a>(
     address: u64,
     height: usize,
     count: usize,
-) -> u64 {
+) -> u64
+    requires { ⌜ Good (granuleOf (s .granule)) s (now words) (now second) × ((height ≤ granuleOf (s .granule) .large) × ((total (areaOf s) ≤ length (now stands)) × ((0 < count) × (indexAt (granuleOf (s .granule)) address height + count ≤ entries (granuleOf (s .granule)))))) ⌝ }
+    ensures { λ r. ⌜ ((list : List ℕ) → r ≡ rowFound (granuleOf (s .granule)) (pool s (now (words .entry) ++ now (second .entry)) (length (now (words .entry))) list) (now (stands .entry)) height address count) ⌝ }
+    ensures { λ r. ⌜ (r ≢ 8 → (list : List ℕ) → now (stands .exit)
+        ≡ noteWay (granuleOf (s .granule)) (now (stands .entry)) address (walkTo (granuleOf (s .granule)) (pool s (now (words .entry) ++ now (second .entry)) (length (now (words .entry))) list) height address .tables)
+        (walkTo (granuleOf (s .granule)) (pool s (now (words .entry) ++ now (second .entry)) (length (now (words .entry))) list) height address .left) (s .levels) .marks) ⌝ }
+{
     let mut way = [0u32; 4];
     let end = lookup::reach(s, words, second, height, address, &mut way);
     let left = (end % 4) as usize;
@@ -111,15 +146,18 @@ fn probe<'a>(
 }
 
 // Of the tables that a piece lacks, those that no piece before it lacks too: the regions that begin at its address.
-fn begun(granule: u64, address: u64, height: usize, lack: usize) -> usize {
-    let mut n = 0;
-    while n < lack {
-        if path::rest_at(granule, address, height + n + 1) != 0 {
+fn begun(granule: u64, address: u64, height: usize, lack: usize) -> usize
+    requires { ⌜ height + lack ≤ 3 ⌝ }
+    ensures { λ r. ⌜ (height + lack < granuleOf granule .most → r ≡ begunAt (granuleOf granule) address height lack) × (r ≤ lack) ⌝ }
+{
+    let mut n = lack;
+    while n > 0 {
+        if path::rest_at(granule, address, height + n) == 0 {
             return n;
         }
-        n += 1;
+        n -= 1;
     }
-    n
+    0
 }
 
 // The walks of all pieces, stretch by stretch. The tables on their ways are noted.
@@ -130,11 +168,15 @@ fn survey<'a>(
     stands: &mut [u32],
     address: u64,
     frame: u64,
-    length: u64,
-) -> Found {
+    len: u64,
+) -> Found
+    requires { ⌜ Good (granuleOf (s .granule)) s (now words) (now second) × ((total (areaOf s) ≤ length (now stands)) × ((k : ℕ) × (mapRangeTests (granuleOf (s .granule)) (s .levels) (areaOf s) address frame len k ≡ 0))) ⌝ }
+    ensures { λ r. ⌜ ((list : List ℕ) (k : ℕ) → ((t : ℕ) → getD (now (stands .entry)) t 0 ≡ 0) → mapRangeTests (granuleOf (s .granule)) (s .levels) (areaOf s) address frame len k ≡ 0
+        → Surveyed (granuleOf (s .granule)) (pool s (now (words .entry) ++ now (second .entry)) (length (now (words .entry))) list) (pieces (granuleOf (s .granule)) address frame len k) (r .no) (r .need) (now (stands .exit))) ⌝ }
+{
     let mut x = address;
     let mut y = frame;
-    let mut left = length;
+    let mut left = len;
     let mut no = 0;
     let mut need = 0;
     while left > 0 {
@@ -160,7 +202,10 @@ fn survey<'a>(
 }
 
 // Whether so many tables may be taken from the end of the free list; those that are noted may not, and each is noted then.
-fn may_take(list: &[u32], tables: u32, stands: &mut [u32], free: usize, need: usize) -> bool {
+fn may_take(list: &[u32], tables: u32, stands: &mut [u32], free: usize, need: usize) -> bool
+    requires { ⌜ (need ≤ free) × (tables ≤ length (now stands)) ⌝ }
+    ensures { λ r. ⌜ ((seen : List ℕ) → MarksOf seen (now (stands .entry)) → r ≡ mayTake (now (list .entry)) tables seen free need) ⌝ }
+{
     let mut i = 0;
     while i < need {
         let c = pool::place(list, free - 1 - i);
@@ -181,7 +226,10 @@ fn may_take(list: &[u32], tables: u32, stands: &mut [u32], free: usize, need: us
 }
 
 // So many words of one run from a place on become the first, and each the one before it and `size`.
-fn fill_run(words: &mut [u64], start: usize, count: usize, first: u64, size: u64) {
+fn fill_run(words: &mut [u64], start: usize, count: usize, first: u64, size: u64)
+    requires { ⌜ (start + count ≤ length (now words)) × (first + size * count ≤ 2 ^ 63) ⌝ }
+    ensures { λ _. ⌜ now (words .exit) ≡ filled (now (words .entry)) start first size count ⌝ }
+{
     let mut i = 0;
     while i < count {
         let at = start + i;
@@ -191,7 +239,10 @@ fn fill_run(words: &mut [u64], start: usize, count: usize, first: u64, size: u64
 }
 
 // The same of the two runs put together, where one of them holds all these places.
-fn fill(words: &mut [u64], second: &mut [u64], place: usize, count: usize, first: u64, size: u64) {
+fn fill(words: &mut [u64], second: &mut [u64], place: usize, count: usize, first: u64, size: u64)
+    requires { ⌜ (place < length (now words) → place + count ≤ length (now words)) × ((place + count ≤ length (now words ++ now second)) × (first + size * count ≤ 2 ^ 63)) ⌝ }
+    ensures { λ _. ⌜ now (words .exit) ++ now (second .exit) ≡ filled (now (words .entry) ++ now (second .entry)) place first size count ⌝ }
+{
     let n = words.len();
     if place < n {
         fill_run(words, place, count, first, size);
@@ -211,7 +262,11 @@ fn write_row(
     height: usize,
     attributes: u64,
     count: usize,
-) {
+)
+    requires { ⌜ Good (granuleOf (s .granule)) s (now words) (now second) × ((height ≤ granuleOf (s .granule) .large) × ((frame + count * sizeAt (granuleOf (s .granule)) height ≤ physical) × ((indexAt (granuleOf (s .granule)) address height + count ≤ entries (granuleOf (s .granule))) × ((walkTo (granuleOf (s .granule)) (pool s (now words ++ now second) (length (now words)) []) height address .entry ≡ Empty) × (walkTo (granuleOf (s .granule)) (pool s (now words ++ now second) (length (now words)) []) height address .left ≡ height))))) ⌝ }
+    ensures { λ _. ⌜ now (words .exit) ++ now (second .exit)
+        ≡ filled (now (words .entry) ++ now (second .entry)) (slot (granuleOf (s .granule)) (atHeight (walkTo (granuleOf (s .granule)) (pool s (now (words .entry) ++ now (second .entry)) (length (now (words .entry))) []) height address .tables) height) (indexAt (granuleOf (s .granule)) address height)) (frameWord frame height attributes) (sizeAt (granuleOf (s .granule)) height) count ⌝ }
+{
     let mut way = [0u32; 4];
     let end = lookup::reach(s, &words[..], &second[..], height, address, &mut way);
     let place = (end / 4) as usize;
@@ -234,13 +289,17 @@ fn write_pieces(
     list: &[u32],
     address: u64,
     frame: u64,
-    length: u64,
+    len: u64,
     attributes: u64,
-) -> Setup {
+) -> Setup
+    requires { ⌜ ((t : ℕ) × (mapRangeW (granuleOf (s .granule)) (pool s (now words ++ now second) (length (now words)) (now list)) address frame len attributes .answer ≡ took t)) ⌝ }
+    ensures { λ r. ⌜ pool r (now (words .exit) ++ now (second .exit)) (length (now (words .exit))) (now (list .entry))
+        ≡ mapRangeW (granuleOf (s .granule)) (pool s (now (words .entry) ++ now (second .entry)) (length (now (words .entry))) (now (list .entry))) address frame len attributes .after ⌝ }
+{
     let mut now = s;
     let mut x = address;
     let mut y = frame;
-    let mut left = length;
+    let mut left = len;
     while left > 0 {
         let h = ranges::piece_at(s.granule, x, y, left);
         let n = ranges::stretch(s.granule, x, left, h);
@@ -268,7 +327,7 @@ fn write_pieces(
     now
 }
 
-// A range of `length` addresses from `address` on is mapped to frames, each piece as large as it can be. Answers the tables taken, or a refusal: 1 to 8, or 11.
+// A range of `len` addresses from `address` on is mapped to frames, each piece as large as it can be. Answers the tables taken, or a refusal: 1 to 8, or 11.
 pub fn map_range(
     s: Setup,
     words: &mut [u64],
@@ -276,13 +335,16 @@ pub fn map_range(
     list: &[u32],
     address: u64,
     frame: u64,
-    length: u64,
+    len: u64,
     attributes: u64,
-) -> Mapped {
+) -> Mapped
+    ensures { λ r. ⌜ mapDid r (now (words .exit)) (now (second .exit)) (now (list .entry))
+        ≡ mapRangeW (granuleOf (s .granule)) (pool s (now (words .entry) ++ now (second .entry)) (length (now (words .entry))) (now (list .entry))) address frame len attributes ⌝ }
+{
     if !path::good_setup(s, words.len(), second.len(), list.len()) {
         return maps::map_refused(1, s);
     }
-    let no = ranges::map_tests(s, address, frame, length, attributes);
+    let no = ranges::map_tests(s, address, frame, len, attributes);
     if no != 0 {
         return maps::map_refused(no, s);
     }
@@ -294,7 +356,7 @@ pub fn map_range(
         &mut stands,
         address,
         frame,
-        length,
+        len,
     );
     if found.no != 0 {
         return maps::map_refused(found.no, s);
@@ -311,7 +373,7 @@ pub fn map_range(
     ) {
         return maps::map_refused(8, s);
     }
-    let after = write_pieces(s, words, second, list, address, frame, length, attributes);
+    let after = write_pieces(s, words, second, list, address, frame, len, attributes);
     Mapped {
         answer: MapAnswer::Taken(found.need),
         setup: after,
