@@ -5,6 +5,8 @@ use mathlib.Core.Logic.{_≢_}
 use mathlib.Core.Bool.{Bool, true, false, cond, _&&_, _||_}
 use mathlib.Core.List.{List, [], _∷_, _++_}
 use native.Mathlib.Numerals.{add-one, sub-one}
+use native.Mathlib.Nat.{mul-le-mul-left}
+use native.Mathlib.Decide.{decLt}
 use native.Mathlib.Omega.{arith}
 use lib.ListN.{length, getD, set, take, drop, length-set}
 use lib.Seq.{drop-cons, drop-length}
@@ -116,3 +118,11 @@ row-part G ws t i n l =
     let e : slot G t i ≡ slot G t 0 + i = omega arith in
     ap (λ (x : ℕ). part ws x n) e
     ∙ sym (ap (take n) (drop-part ws (slot G t 0) (entries G) i) ∙ take-part ws (slot G t 0 + i) (entries G - i) n (omega arith))
+
+-- a place of n tables is in one of them
+pub table-of : (K : ℕ) {t i n : ℕ} → K * t + i < K * n → t < n
+table-of K {t} {i} {n} l = go (decLt t n)
+  where
+    go : Dec (t < n) → t < n
+    go (yes m) = m
+    go (no m) = absurd (omega (arith, mul-le-mul-left K {n} {t} (omega arith)))

@@ -33,16 +33,16 @@ enum-told-4 : tie.Need-enum-told-4
 enum-told-4 c = search needs
 
 returns : tie.Need-returns
-returns c = let a = c .before .before .before .args in ap (λ (x : Entry). metAt x (a .left - a .height)) (sym (c .enum-told .given .1) ∙ c .before .before .read-word .ensures)
+returns c = let a = c .before .before .before .before .before .args in ap (λ (x : Entry). metAt x (a .left - a .height)) (sym (c .enum-told .given .1) ∙ c .before .before .read-word .ensures)
 
 returns-2 : tie.Need-returns-2
-returns-2 c = let a = c .before .before .before .args in ap (λ (x : Entry). metAt x (a .left - a .height)) (sym (c .enum-told2 .given .1) ∙ c .before .before .read-word .ensures)
+returns-2 c = let a = c .before .before .before .before .before .args in ap (λ (x : Entry). metAt x (a .left - a .height)) (sym (c .enum-told2 .given .1) ∙ c .before .before .read-word .ensures)
 
 returns-3 : tie.Need-returns-3
-returns-3 c = let a = c .before .before .before .args in ap (λ (x : Entry). metAt x (a .left - a .height)) (sym (c .enum-told3 .given .1) ∙ c .before .before .read-word .ensures)
+returns-3 c = let a = c .before .before .before .before .before .args in ap (λ (x : Entry). metAt x (a .left - a .height)) (sym (c .enum-told3 .given .1) ∙ c .before .before .read-word .ensures)
 
 returns-4 : tie.Need-returns-4
-returns-4 c = let a = c .before .before .before .args in ap (λ (x : Entry). metAt x (a .left - a .height)) (sym (c .enum-told4 .given .1) ∙ c .before .before .read-word .ensures)
+returns-4 c = let a = c .before .before .before .before .before .args in ap (λ (x : Entry). metAt x (a .left - a .height)) (sym (c .enum-told4 .given .1) ∙ c .before .before .read-word .ensures)
 
 pub met-above-spec : {M : Type 1} → statement M
 met-above-spec =
