@@ -1,5 +1,5 @@
 -- What the walks of a row come to, by what the code finds of them.
-use Prim.Native.Nat.{ℕ, zero, suc, _+_, _-_, _*_, _/_, _≤_, _<_}
+use Prim.Native.Nat.{ℕ, zero, suc, _+_, _-_, _*_, _/_, _%_, _≤_, _<_}
 use mathlib.Core.Path.{_≡_, refl, ap, sym, _∙_, subst}
 use mathlib.Core.Logic.{_≢_, _⊎_, inl, inr, ⊎-elim}
 use mathlib.Core.Bool.{Bool, true, false, cond, _||_, false≢true, true≢false}
@@ -15,7 +15,8 @@ use Rattle.path.specs.Geometry.{Granule, Sane, entries, sizeAt, physical}
 use Rattle.path.specs.Areas.{Area, areaOf, total}
 use Rattle.path.specs.Laws.{good-setup, table-ends}
 use Rattle.path.specs.Numbers.{GoodSetup}
-use Rattle.path.specs.Paths.{indexAt}
+use Rattle.path.specs.Paths.{indexAt, pathOf}
+use Rattle.path.specs.PathLaws.{path-of-at}
 use Rattle.entry.specs.Words.{entryAt}
 use Rattle.entry.specs.declared.Entry.{Entry}
 use Rattle.entry.specs.declared.Entry.the-variants.{Empty, Table, Frame, Damaged}
@@ -26,6 +27,7 @@ use Rattle.model.specs.Calls.{goodPool, walkTo}
 use Rattle.model.specs.DescentLaws.{clash}
 use Rattle.model.specs.Ranges.{Probe, probe, anyEnds, isDamaged, isTaken, Standing, onWay, onWays}
 use Rattle.model.specs.RangeWalks.{walk-stopped, came-target, came-low, stopped-in}
+use Rattle.lookup.specs.Reaches.{Came, came-again, came-word}
 use Rattle.marks.specs.Marks.{Noted, noted, noteWay}
 use Rattle.marks.specs.MarkLaws.{Marked, Clash, clash-like, marked-like, Noting, agreed, clashes, Within, onWays-append, note-walk}
 use Rattle.rangemaps.specs.Rows.{rowWalks, anySays, metIn, metAt, rowFound}
@@ -227,7 +229,7 @@ module _ (G : Granule) (Z : Sane G) (p : Pool) (good : goodPool G p ≡ true) (b
 
 -- ---- what the code finds of a row, by where the first walk ended
 
-module _ {G : Granule} {p : Pool} {h a : ℕ} {e : Entry} {left : ℕ} {way : List ℕ} (q : stop e left way ≡ walkTo G p h a) (M : List ℕ) (n : ℕ) where
+module _ (G : Granule) (p : Pool) (h a : ℕ) (M : List ℕ) (n : ℕ) {e : Entry} {left : ℕ} {way : List ℕ} (q : stop e left way ≡ walkTo G p h a) where
   abbrev says : Walked → ℕ
   says o =
       cond (isDamaged (o .entry)) 8
@@ -278,3 +280,21 @@ pub first-damaged : (G : Granule) (area : Area) (h : ℕ) (ws : List ℕ) (i n :
 unfolding metIn anySays part take
 first-damaged G area h ws i zero l m d = absurd (omega arith)
 first-damaged G area h ws i (suc n) l m d = rw (drop-cons ws i 0 m, d)
+
+-- ---- the place of a row in a table that is there
+
+-- a walk that ended at an empty entry of its height: the place of that entry
+pub row-place : (G : Granule) (p : Pool) (h a r : ℕ) (way : List ℕ) → Came G p h a r way → walkTo G p h a .entry ≡ Empty → walkTo G p h a .left ≡ h → h < 4
+    → (r / 4 < length (p .words)) × (r / 4 ≡ slot G (atHeight (walkTo G p h a .tables) h) (indexAt G a h))
+row-place G p h a r way C e l low = go (decLt (r / 4) (length (p .words)))
+  where
+    go : Dec (r / 4 < length (p .words)) → (r / 4 < length (p .words)) × (r / 4 ≡ slot G (atHeight (walkTo G p h a .tables) h) (indexAt G a h))
+    go (no m) = let z = came-again C (omega arith) in clash (cc (ap (λ (o : Walked). o .entry) z ∙ e))
+    go (yes m) =
+        let q = came-word C m refl in
+        let left-is : r % 4 ≡ h = ap (λ (o : Walked). o .left) q ∙ l in (
+          m,
+          C .place m
+              ∙ (λ i. slot G (atHeight (ap (λ (o : Walked). o .tables) q i) (left-is i)) (atHeight (pathOf G a) (left-is i)))
+              ∙ ap (slot G (atHeight (walkTo G p h a .tables) h)) (path-of-at G a {h = h} low),
+        )

@@ -1,6 +1,6 @@
 -- The walks of a range, row by row: what is known after some rows, and how it goes on.
 use Prim.Native.Nat.{ℕ, zero, suc, _+_, _-_, _*_, _/_, _%_, _^_, _≤_, _<_}
-use mathlib.Core.Path.{_≡_, refl, ap, sym, _∙_, subst}
+use mathlib.Core.Path.{_≡_, refl, ap, sym, _∙_, subst, subst₂}
 use mathlib.Core.Logic.{_≢_, _⊎_, inl, inr, ⊎-elim}
 use mathlib.Core.Bool.{Bool, true, false, cond, _||_, not, false≢true, true≢false}
 use mathlib.Core.List.{List, [], _∷_, _++_, append-assoc, append-nil, List·Memᴰ, List·Memᴰ·head as here, List·Memᴰ·tail as there, List·Memᴰ·not-nil, List·Memᴰ·cases-cons}
@@ -24,14 +24,15 @@ use Rattle.model.specs.Ranges.{mapRangeTests, pieceAt, pieces, Probe, probe, wa
 use Rattle.model.specs.RangeLaws.{Tiles, over, piece, FineRange, range-fine, tiles}
 use Rattle.model.specs.RangeMapped.{none-ends}
 use Rattle.model.specs.RangeWalks.{walk-stopped, came-target, came-low}
+use Rattle.marks.specs.Marks.{noteWay}
 use Rattle.marks.specs.MarkLaws.{Marked, Clash, clash-more, marked-each, Placed, unmarked, marked-way}
 use Rattle.ranges.specs.Stretches.{stretchAt, inRow}
 use Rattle.ranges.specs.StretchLaws.{Begins, Stretched, stretched}
-use Rattle.rangemaps.specs.Rows.{rowWalks, begunAt}
+use Rattle.rangemaps.specs.Rows.{rowWalks, rowFound, begunAt}
 use Rattle.rangemaps.specs.Surveys.{MarksOf, Surveyed, is-spoiled, is-taken, is-free}
 use Rattle.rangemaps.proofs.Rows.{walk-placed, row-pieces}
 use Rattle.rangemaps.proofs.Counts.{Counted, counted-none, counted-first, counted-later}
-use Rattle.rangemaps.proofs.Probes.{Probed, finds-damage, finds-clash, finds-taken, finds-empty}
+use Rattle.rangemaps.proofs.Probes.{row-probed, Probed, finds-damage, finds-clash, finds-taken, finds-empty}
 
 -- ---- walks in two parts
 
@@ -122,6 +123,17 @@ module _ {G : Granule} {s : Setup} {a b len x y left need : ℕ} {M : List ℕ} 
         tiled = here-row .row .tiled;
       })
 
+-- the same in the code's numbers
+module _ (G : Granule) (x y left : ℕ) {h n : ℕ} (u : h ≡ pieceAt G x y left (G .large)) (v : n ≡ stretchAt G x left h) where
+  many-is : n ≡ stretchAt G x left (pieceAt G x y left (G .large))
+  many-is = v ∙ ap (stretchAt G x left) u
+
+  pub to-row : (F : ℕ → ℕ → Type 0) → F (pieceAt G x y left (G .large)) (stretchAt G x left (pieceAt G x y left (G .large))) → F h n
+  to-row F z = subst₂ F (sym u) (sym many-is) z
+
+  pub from-row : (F : ℕ → ℕ → Type 0) → F h n → F (pieceAt G x y left (G .large)) (stretchAt G x left (pieceAt G x y left (G .large)))
+  from-row F z = subst₂ F u many-is z
+
 -- ---- what is found
 
 -- the walks of the pieces before address x are neither damaged nor clash, and what they found
@@ -196,6 +208,11 @@ module _ (G : Granule) (Z : Sane G) (p : Pool) (good : goodPool G p ≡ true) {a
 
   all-walked : pieceWalks G p (pieces G a b len k) ≡ (W ++ row) ++ pieceWalks G p (T .row .rest)
   all-walked = ap (pieceWalks G p) all ∙ walks-append G p (F .before ++ inRow s k x y n) (T .row .rest) ∙ ap (λ (l : List Probe). l ++ pieceWalks G p (T .row .rest)) walked
+
+  -- what the code finds of the row
+  pub sofar-found : {met : ℕ} {N : List ℕ} → total (areaOf (p .numbers)) ≤ length M → x < physical → met ≡ rowFound G p M h x n
+      → (met ≢ 8 → N ≡ noteWay G M x (walkTo G p h x .tables) (walkTo G p h x .left) levels .marks) → Probed G p W h x n met N
+  sofar-found long near e m = row-probed G Z p good W h x n (T .low) (T .some) (T .room) near (F .marked) long e m
 
   -- a row that finds 8 spoils the range
   pub sofar-stops : {met need′ : ℕ} {N : List ℕ} → Probed G p W h x n met N → met ≡ 8 → Surveyed G p (pieces G a b len k) 8 need′ N

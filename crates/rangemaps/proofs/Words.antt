@@ -125,4 +125,4 @@ table-of K {t} {i} {n} l = go (decLt t n)
   where
     go : Dec (t < n) → t < n
     go (yes m) = m
-    go (no m) = absurd (omega (arith, mul-le-mul-left K {n} {t} (omega arith)))
+    go (no m) = absurd (omega (arith, mul-le-mul-left {m = n} {n = t} K (omega arith)))

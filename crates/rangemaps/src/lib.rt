@@ -171,7 +171,8 @@ fn survey<'a>(
     len: u64,
 ) -> Found
     requires { ⌜ Good (granuleOf (s .granule)) s (now words) (now second) × ((total (areaOf s) ≤ length (now stands)) × ((k : ℕ) × (mapRangeTests (granuleOf (s .granule)) (s .levels) (areaOf s) address frame len k ≡ 0))) ⌝ }
-    ensures { λ r. ⌜ ((list : List ℕ) (k : ℕ) → ((t : ℕ) → getD (now (stands .entry)) t 0 ≡ 0) → mapRangeTests (granuleOf (s .granule)) (s .levels) (areaOf s) address frame len k ≡ 0
+    ensures { λ r. ⌜ ((list : List ℕ) (k : ℕ) → goodSetup (granuleOf (s .granule)) s (length (now (words .entry))) (length (now (words .entry) ++ now (second .entry))) (length list) ≡ true
+        → ((t : ℕ) → getD (now (stands .entry)) t 0 ≡ 0) → mapRangeTests (granuleOf (s .granule)) (s .levels) (areaOf s) address frame len k ≡ 0
         → Surveyed (granuleOf (s .granule)) (pool s (now (words .entry) ++ now (second .entry)) (length (now (words .entry))) list) (pieces (granuleOf (s .granule)) address frame len k) (r .no) (r .need) (now (stands .exit))) ⌝ }
 {
     let mut x = address;
@@ -349,15 +350,7 @@ pub fn map_range(
         return maps::map_refused(no, s);
     }
     let mut stands = [0u32; 512];
-    let found = survey(
-        s,
-        &words[..],
-        &second[..],
-        &mut stands,
-        address,
-        frame,
-        len,
-    );
+    let found = survey(s, &words[..], &second[..], &mut stands, address, frame, len);
     if found.no != 0 {
         return maps::map_refused(found.no, s);
     }

@@ -27,8 +27,7 @@ rest-at-requires c κs = search needs
 
 returns : tie.Need-returns Inv-loop μ-loop
 returns c = let a = c .before .before .before .before .args in
-    let l = c .before .before .before .loop in
-    (
+    let l = c .before .before .before .loop in (
       λ m. sym (l .inv .1 m ∙ begun-here (granuleOf (a .granule)) (a .address) (a .height) (l .n) (c .before .before .loop-test .taken)
           (sym (c .before .rest-at .ensures ∙ level-some (granuleOf (a .granule)) {h = a .height + l .n} (omega arith) _) ∙ c .if1 .taken)),
       l .inv .0,
@@ -42,8 +41,7 @@ loop-less c = omega arith
 
 loop-again : tie.Need-loop-again Inv-loop μ-loop
 loop-again c = let a = c .before .before .before .before .args in
-    let l = c .before .before .before .loop in
-    (
+    let l = c .before .before .before .loop in (
       omega arith,
       λ m. l .inv .1 m ∙ begun-below (granuleOf (a .granule)) (a .address) (a .height) (l .n) (c .before .before .loop-test .taken)
           (λ z. c .if1 .left (c .before .rest-at .ensures ∙ level-some (granuleOf (a .granule)) {h = a .height + l .n} (omega arith) _ ∙ z)),

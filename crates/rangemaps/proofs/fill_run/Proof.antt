@@ -44,8 +44,7 @@ loop-less c = search needs
 
 loop-again : tie.Need-loop-again Inv-loop μ-loop
 loop-again c = let a = c .before .before .args in
-    let l = c .before .loop in
-    (
+    let l = c .before .loop in (
       omega arith,
       (
         ap (λ (x : List ℕ). set x (a .start + l .i) (a .first + a .size * l .i)) (l .inv .1 .0) ∙ filled-more (a .words .now) (a .start) (a .first) (a .size) (l .i),

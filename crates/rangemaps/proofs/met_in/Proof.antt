@@ -67,13 +67,12 @@ loop-again : tie.Need-loop-again Inv-loop μ-loop
 loop-again c = let a = c .before .before .before .before .before .before .before .before .args in
     let l = c .before .before .before .before .loop in
     let t = c .before .before .before .loop-test .taken in
-    let e = c .before .read-word .ensures in
-    (
+    let e = c .before .read-word .ensures in (
       omega arith,
       ⊎-elim (λ way. l .inv .1 ∙ met-empty (granuleOf (a .granule)) (areaAt (a .base) (a .tables) (a .base2) (a .tables2)) (a .height) (l .met) (a .part .now) (l .i) t e (way .1 .given .1) ∙ ap (λ (m : ℕ). metIn (granuleOf (a .granule)) (areaAt (a .base) (a .tables) (a .base2) (a .tables2)) (a .height) m (drop (l .i + 1) (a .part .now))) (sym (way .2)))
-      (⊎-elim (λ way. l .inv .1 ∙ met-taken (granuleOf (a .granule)) (areaAt (a .base) (a .tables) (a .base2) (a .tables2)) (a .height) (l .met) (a .part .now) (l .i) t e (ap isTaken (way .1 .given .1)) (ap isDamaged (way .1 .given .1)) ∙ ap (λ (m : ℕ). metIn (granuleOf (a .granule)) (areaAt (a .base) (a .tables) (a .base2) (a .tables2)) (a .height) m (drop (l .i + 1) (a .part .now))) (sym (way .2)))
-      (λ way. l .inv .1 ∙ met-taken (granuleOf (a .granule)) (areaAt (a .base) (a .tables) (a .base2) (a .tables2)) (a .height) (l .met) (a .part .now) (l .i) t e (ap isTaken (way .1 .given .1)) (ap isDamaged (way .1 .given .1)) ∙ ap (λ (m : ℕ). metIn (granuleOf (a .granule)) (areaAt (a .base) (a .tables) (a .base2) (a .tables2)) (a .height) m (drop (l .i + 1) (a .part .now))) (sym (way .2))))
-      (c .match .came),
+          (⊎-elim (λ way. l .inv .1 ∙ met-taken (granuleOf (a .granule)) (areaAt (a .base) (a .tables) (a .base2) (a .tables2)) (a .height) (l .met) (a .part .now) (l .i) t e (ap isTaken (way .1 .given .1)) (ap isDamaged (way .1 .given .1)) ∙ ap (λ (m : ℕ). metIn (granuleOf (a .granule)) (areaAt (a .base) (a .tables) (a .base2) (a .tables2)) (a .height) m (drop (l .i + 1) (a .part .now))) (sym (way .2)))
+          (λ way. l .inv .1 ∙ met-taken (granuleOf (a .granule)) (areaAt (a .base) (a .tables) (a .base2) (a .tables2)) (a .height) (l .met) (a .part .now) (l .i) t e (ap isTaken (way .1 .given .1)) (ap isDamaged (way .1 .given .1)) ∙ ap (λ (m : ℕ). metIn (granuleOf (a .granule)) (areaAt (a .base) (a .tables) (a .base2) (a .tables2)) (a .height) m (drop (l .i + 1) (a .part .now))) (sym (way .2))))
+          (c .match .came),
     )
 
 returns-3 : tie.Need-returns-3 Inv-loop μ-loop
