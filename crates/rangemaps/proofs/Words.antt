@@ -120,8 +120,8 @@ row-part G ws t i n l =
     ∙ sym (ap (take n) (drop-part ws (slot G t 0) (entries G) i) ∙ take-part ws (slot G t 0 + i) (entries G - i) n (omega arith))
 
 -- a place of n tables is in one of them
-pub table-of : (K : ℕ) {t i n : ℕ} → K * t + i < K * n → t < n
-table-of K {t} {i} {n} l = go (decLt t n)
+pub table-of : (K t i n : ℕ) → K * t + i < K * n → t < n
+table-of K t i n l = go (decLt t n)
   where
     go : Dec (t < n) → t < n
     go (yes m) = m

@@ -60,7 +60,8 @@ in-table : (c : tie.Else1) → let a = c .before .before .before .before .before
     → atHeight (c .before .reach .last .1 .1 .1 .1 .1 .0) (a .height) < total (areaOf (a .s))
 in-table c l =
     let a = c .before .before .before .before .before .before .args in
-    table-of (entries (granuleOf (a .s .granule))) (subst (λ (i : ℕ). i < entries (granuleOf (a .s .granule)) * total (areaOf (a .s))) (at-place c l) (omega (arith, inside c, good (c .before .before .before .before .before .before) .numbers .words-are)))
+    table-of (entries (granuleOf (a .s .granule))) (atHeight (c .before .reach .last .1 .1 .1 .1 .1 .0) (a .height)) (indexAt (granuleOf (a .s .granule)) (a .address) (a .height)) (total (areaOf (a .s)))
+    (subst (λ (i : ℕ). i < entries (granuleOf (a .s .granule)) * total (areaOf (a .s))) (at-place c l) (omega (arith, inside c, good (c .before .before .before .before .before .before) .numbers .words-are)))
 
 reach-requires : tie.Need-reach-requires
 reach-requires c κs = search needs
@@ -81,11 +82,12 @@ same-length : tie.Need-same-length
 same-length c = search needs
 
 returns-2 : tie.Need-returns-2
-returns-2 c = let a = c .before .before .before .before .before .before .before .before .before .before .before .args in (
-  λ list. found-clash (granuleOf (a .s .granule)) (pool (a .s) (a .words .now ++ a .second .now) (length (a .words .now)) list) (a .height) (a .address) (a .stands .now) (a .count) (came-word (came (c .before .before .before .before .before .before) list) (inside (c .before .before .before .before .before)) refl)
-      ((λ i. noted (sym (not-true _ (c .if2 .taken)) i) _) ∙ c .before .before .before .note-way .ensures),
-  λ f. absurd (f refl),
-)
+returns-2 c =
+    let a = c .before .before .before .before .before .before .before .before .before .before .before .args in
+    let f = ap (λ (b : Bool). noted b (c .before .before .before .note-way .last .1 .0)) (sym (not-true (c .before .before .before .note-way .result) (c .if2 .taken))) ∙ c .before .before .before .note-way .ensures in (
+      λ list. found-clash (granuleOf (a .s .granule)) (pool (a .s) (a .words .now ++ a .second .now) (length (a .words .now)) list) (a .height) (a .address) (a .stands .now) (a .count) (came-word (came (c .before .before .before .before .before .before) list) (inside (c .before .before .before .before .before)) refl) f,
+      λ g. absurd (g refl),
+    )
 
 word-requires : tie.Need-word-requires
 word-requires c κs = search needs
@@ -97,11 +99,11 @@ same-length-2 : tie.Need-same-length-2
 same-length-2 c = search needs
 
 returns-3 : tie.Need-returns-3
-returns-3 c = let a = c .before .before .before .before .before .before .before .before .before .before .before .before .before .before .args in
-    let q = λ (list : List ℕ). came-word (came (c .before .before .before .before .before .before .before .before .before) list) (inside (c .before .before .before .before .before .before .before .before)) (c .before .word .ensures) in
-    let f = (λ i. noted (sym (not-false _ (c .before .before .before .if2 .left)) i) _) ∙ c .before .before .before .before .before .before .note-way .ensures in (
-      λ list. found-above (granuleOf (a .s .granule)) (pool (a .s) (a .words .now ++ a .second .now) (length (a .words .now)) list) (a .height) (a .address) (a .stands .now) (a .count) (q list) f (c .before .before .if3 .taken) (c .met-above .ensures),
-      λ g list. found-marks (granuleOf (a .s .granule)) (pool (a .s) (a .words .now ++ a .second .now) (length (a .words .now)) list) (a .height) (a .address) (a .stands .now) (a .count) (q list) f,
+returns-3 c =
+    let a = c .before .before .before .before .before .before .before .before .before .before .before .before .before .before .args in
+    let f = ap (λ (b : Bool). noted b (c .before .before .before .before .before .before .note-way .last .1 .0)) (sym (not-false (c .before .before .before .before .before .before .note-way .result) (c .before .before .before .if2 .left))) ∙ c .before .before .before .before .before .before .note-way .ensures in (
+      λ list. found-above (granuleOf (a .s .granule)) (pool (a .s) (a .words .now ++ a .second .now) (length (a .words .now)) list) (a .height) (a .address) (a .stands .now) (a .count) (came-word (came (c .before .before .before .before .before .before .before .before .before) list) (inside (c .before .before .before .before .before .before .before .before)) (c .before .word .ensures)) f (c .before .before .if3 .taken) (c .met-above .ensures),
+      λ g list. found-marks (granuleOf (a .s .granule)) (pool (a .s) (a .words .now ++ a .second .now) (length (a .words .now)) list) (a .height) (a .address) (a .stands .now) (a .count) (came-word (came (c .before .before .before .before .before .before .before .before .before) list) (inside (c .before .before .before .before .before .before .before .before)) (c .before .word .ensures)) f,
     )
 
 sub-at : tie.Need-sub-at
@@ -122,14 +124,14 @@ same-length-3 : tie.Need-same-length-3
 same-length-3 c = search needs
 
 returns-4 : tie.Need-returns-4
-returns-4 c = let a = c .before .before .before .before .before .before .before .before .before .before .before .before .before .args in
-    let q = λ (list : List ℕ). came-word (came (c .before .before .before .before .before .before .before .before) list) (inside (c .before .before .before .before .before .before .before)) refl in
-    let f = (λ i. noted (sym (not-false _ (c .before .before .if2 .left)) i) _) ∙ c .before .before .before .before .before .note-way .ensures in (
-      λ list. found-here (granuleOf (a .s .granule)) (pool (a .s) (a .words .now ++ a .second .now) (length (a .words .now)) list) (a .height) (a .address) (a .stands .now) (a .count) (q list) f (c .before .if3 .left) (c .met-here .ensures)
+returns-4 c =
+    let a = c .before .before .before .before .before .before .before .before .before .before .before .before .before .args in
+    let f = ap (λ (b : Bool). noted b (c .before .before .before .before .before .note-way .last .1 .0)) (sym (not-false (c .before .before .before .before .before .note-way .result) (c .before .before .if2 .left))) ∙ c .before .before .before .before .before .note-way .ensures in (
+      λ list. found-here (granuleOf (a .s .granule)) (pool (a .s) (a .words .now ++ a .second .now) (length (a .words .now)) list) (a .height) (a .address) (a .stands .now) (a .count) (came-word (came (c .before .before .before .before .before .before .before .before) list) (inside (c .before .before .before .before .before .before .before)) refl) f (c .before .if3 .left) (c .met-here .ensures)
           (λ d. c .met-here .ensures ∙ first-damaged (granuleOf (a .s .granule)) (areaOf (a .s)) (a .height) (a .words .now ++ a .second .now) (slot (granuleOf (a .s .granule)) (atHeight (c .before .before .before .before .before .before .before .before .reach .last .1 .1 .1 .1 .1 .0) (a .height)) (indexAt (granuleOf (a .s .granule)) (a .address) (a .height))) (a .count) (c .before .before .before .before .before .before .before .before .before .before .before .before .before .pre .1 .1 .1 .0)
           (subst (λ (i : ℕ). i < length (a .words .now ++ a .second .now)) (at-place (c .before .before .before .before .before .before .before) (c .before .if3 .left)) (inside (c .before .before .before .before .before .before .before)))
           ((λ i. isDamaged (entryAt (granuleOf (a .s .granule)) (areaOf (a .s)) (sym (at-height (c .before .before .before .before .before .before .before) (c .before .if3 .left)) i) (getD (a .words .now ++ a .second .now) (sym (at-place (c .before .before .before .before .before .before .before) (c .before .if3 .left)) i) 0))) ∙ d)),
-      λ g list. found-marks (granuleOf (a .s .granule)) (pool (a .s) (a .words .now ++ a .second .now) (length (a .words .now)) list) (a .height) (a .address) (a .stands .now) (a .count) (q list) f,
+      λ g list. found-marks (granuleOf (a .s .granule)) (pool (a .s) (a .words .now ++ a .second .now) (length (a .words .now)) list) (a .height) (a .address) (a .stands .now) (a .count) (came-word (came (c .before .before .before .before .before .before .before .before) list) (inside (c .before .before .before .before .before .before .before)) refl) f,
     )
 
 pub probe-spec : {M : Type 1} → statement M
