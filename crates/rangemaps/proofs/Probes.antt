@@ -227,6 +227,32 @@ module _ (G : Granule) (Z : Sane G) (p : Pool) (good : goodPool G p ≡ true) (b
       at (yes z) P = eight P z
       at (no z) P = subst (Probed G p before h a n r) (sym (marks z)) P
 
+-- where a row finds neither 8 nor 6, its height and the tables that it lacks are heights of a path
+pub found-few : (G : Granule) (p : Pool) → p .numbers .levels ≤ 4 → (h a : ℕ) (M : List ℕ) (n : ℕ) {r : ℕ} → h ≤ p .numbers .levels - 1 → r ≡ rowFound G p M h a n → r ≢ 8 → r ≢ 6 → h + r ≤ 3
+unfolding rowFound metIn
+found-few G p few h a M n {r} top e f g =
+    go (isDamaged (o .entry)) refl (noteWay G M a (o .tables) (o .left) (p .numbers .levels) .fine) (ltb h (o .left)) (anySays isDamaged G (areaOf (p .numbers)) h words) (anySays isTaken G (areaOf (p .numbers)) h words) e
+  where
+    o : Walked
+    o = walkTo G p h a
+
+    words : List ℕ
+    words = part (p .words) (slot G (atHeight (o .tables) h) (indexAt G a h)) n
+
+    met : (x : Entry) → o .left ≤ p .numbers .levels - 1 → r ≡ metAt x (o .left - h) → h + r ≤ 3
+    met Damaged l e = absurd (f e)
+    met Empty l e = omega arith
+    met (Table c) l e = absurd (g e)
+    met (Frame b k) l e = absurd (g e)
+
+    go : (d : Bool) → isDamaged (o .entry) ≡ d → (y z u v : Bool) → r ≡ cond d 8 (cond y (cond z (metAt (o .entry) (o .left - h)) (cond u 8 (cond v 6 0))) 8) → h + r ≤ 3
+    go true q y z u v e = absurd (f e)
+    go false q false z u v e = absurd (f e)
+    go false q true true u v e = met (o .entry) (came-low (walk-stopped G p few h a (undamaged (o .entry) q) .came)) e
+    go false q true false true v e = absurd (f e)
+    go false q true false false true e = absurd (g e)
+    go false q true false false false e = omega arith
+
 -- ---- what the code finds of a row, by where the first walk ended
 
 module _ (G : Granule) (p : Pool) (h a : ℕ) (M : List ℕ) (n : ℕ) {e : Entry} {left : ℕ} {way : List ℕ} (q : stop e left way ≡ walkTo G p h a) where

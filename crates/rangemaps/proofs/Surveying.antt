@@ -11,9 +11,9 @@ use lib.Dec.{eqb}
 use lib.ListN.{length, getD}
 use borrow.Author.Tests.{eq-eqb, ne-eqb}
 use Rattle.laws.specs.Lists.{among}
-use Rattle.path.specs.Geometry.{Granule, Sane, pageSize, entries, sizeAt, spaceOf, physical}
+use Rattle.path.specs.Geometry.{Granule, Sane, pageSize, entries, sizeAt, spaceOf, physical, atLevel}
 use Rattle.path.specs.Areas.{Area, areaOf, total}
-use Rattle.path.specs.Laws.{good-setup, size-pos, size-zero, size-le, page-least, space-physical}
+use Rattle.path.specs.Laws.{good-setup, size-pos, size-zero, size-le, page-least, space-physical, level-some}
 use Rattle.path.specs.Numbers.{GoodSetup}
 use Rattle.path.specs.declared.Setup.{Setup}
 use Rattle.entry.specs.declared.Entry.{Entry}
@@ -133,6 +133,38 @@ module _ (G : Granule) (x y left : ℕ) {h n : ℕ} (u : h ≡ pieceAt G x y lef
 
   pub from-row : (F : ℕ → ℕ → Type 0) → F h n → F (pieceAt G x y left (G .large)) (stretchAt G x left (pieceAt G x y left (G .large)))
   from-row F z = subst₂ F u many-is z
+
+-- the row here in the code's numbers
+module _ {G : Granule} (Z : Sane G) {s : Setup} {a b len x y left need : ℕ} {M : List ℕ} (B : Stands G s a b len x y left need M) (some : left ≢ 0) {tall wide : ℕ}
+    (u : tall ≡ pieceAt G x y left (G .large)) (v : wide ≡ atLevel G tall (stretchAt G x left tall)) where
+  pub tall-low : tall ≤ G .large
+  tall-low = omega (arith, u, here-row B some .low)
+
+  at-level : (t : ℕ) → atLevel G tall t ≡ t
+  at-level t = level-some G {h = tall} (omega (arith, tall-low, Z .large-below, Z .few-most)) t
+
+  pub wide-is : wide ≡ stretchAt G x left tall
+  wide-is = v ∙ at-level (stretchAt G x left tall)
+
+  pub row-is : Stretched G (B .attributes) x y left tall wide (B .rest)
+  row-is = to-row G x y left u wide-is (λ i j. Stretched G (B .attributes) x y left i j (B .rest)) (here-row B some)
+
+  module _ {size : ℕ} (e : size ≡ atLevel G tall (sizeAt G tall)) where
+    pub bytes-is : wide * size ≡ wide * sizeAt G tall
+    bytes-is = ap (λ (t : ℕ). wide * t) (e ∙ at-level (sizeAt G tall))
+
+    -- they are what is left or less, and at least a page
+    pub bytes-fit : (wide * size ≤ left) × (4096 ≤ wide * size)
+    bytes-fit = (omega (arith, bytes-is, row-is .fits), omega (arith, bytes-is, to-row G x y left u wide-is (λ i j. 4096 ≤ j * sizeAt G i) (row-least B some Z)))
+
+    pub stands-turn : {need′ : ℕ} {N : List ℕ} → need′ ≤ need + 3 → total (areaOf s) ≤ length N
+        → Stands G s a b len (x + wide * size) (y + wide * size) (left - wide * size) need′ N
+    stands-turn f l = stands-next B some Z (from-row G x y left u wide-is (λ i j. wide * size ≡ j * sizeAt G i) bytes-is) f l
+
+pub range-near : (G : Granule) → Sane G → (levels : ℕ) (area : Area) (a b len k : ℕ) → mapRangeTests G levels area a b len k ≡ 0 → (a + len ≤ physical) × (b + len ≤ physical)
+range-near G Z levels area a b len k e =
+    let F = range-fine G levels area a b len k e in
+    (omega (arith, F .in-space, space-physical Z levels), F .in-physical)
 
 -- ---- what is found
 
@@ -272,6 +304,24 @@ module _ (G : Granule) (Z : Sane G) (p : Pool) (good : goodPool G p ≡ true) {a
       on (went-later {new} z g w) = next e u K same
           (λ o. subst (Counted G p a (x + n * s) (F .before ++ inRow s k x y n)) (ap (λ (z : ℕ). need + z) (ap (begunAt G x h) (sym r) ∙ sym (w (omega (arith, low, least, S .numbers .not-more, S .numbers .enough, Z .large-below)))))
           (counted-later G Z p few (omega (arith, S .numbers .enough, Z .large-below)) deep (F .count o) h k y n (T .low) (T .some) (T .room) (T .address) q g))
+
+-- a turn of the loop, in the code's numbers
+module _ (G : Granule) (Z : Sane G) (p : Pool) (good : goodPool G p ≡ true) {a b len k x y left num need : ℕ} {M : List ℕ} (F : Sofar G p a b len k x y left num need M)
+    (some : left ≢ 0) {tall wide : ℕ} (u : tall ≡ pieceAt G x y left (G .large)) (v : wide ≡ stretchAt G x left tall)
+    (long : total (areaOf (p .numbers)) ≤ length M) (near : x < physical) {met : ℕ} {N : List ℕ} (e : met ≡ rowFound G p M tall x wide)
+    (m : met ≢ 8 → N ≡ noteWay G M x (walkTo G p tall x .tables) (walkTo G p tall x .left) (p .numbers .levels) .marks) where
+  probed : Probed G p (pieceWalks G p (F .before)) (pieceAt G x y left (G .large)) x (stretchAt G x left (pieceAt G x y left (G .large))) met N
+  probed =
+      sofar-found G Z p good F some long near (from-row G x y left u v (λ i j. met ≡ rowFound G p M i x j) e)
+      (from-row G x y left u v (λ i j. met ≢ 8 → N ≡ noteWay G M x (walkTo G p i x .tables) (walkTo G p i x .left) (p .numbers .levels) .marks) m)
+
+  pub turn-stops : {need′ : ℕ} → met ≡ 8 → Surveyed G p (pieces G a b len k) 8 need′ N
+  turn-stops z = sofar-stops G Z p good F some probed z
+
+  pub turn-next : {num′ need′ bytes : ℕ} → met ≢ 8 → bytes ≡ wide * sizeAt G tall → Went G a x tall num need met num′ need′
+      → Sofar G p a b len k (x + bytes) (y + bytes) (left - bytes) num′ need′ N
+  turn-next {num′} {need′} {bytes} f q w =
+      sofar-next G Z p good F some (from-row G x y left u v (λ i j. bytes ≡ j * sizeAt G i) q) probed f (from-row G x y left u v (λ i j. Went G a x i num need met num′ need′) w)
 
 -- at the end
 pub tiles-none : {G : Granule} {k x y left : ℕ} {ms : List Mapping} → Tiles G k x y left ms → left ≡ 0 → ms ≡ []

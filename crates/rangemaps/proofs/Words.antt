@@ -1,11 +1,11 @@
 -- What the words of a row say, one after the other.
-use Prim.Native.Nat.{ℕ, zero, suc, _+_, _-_, _*_, _%_, _≤_, _<_}
+use Prim.Native.Nat.{ℕ, zero, suc, _+_, _-_, _*_, _%_, _^_, _≤_, _<_}
 use mathlib.Core.Path.{_≡_, refl, sym, ap, _∙_}
 use mathlib.Core.Logic.{_≢_}
 use mathlib.Core.Bool.{Bool, true, false, cond, _&&_, _||_}
 use mathlib.Core.List.{List, [], _∷_, _++_}
 use native.Mathlib.Numerals.{add-one, sub-one}
-use native.Mathlib.Nat.{mul-le-mul-left}
+use native.Mathlib.Nat.{mul-comm, mul-le-mul-left}
 use native.Mathlib.Decide.{decLt}
 use native.Mathlib.Omega.{arith}
 use lib.ListN.{length, getD, set, take, drop, length-set}
@@ -14,9 +14,9 @@ use borrow.Author.Tests.{eqb-true, eq-eqb, ne-eqb}
 use lib.Dec.{eqb}
 use Rattle.laws.specs.Lists.{part, allZero}
 use Rattle.laws.specs.ListLaws.{drop-part, take-part, set-first, set-later}
-use Rattle.path.specs.Geometry.{Granule, entries, sizeAt}
+use Rattle.path.specs.Geometry.{Granule, entries, sizeAt, physical}
 use Rattle.path.specs.Areas.{Area}
-use Rattle.entry.specs.Words.{entryAt}
+use Rattle.entry.specs.Words.{entryAt, attrWord, typeAt, frameWord}
 use Rattle.entry.specs.Laws.{entry-zero, and-true}
 use Rattle.entry.specs.declared.Entry.{Entry}
 use Rattle.entry.specs.declared.Entry.the-variants.{Empty, Table, Frame, Damaged}
@@ -126,3 +126,15 @@ table-of K t i n l = go (decLt t n)
     go : Dec (t < n) → t < n
     go (yes m) = m
     go (no m) = absurd (omega (arith, mul-le-mul-left {m = n} {n = t} K (omega arith)))
+
+-- the words of a row fit in 64 bits
+pub row-word-fits : (y h k n s : ℕ) {w r : ℕ} → y + n * s ≤ physical → w ≡ frameWord y h k → r ≡ s → w + r * n ≤ 2 ^ 63
+unfolding frameWord typeAt
+row-word-fits y h k n s {w} {r} l e q = go (eqb h 0) e
+  where
+    product : r * n ≡ n * s
+    product = ap (λ (t : ℕ). t * n) q ∙ mul-comm s n
+
+    go : (b : Bool) → w ≡ y + cond b 3 1 + attrWord k → w + r * n ≤ 2 ^ 63
+    go true e = omega (arith, product)
+    go false e = omega (arith, product)

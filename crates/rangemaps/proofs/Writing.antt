@@ -7,10 +7,10 @@ use mathlib.Core.List.{List, [], _∷_, _++_, List·Memᴰ, List·Memᴰ·head a
 use native.Mathlib.Nat.{suc-mul, mul-suc}
 use native.Mathlib.Omega.{arith}
 use lib.ListN.{length, set}
-use Rattle.path.specs.Geometry.{Granule, Sane, entries, sizeAt, heightOf, physical}
+use Rattle.path.specs.Geometry.{Granule, Sane, granuleOf, entries, sizeAt, heightOf, physical, atLevel}
 use Rattle.path.specs.Areas.{areaOf}
-use Rattle.path.specs.Numbers.{withFree, GoodSetup}
-use Rattle.path.specs.Laws.{size-height, good-setup, space-physical}
+use Rattle.path.specs.Numbers.{withFree, goodSetup, GoodSetup}
+use Rattle.path.specs.Laws.{size-pos, size-height, good-setup, space-physical, level-some}
 use Rattle.path.specs.Paths.{indexAt, pathOf}
 use Rattle.path.specs.PathLaws.{path-of-at, index-below}
 use Rattle.path.specs.declared.Setup.{Setup}
@@ -516,3 +516,86 @@ module _ {G : Granule} {Z : Sane G} {p : Pool} {a b len k : ℕ} {now : Setup} {
             (subst (λ (w : List ℕ). Going G Z (p .numbers) (W .few) (p .cut) (p .list) (W .enough) k w (R .free) (R .lacks) (x + size + (many - 1) * size) (y + size + (many - 1) * size) (left - size - (many - 1) * size) (this-row .row .rest)) (sym q) (D .going))
             (R .leaves ∙ D .leaves ∙ ap (λ (w : List ℕ). leftBy (mapPiece G) (pool (withFree (p .numbers) (R .free)) w (p .cut) (p .list)) (this-row .row .rest)) (sym q))
             (R .after-is)
+
+-- ---- a turn of the loop, in the code's numbers
+
+module _ {G : Granule} {Z : Sane G} {p : Pool} {a b len k : ℕ} {now : Setup} {ws : List ℕ} {cut x y left : ℕ} (W : Written G Z p a b len k now ws cut x y left) (some : left ≢ 0)
+    (own : granuleOf (p .numbers .granule) ≡ G) {tall wide bytes : ℕ} (u : tall ≡ pieceAt G x y left (G .large)) (v : wide ≡ atLevel G tall (stretchAt G x left tall))
+    (e : bytes ≡ atLevel G tall (sizeAt G tall)) where
+  tall-low : tall ≤ G .large
+  tall-low = omega (arith, u, this-row W some .low)
+
+  at-level : (t : ℕ) → atLevel G tall t ≡ t
+  at-level t = level-some G {h = tall} (omega (arith, tall-low, Z .large-below, Z .few-most)) t
+
+  wide-is : wide ≡ many W some
+  wide-is = v ∙ at-level (stretchAt G x left tall) ∙ ap (stretchAt G x left) u
+
+  size-is : bytes ≡ size W some
+  size-is = e ∙ at-level (sizeAt G tall) ∙ ap (sizeAt G) u
+
+  pub row-bytes : wide * bytes ≡ many W some * size W some
+  row-bytes = λ i. wide-is i * size-is i
+
+  -- the row is some of what is left, and ends where its addresses can
+  pub row-fits : (wide * bytes ≤ left) × ((0 < wide) × ((0 < wide * bytes) × ((bytes ≤ left) × ((x + left ≤ physical) × (y + left ≤ physical)))))
+  row-fits =
+      let S = this-row W some in (
+        omega (arith, row-bytes, S .fits),
+        (
+          omega (arith, wide-is, S .some),
+          (
+            omega (arith, row-bytes, bytes-are W some, size-pos G (height W some)),
+            (omega (arith, size-is, bytes-are W some, S .fits), (omega (arith, W .sum, W .near), omega (arith, W .sum-frame, W .near-frame))),
+          ),
+        ),
+      )
+
+  pub row-firsted : {r : Answer} {after : Setup} {ws′ : List ℕ} {cut′ : ℕ} → done r (pool after ws′ cut′ (p .list)) ≡ mapW (granuleOf (now .granule)) (pool now ws cut (p .list)) x y bytes k
+      → Firsted W some after ws′ cut′
+  row-firsted q = firsted W some (q ∙ (λ i. mapW (same i) (pool now ws cut (p .list)) x y (size-is i) k))
+    where
+      same : granuleOf (now .granule) ≡ G
+      same = ap (λ (t : Setup). granuleOf (t .granule)) (W .now-is) ∙ own
+
+  module _ {after : Setup} {ws′ : List ℕ} {cut′ : ℕ} (R : Firsted W some after ws′ cut′) where
+    same : granuleOf (after .granule) ≡ G
+    same = ap (λ (t : Setup). granuleOf (t .granule)) (R .after-is) ∙ own
+
+    -- one piece was all
+    pub row-one : wide ≤ 1 → Written G Z p a b len k after ws′ cut′ (x + wide * bytes) (y + wide * bytes) (left - wide * bytes)
+    row-one l = written-one W some R row-bytes (omega (arith, wide-is, this-row W some .some))
+
+    module _ (l : 1 < wide) where
+      more : 0 < many W some - 1
+      more = omega (arith, wide-is)
+
+      -- what the others ask
+      abbrev Asks : Granule → Setup → ℕ → ℕ → ℕ → ℕ → Type 0
+      Asks H sp c t n z =
+          ((places : ℕ) × (goodSetup H sp c (length ws′) places ≡ true))
+          × ((t ≤ H .large)
+          × ((y + z + n * sizeAt H t ≤ physical)
+          × ((indexAt H (x + z) t + n ≤ entries H)
+          × ((walkTo H (pool sp ws′ c []) t (x + z) .entry ≡ Empty) × (walkTo H (pool sp ws′ c []) t (x + z) .left ≡ t)))))
+
+      pub row-asks : Asks (granuleOf (after .granule)) after cut′ tall (wide - 1) bytes
+      row-asks = coe 1 0 (i. Asks (same i) (R .after-is i) (R .cut-is i) (u i) (wide-is i - 1) (size-is i)) (
+        (length (p .list), R .going .ok .good),
+        (
+          this-row W some .low,
+          (
+            omega (arith, bytes-are W some, this-row W some .fits, W .sum-frame, W .near-frame),
+            (room-left W some R more, (empty-next W some R more, R .next-is more)),
+          ),
+        ),
+      )
+
+      pub row-rest : {ws″ : List ℕ}
+          → ws″
+          ≡ filled ws′ (slot (granuleOf (after .granule)) (atHeight (walkTo (granuleOf (after .granule)) (pool after ws′ cut′ []) tall (x + bytes) .tables) tall) (indexAt (granuleOf (after .granule)) (x + bytes) tall)) (frameWord (y + bytes) tall k) (sizeAt (granuleOf (after .granule)) tall) (wide - 1)
+          → Written G Z p a b len k after ws″ cut′ (x + wide * bytes) (y + wide * bytes) (left - wide * bytes)
+      row-rest q =
+          written-row W some R row-bytes more
+          (q
+          ∙ (λ i. filled ws′ (slot (same i) (atHeight (walkTo (same i) (pool (R .after-is i) ws′ (R .cut-is i) []) (u i) (x + size-is i) .tables) (u i)) (indexAt (same i) (x + size-is i) (u i))) (frameWord (y + size-is i) (u i) k) (sizeAt (same i) (u i)) (wide-is i - 1)))
