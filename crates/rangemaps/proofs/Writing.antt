@@ -563,8 +563,10 @@ module _ {G : Granule} {Z : Sane G} {p : Pool} {a b len k : ℕ} {now : Setup} {
     same = ap (λ (t : Setup). granuleOf (t .granule)) (R .after-is) ∙ own
 
     -- one piece was all
-    pub row-one : wide ≤ 1 → Written G Z p a b len k after ws′ cut′ (x + wide * bytes) (y + wide * bytes) (left - wide * bytes)
-    row-one l = written-one W some R row-bytes (omega (arith, wide-is, this-row W some .some))
+    pub row-one : {ws″ : List ℕ} → ws″ ≡ ws′ → wide ≤ 1 → Written G Z p a b len k after ws″ cut′ (x + wide * bytes) (y + wide * bytes) (left - wide * bytes)
+    row-one q l =
+        subst (λ (w : List ℕ). Written G Z p a b len k after w cut′ (x + wide * bytes) (y + wide * bytes) (left - wide * bytes)) (sym q)
+        (written-one W some R row-bytes (omega (arith, wide-is, this-row W some .some)))
 
     module _ (l : 1 < wide) where
       more : 0 < many W some - 1

@@ -47,10 +47,7 @@ joined c =
     let e = c .before .before .before .before .before .before .before .before .before .size-at .ensures in
     ⊎-elim
     (λ way. (row-rest (l .inv .0) (some (c .before .before .before .before .before .before .before .before .before .before .before .before)) refl u v e (first (c .before .before .before .before .before .before)) (way .0 .taken) ((λ i. way .8 i ++ way .9 i) ∙ way .3 .ensures), (ap length (way .8) ∙ way .3 .kept .1 .0, ap length (way .9) ∙ way .3 .kept .1 .1 .0)))
-    (λ way. (
-      subst (λ (w : List ℕ). Written _ _ _ _ _ _ _ _ w _ _ _ _) (λ i. sym (way .1) i ++ sym (way .2) i) (row-one (l .inv .0) (some (c .before .before .before .before .before .before .before .before .before .before .before .before)) refl u v e (first (c .before .before .before .before .before .before)) (way .0 .left)),
-      (ap length (way .1), ap length (way .2)),
-    ))
+    (λ way. (row-one (l .inv .0) (some (c .before .before .before .before .before .before .before .before .before .before .before .before)) refl u v e (first (c .before .before .before .before .before .before)) (λ i. way .1 i ++ way .2 i) (way .0 .left), (ap length (way .1), ap length (way .2))))
     (c .if1 .came)
 
 loop-holds : tie.Need-loop-holds Inv-loop μ-loop
