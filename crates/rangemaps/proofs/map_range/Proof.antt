@@ -4,9 +4,8 @@ use mathlib.Core.Path.{_≡_, refl, sym, ap, _∙_}
 use mathlib.Core.Bool.{true}
 use mathlib.Core.List.{List, _++_}
 use native.Mathlib.Omega.{arith}
-use lib.ListN.{length, getD}
-use Rattle.laws.specs.Lists.{allZero}
-use Rattle.laws.specs.ListLaws.{allZero-at}
+use lib.ListN.{length, getD, replicate}
+use Rattle.laws.specs.ListLaws.{allZero-at, allZero-replicate}
 use Rattle.path.specs.Geometry.{granuleOf}
 use Rattle.path.specs.Areas.{areaOf, total}
 use Rattle.path.specs.Numbers.{GoodSetup}
@@ -39,10 +38,14 @@ few c = let a = c .before .before .before .before .before .args in omega (arith,
 tests : (c : tie.Else2) → let a = c .before .before .before .before .before .before .before .args in mapRangeTests (granuleOf (a .s .granule)) (a .s .levels) (areaOf (a .s)) (a .address) (a .frame) (a .len) (a .attributes) ≡ 0
 tests c = sym (c .before .map-tests .ensures) ∙ c .if2 .left
 
+-- no table is noted at first
+zeros : (t : ℕ) → getD {A = ℕ} (replicate {A = ℕ} 512 0) t 0 ≡ 0
+zeros = allZero-at (replicate 512 0) (allZero-replicate 512)
+
 -- what the walks found
 found : (c : tie.After-survey) → let a = c .before .before .before .before .before .before .before .before .before .before .before .args in
     Surveyed (granuleOf (a .s .granule)) (at (c .before .before .before .before .before .before .before .before .before .before .before)) (pieces (granuleOf (a .s .granule)) (a .address) (a .frame) (a .len) (a .attributes)) (c .survey .result .no) (c .survey .result .need) (c .survey .last .1 .1 .1 .0)
-found c = let a = c .before .before .before .before .before .before .before .before .before .before .before .args in c .survey .ensures (a .list .now) (a .attributes) (good (c .before .before .before .before .before .before)) (λ t. ?) (tests (c .before .before .before .before))
+found c = let a = c .before .before .before .before .before .before .before .before .before .before .before .args in c .survey .ensures (a .list .now) (a .attributes) (good (c .before .before .before .before .before .before)) zeros (tests (c .before .before .before .before))
 
 good-setup-requires : tie.Need-good-setup-requires
 good-setup-requires c κs = search needs
@@ -72,7 +75,7 @@ slice-aggregate-survey : tie.Need-slice-aggregate-survey
 slice-aggregate-survey c = search needs
 
 survey-requires : tie.Need-survey-requires
-survey-requires c κs = ((length (c .before .before .before .before .before .before .before .before .before .before .args .list .now), good (c .before .before .before .before .before)), (?, (c .before .before .before .before .before .before .before .before .before .before .args .attributes, tests (c .before .before .before))))
+survey-requires c κs = ((length (c .before .before .before .before .before .before .before .before .before .before .args .list .now), good (c .before .before .before .before .before)), (few (c .before .before .before .before .before), (c .before .before .before .before .before .before .before .before .before .before .args .attributes, tests (c .before .before .before))))
 
 map-refused-requires-3 : tie.Need-map-refused-requires-3
 map-refused-requires-3 c κs = search needs
@@ -114,7 +117,7 @@ slice-aggregate-may-take : tie.Need-slice-aggregate-may-take
 slice-aggregate-may-take c = search needs
 
 may-take-requires : tie.Need-may-take-requires
-may-take-requires c κs = (c .before .before .if4 .left, ?)
+may-take-requires c κs = (c .before .before .if4 .left, omega (arith, few (c .before .before .before .before .before .before .before .before .before .before .before .before .before .before), c .before .before .before .before .before .before .before .before .survey .kept .1 .1 .1 .0))
 
 -- whether the tables may be taken
 may : (c : tie.After-may-take) → let a = c .before .before .before .before .before .before .before .before .before .before .before .before .before .before .before .before .before .before .before .before .args in
