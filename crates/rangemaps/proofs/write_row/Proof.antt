@@ -55,9 +55,15 @@ in-run : (c : tie.After-reach) → let a = c .before .before .before .before .be
 in-run c =
     let s = c .before .before .before .before .before .before in
     let a = s .args in (
-      λ l. omega (arith, place c .1, s .pre .1 .1 .1 .0, good s .numbers .cut-is, table-ends (entries (granuleOf (a .s .granule)))
-          (table-of (entries (granuleOf (a .s .granule))) (table s) (indexAt (granuleOf (a .s .granule)) (a .address) (a .height)) (a .s .tables)
-          (subst (λ (i : ℕ). i < entries (granuleOf (a .s .granule)) * a .s .tables) (place c .1) (omega (arith, l, good s .numbers .cut-is))))),
+      λ l. omega (
+        arith,
+        place c .1,
+        s .pre .1 .1 .1 .0,
+        good s .numbers .cut-is,
+        table-ends (entries (granuleOf (a .s .granule)))
+            (table-of (entries (granuleOf (a .s .granule))) (table s) (indexAt (granuleOf (a .s .granule)) (a .address) (a .height)) (a .s .tables)
+            (subst (λ (i : ℕ). i < entries (granuleOf (a .s .granule)) * a .s .tables) (place c .1) (omega (arith, l, good s .numbers .cut-is)))),
+      ),
       omega (arith, place c .1, s .pre .1 .1 .1 .0, good s .numbers .words-are, table-ends (entries (granuleOf (a .s .granule))) (in-pool c)),
     )
 
