@@ -1,18 +1,17 @@
 -- What map a range does, by what its tests found.
 use Prim.Native.Nat.{ℕ, _≤_, _<_}
-use mathlib.Core.Path.{_≡_, refl, sym, ap, _∙_}
+use mathlib.Core.Path.{_≡_, refl, sym, _∙_}
 use mathlib.Core.Logic.{_≢_}
 use mathlib.Core.Bool.{Bool, true, false, not}
-use mathlib.Core.List.{List, []}
+use mathlib.Core.List.{List}
 use native.Mathlib.Omega.{arith}
 use borrow.Author.Tests.{not-true, lt-ltb, le-ltb, ne-eqb}
-use lib.ListN.{length}
 use Rattle.path.specs.Geometry.{Granule}
 use Rattle.path.specs.Areas.{areaOf, total}
-use Rattle.model.specs.Answers.{Mapping, took, Pool, Done, done, refuse}
+use Rattle.model.specs.Answers.{Mapping, took, Pool, done, refuse}
 use Rattle.model.specs.Writes.{mayTake}
 use Rattle.model.specs.Calls.{goodPool}
-use Rattle.model.specs.Ranges.{mapRangeTests, pieces, pieceWalks, ways, lacked, mapPiece, leftBy, mapRangeHere, mapRangeAt, mapRangeW}
+use Rattle.model.specs.Ranges.{mapRangeTests, pieces, pieceWalks, ways, mapPiece, leftBy, mapRangeHere, mapRangeAt, mapRangeW}
 use Rattle.model.specs.Refusing.{passed}
 use Rattle.rangemaps.specs.Surveys.{MarksOf, Surveyed, is-spoiled, is-taken, is-free}
 

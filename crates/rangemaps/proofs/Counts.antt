@@ -1,11 +1,11 @@
 -- The tables that the pieces of a range lack, counted row by row. A region that lacks a table is met first by the piece that begins it, or by the first
 -- piece of the range.
-use Prim.Native.Nat.{ℕ, zero, suc, _+_, _-_, _*_, _/_, _%_, _≤_, _<_}
+use Prim.Native.Nat.{ℕ, zero, suc, _+_, _-_, _*_, _%_, _≤_, _<_}
 use mathlib.Core.Path.{_≡_, refl, ap, sym, _∙_, subst}
 use mathlib.Core.Logic.{_≢_, _⊎_, inl, inr, ⊎-elim}
 use mathlib.Core.Bool.{Bool, true, false, cond, _&&_, _||_, not}
-use mathlib.Core.List.{List, [], _∷_, _++_, List·Memᴰ, List·Memᴰ·head as here, List·Memᴰ·tail as there, List·Memᴰ·not-nil, List·Memᴰ·cases-cons, List·Memᴰ·append-cases, Memᴰ·append-left, Memᴰ·append-right}
-use native.Mathlib.Nat.{suc-mul, add-zero}
+use mathlib.Core.List.{List, [], _∷_, _++_, List·Memᴰ, List·Memᴰ·head as here, List·Memᴰ·tail as there, List·Memᴰ·not-nil, List·Memᴰ·cases-cons, List·Memᴰ·append-cases, Memᴰ·append-right}
+use native.Mathlib.Nat.{suc-mul}
 use native.Mathlib.Omega.{arith}
 use native.Mathlib.Decide.{ℕ-discrete, decLt, decLe}
 use lib.Dec.{ltb, eqb}
@@ -17,7 +17,7 @@ use Rattle.path.specs.Laws.{size-pos, size-le, size-rises, size-height}
 use Rattle.path.specs.Paths.{indexAt, baseAt, pathOf}
 use Rattle.path.specs.RegionLaws.{multiple-gap, aligned-down, end-aligned, base-rest, base-le, base-end, base-aligned, aligned-base, base-inside, base-region, region-base, region-above}
 use Rattle.entry.specs.Words.{entryAt}
-use Rattle.entry.specs.declared.Entry.the-variants.{Empty, Table, Damaged}
+use Rattle.entry.specs.declared.Entry.the-variants.{Empty, Damaged}
 use Rattle.model.specs.declared.Walked.{Walked}
 use Rattle.model.specs.Answers.{Mapping, mapping, Pool}
 use Rattle.model.specs.Walk.{slot, atHeight}

@@ -1,8 +1,8 @@
 -- What the walks of a row come to, by what the code finds of them.
-use Prim.Native.Nat.{ℕ, zero, suc, _+_, _-_, _*_, _/_, _%_, _≤_, _<_}
+use Prim.Native.Nat.{ℕ, zero, suc, _+_, _-_, _/_, _%_, _≤_, _<_}
 use mathlib.Core.Path.{_≡_, refl, ap, sym, _∙_, subst}
-use mathlib.Core.Logic.{_≢_, _⊎_, inl, inr, ⊎-elim}
-use mathlib.Core.Bool.{Bool, true, false, cond, _||_, false≢true, true≢false}
+use mathlib.Core.Logic.{_≢_, _⊎_, ⊎-elim}
+use mathlib.Core.Bool.{Bool, true, false, cond, false≢true, true≢false}
 use mathlib.Core.List.{List, [], _∷_, _++_, List·Memᴰ, List·Memᴰ·not-nil, List·Memᴰ·append-cases, Memᴰ·append-left, Memᴰ·append-right}
 use native.Mathlib.Omega.{arith}
 use native.Mathlib.Decide.{ℕ-discrete, decLt}
@@ -31,7 +31,7 @@ use Rattle.lookup.specs.Reaches.{Came, came-again, came-word}
 use Rattle.marks.specs.Marks.{Noted, noted, noteWay}
 use Rattle.marks.specs.MarkLaws.{Marked, Clash, clash-like, marked-like, Noting, agreed, clashes, Within, onWays-append, note-walk}
 use Rattle.rangemaps.specs.Rows.{rowWalks, anySays, metIn, metAt, rowFound}
-use Rattle.rangemaps.proofs.Rows.{row-first, row-ends, row-some, row-says, row-above, row-here, row-within}
+use Rattle.rangemaps.proofs.Rows.{row-ends, row-some, row-says, row-above, row-here, row-within}
 
 -- the walks of a row, where those before it are noted, and what they come to: a number, and the marks then
 pub data Probed (G : Granule) (p : Pool) (before : List Probe) (h a n : ℕ) : ℕ → List ℕ → Type 0 where

@@ -1,39 +1,38 @@
 -- The walks of a row: those of one table.
-use Prim.Native.Nat.{ℕ, zero, suc, _+_, _-_, _*_, _/_, _%_, _≤_, _<_}
+use Prim.Native.Nat.{ℕ, zero, suc, _+_, _-_, _*_, _/_, _≤_, _<_}
 use mathlib.Core.Path.{_≡_, refl, ap, sym, _∙_, subst}
-use mathlib.Core.Logic.{_≢_, _⊎_, inl, inr, ⊎-elim}
-use mathlib.Core.Bool.{Bool, true, false, cond, _||_, false≢true, true≢false}
-use mathlib.Core.List.{List, [], _∷_, _++_, map, append-assoc, List·Memᴰ, List·Memᴰ·head as here, List·Memᴰ·tail as there, List·Memᴰ·not-nil, List·Memᴰ·cases-cons, List·Memᴰ·append-cases, Memᴰ·append-left, Memᴰ·append-right}
+use mathlib.Core.Logic.{_≢_, _⊎_, ⊎-elim}
+use mathlib.Core.Bool.{Bool, true, false, _||_}
+use mathlib.Core.List.{List, [], _∷_, List·Memᴰ, List·Memᴰ·head as here, List·Memᴰ·tail as there, List·Memᴰ·not-nil, List·Memᴰ·cases-cons}
 use native.Mathlib.Nat.{suc-mul}
 use native.Mathlib.Omega.{arith}
-use native.Mathlib.Decide.{ℕ-discrete, decLt}
-use lib.ListN.{length, getD, set, take, drop}
+use native.Mathlib.Decide.{ℕ-discrete}
+use lib.ListN.{length, getD, take}
 use lib.Seq.{getD-set-other, drop-cons}
 use Rattle.laws.specs.Lists.{part, allZero}
 use Rattle.laws.specs.ListLaws.{allZero-at}
-use Rattle.path.specs.Geometry.{Granule, Sane, entries, sizeAt, spaceOf, physical, heightOf}
-use Rattle.path.specs.Areas.{Area, areaOf, total}
-use Rattle.path.specs.Numbers.{GoodSetup}
-use Rattle.path.specs.Laws.{good-setup, size-height}
+use Rattle.path.specs.Geometry.{Granule, Sane, entries, sizeAt}
+use Rattle.path.specs.Areas.{Area, areaOf}
+use Rattle.path.specs.Laws.{size-height}
 use Rattle.path.specs.Paths.{indexAt, baseAt, pathOf}
 use Rattle.path.specs.PathLaws.{path-of-at}
 use Rattle.path.specs.RegionLaws.{region-above, region-base}
 use Rattle.entry.specs.Words.{entryAt}
 use Rattle.entry.specs.declared.Entry.{Entry}
-use Rattle.entry.specs.declared.Entry.the-variants.{Empty, Table, Frame, Damaged}
+use Rattle.entry.specs.declared.Entry.the-variants.{Damaged}
 use Rattle.model.specs.declared.Walked.{Walked}
-use Rattle.model.specs.Answers.{Mapping, mapping, Pool}
+use Rattle.model.specs.Answers.{Pool}
 use Rattle.model.specs.Walk.{slot, atHeight, noWay, stop}
-use Rattle.model.specs.Calls.{goodPool, walkTo}
+use Rattle.model.specs.Calls.{walkTo}
 use Rattle.model.specs.Ledger.{region}
-use Rattle.model.specs.Ranges.{Probe, probe, pieceWalk, pieceWalks, anyEnds, isDamaged, isTaken, Standing, standing, onWays}
-use Rattle.model.specs.RangeWalks.{readBy, Came, Stopped, came-low, came-kept, stopped-long, stopped-in, walk-stopped, walk-region, walk-table}
+use Rattle.model.specs.Ranges.{Probe, probe, pieceWalks, anyEnds, Standing, standing, onWays}
+use Rattle.model.specs.RangeWalks.{Came, Stopped, came-low, came-kept, stopped-long, walk-stopped, walk-region, walk-table}
 use Rattle.model.specs.RangeWalks as walks
-use Rattle.model.specs.RangeMapped.{standingAt, ways-has, or-assoc}
-use Rattle.marks.specs.MarkLaws.{Marked, Clash, Within, clash-like, onWays-append, marked-more, ways-from, Placed}
+use Rattle.model.specs.RangeMapped.{standingAt, ways-has}
+use Rattle.marks.specs.MarkLaws.{Within, ways-from, Placed}
 use Rattle.ranges.specs.Stretches.{inRow}
 use Rattle.ranges.specs.StretchLaws.{row-index, row-region}
-use Rattle.rangemaps.specs.Rows.{rowWalks, anySays, metIn}
+use Rattle.rangemaps.specs.Rows.{rowWalks, anySays}
 
 -- ---- the tables of a walk that is not damaged
 

@@ -1,9 +1,9 @@
 -- The walks of a range, row by row: what is known after some rows, and how it goes on.
-use Prim.Native.Nat.{ℕ, zero, suc, _+_, _-_, _*_, _/_, _%_, _^_, _≤_, _<_}
+use Prim.Native.Nat.{ℕ, suc, _+_, _-_, _*_, _≤_, _<_}
 use mathlib.Core.Path.{_≡_, refl, ap, sym, _∙_, subst, subst₂}
-use mathlib.Core.Logic.{_≢_, _⊎_, inl, inr, ⊎-elim}
-use mathlib.Core.Bool.{Bool, true, false, cond, _||_, not, false≢true, true≢false}
-use mathlib.Core.List.{List, [], _∷_, _++_, append-assoc, append-nil, List·Memᴰ, List·Memᴰ·head as here, List·Memᴰ·tail as there, List·Memᴰ·not-nil, List·Memᴰ·cases-cons}
+use mathlib.Core.Logic.{_≢_, _⊎_, ⊎-elim}
+use mathlib.Core.Bool.{Bool, true, false, cond, _||_, not, false≢true}
+use mathlib.Core.List.{List, [], _∷_, _++_, append-assoc, append-nil, List·Memᴰ, List·Memᴰ·not-nil, List·Memᴰ·cases-cons}
 use native.Mathlib.Omega.{arith}
 use native.Mathlib.Nat.{suc-mul}
 use native.Mathlib.Decide.{ℕ-discrete}
@@ -11,23 +11,23 @@ use lib.Dec.{eqb}
 use lib.ListN.{length, getD}
 use borrow.Author.Tests.{eq-eqb, ne-eqb}
 use Rattle.laws.specs.Lists.{among}
-use Rattle.path.specs.Geometry.{Granule, Sane, pageSize, entries, sizeAt, spaceOf, physical, atLevel}
+use Rattle.path.specs.Geometry.{Granule, Sane, sizeAt, physical, atLevel}
 use Rattle.path.specs.Areas.{Area, areaOf, total}
 use Rattle.path.specs.Laws.{good-setup, size-pos, size-zero, size-le, page-least, space-physical, level-some}
 use Rattle.path.specs.Numbers.{GoodSetup}
 use Rattle.path.specs.declared.Setup.{Setup}
 use Rattle.entry.specs.declared.Entry.{Entry}
-use Rattle.entry.specs.declared.Entry.the-variants.{Empty, Damaged}
-use Rattle.model.specs.Answers.{Mapping, mapping, Pool}
+use Rattle.entry.specs.declared.Entry.the-variants.{Damaged}
+use Rattle.model.specs.Answers.{Mapping, Pool}
 use Rattle.model.specs.Calls.{goodPool, walkTo}
-use Rattle.model.specs.Ranges.{mapRangeTests, pieceAt, pieces, Probe, probe, walkFor, pieceWalk, pieceWalks, anyEnds, isDamaged, isTaken, onWays, oneRegionEach, spoiled, ways, lacked}
-use Rattle.model.specs.RangeLaws.{Tiles, over, piece, FineRange, range-fine, tiles}
+use Rattle.model.specs.Ranges.{mapRangeTests, pieceAt, pieces, Probe, pieceWalk, pieceWalks, anyEnds, isDamaged, isTaken, onWays, spoiled, ways}
+use Rattle.model.specs.RangeLaws.{Tiles, over, piece, range-fine, tiles}
 use Rattle.model.specs.RangeMapped.{none-ends}
 use Rattle.model.specs.RangeWalks.{walk-stopped, came-target, came-low}
 use Rattle.marks.specs.Marks.{noteWay}
-use Rattle.marks.specs.MarkLaws.{Marked, Clash, clash-more, marked-each, Placed, unmarked, marked-way}
+use Rattle.marks.specs.MarkLaws.{Marked, clash-more, marked-each, Placed, unmarked, marked-way}
 use Rattle.ranges.specs.Stretches.{stretchAt, inRow}
-use Rattle.ranges.specs.StretchLaws.{Begins, Stretched, stretched}
+use Rattle.ranges.specs.StretchLaws.{Stretched, stretched}
 use Rattle.rangemaps.specs.Rows.{rowWalks, rowFound, begunAt}
 use Rattle.rangemaps.specs.Surveys.{MarksOf, Surveyed, is-spoiled, is-taken, is-free}
 use Rattle.rangemaps.proofs.Rows.{walk-placed, row-pieces}
@@ -134,32 +134,36 @@ module _ (G : Granule) (x y left : ℕ) {h n : ℕ} (u : h ≡ pieceAt G x y lef
   pub from-row : (F : ℕ → ℕ → Type 0) → F h n → F (pieceAt G x y left (G .large)) (stretchAt G x left (pieceAt G x y left (G .large)))
   from-row F z = subst₂ F u many-is z
 
--- the row here in the code's numbers
-module _ {G : Granule} (Z : Sane G) {s : Setup} {a b len x y left need : ℕ} {M : List ℕ} (B : Stands G s a b len x y left need M) (some : left ≢ 0) {tall wide : ℕ}
-    (u : tall ≡ pieceAt G x y left (G .large)) (v : wide ≡ atLevel G tall (stretchAt G x left tall)) where
+-- a row in the code's numbers
+module _ {G : Granule} (Z : Sane G) {k x y left : ℕ} {ms : List Mapping} (R : Stretched G k x y left (pieceAt G x y left (G .large)) (stretchAt G x left (pieceAt G x y left (G .large))) ms)
+    {tall wide : ℕ} (u : tall ≡ pieceAt G x y left (G .large)) (v : wide ≡ atLevel G tall (stretchAt G x left tall)) where
   pub tall-low : tall ≤ G .large
-  tall-low = omega (arith, u, here-row B some .low)
+  tall-low = omega (arith, u, R .low)
 
-  at-level : (t : ℕ) → atLevel G tall t ≡ t
-  at-level t = level-some G {h = tall} (omega (arith, tall-low, Z .large-below, Z .few-most)) t
+  pub tall-level : (t : ℕ) → atLevel G tall t ≡ t
+  tall-level t = level-some G {h = tall} (omega (arith, tall-low, Z .large-below, Z .few-most)) t
 
   pub wide-is : wide ≡ stretchAt G x left tall
-  wide-is = v ∙ at-level (stretchAt G x left tall)
+  wide-is = v ∙ tall-level (stretchAt G x left tall)
 
-  pub row-is : Stretched G (B .attributes) x y left tall wide (B .rest)
-  row-is = to-row G x y left u wide-is (λ i j. Stretched G (B .attributes) x y left i j (B .rest)) (here-row B some)
+  pub row-is : Stretched G k x y left tall wide ms
+  row-is = to-row G x y left u wide-is (λ i j. Stretched G k x y left i j ms) R
 
-  module _ {size : ℕ} (e : size ≡ atLevel G tall (sizeAt G tall)) where
-    pub bytes-is : wide * size ≡ wide * sizeAt G tall
-    bytes-is = ap (λ (t : ℕ). wide * t) (e ∙ at-level (sizeAt G tall))
+module _ {G : Granule} (Z : Sane G) {s : Setup} {a b len x y left need : ℕ} {M : List ℕ} (B : Stands G s a b len x y left need M) (some : left ≢ 0) {tall wide size : ℕ}
+    (u : tall ≡ pieceAt G x y left (G .large)) (v : wide ≡ atLevel G tall (stretchAt G x left tall)) (e : size ≡ atLevel G tall (sizeAt G tall)) where
+  pub bytes-is : wide * size ≡ wide * sizeAt G tall
+  bytes-is = ap (λ (t : ℕ). wide * t) (e ∙ tall-level Z (here-row B some) u v (sizeAt G tall))
 
-    -- they are what is left or less, and at least a page
-    pub bytes-fit : (wide * size ≤ left) × (4096 ≤ wide * size)
-    bytes-fit = (omega (arith, bytes-is, row-is .fits), omega (arith, bytes-is, to-row G x y left u wide-is (λ i j. 4096 ≤ j * sizeAt G i) (row-least B some Z)))
+  in-row : wide * size ≡ many B some * sizeAt G (height B some)
+  in-row = from-row G x y left u (wide-is Z (here-row B some) u v) (λ i j. wide * size ≡ j * sizeAt G i) bytes-is
 
-    pub stands-turn : {need′ : ℕ} {N : List ℕ} → need′ ≤ need + 3 → total (areaOf s) ≤ length N
-        → Stands G s a b len (x + wide * size) (y + wide * size) (left - wide * size) need′ N
-    stands-turn f l = stands-next B some Z (from-row G x y left u wide-is (λ i j. wide * size ≡ j * sizeAt G i) bytes-is) f l
+  -- they are what is left or less, and at least a page
+  pub bytes-fit : (wide * size ≤ left) × (4096 ≤ wide * size)
+  bytes-fit = (omega (arith, in-row, here-row B some .fits), omega (arith, in-row, row-least B some Z))
+
+  pub stands-turn : {need′ : ℕ} {N : List ℕ} → need′ ≤ need + 3 → total (areaOf s) ≤ length N
+      → Stands G s a b len (x + wide * size) (y + wide * size) (left - wide * size) need′ N
+  stands-turn f l = stands-next B some Z in-row f l
 
 pub range-near : (G : Granule) → Sane G → (levels : ℕ) (area : Area) (a b len k : ℕ) → mapRangeTests G levels area a b len k ≡ 0 → (a + len ≤ physical) × (b + len ≤ physical)
 range-near G Z levels area a b len k e =

@@ -2,7 +2,7 @@
 use Prim.Native.Nat.{ℕ, zero, suc, _+_, _-_, _*_, _%_, _^_, _≤_, _<_}
 use mathlib.Core.Path.{_≡_, refl, sym, ap, _∙_}
 use mathlib.Core.Logic.{_≢_}
-use mathlib.Core.Bool.{Bool, true, false, cond, _&&_, _||_}
+use mathlib.Core.Bool.{Bool, true, false, cond}
 use mathlib.Core.List.{List, [], _∷_, _++_}
 use native.Mathlib.Numerals.{add-one, sub-one}
 use native.Mathlib.Nat.{mul-comm, mul-le-mul-left}
@@ -19,7 +19,7 @@ use Rattle.path.specs.Areas.{Area}
 use Rattle.entry.specs.Words.{entryAt, attrWord, typeAt, frameWord}
 use Rattle.entry.specs.Laws.{entry-zero, and-true}
 use Rattle.entry.specs.declared.Entry.{Entry}
-use Rattle.entry.specs.declared.Entry.the-variants.{Empty, Table, Frame, Damaged}
+use Rattle.entry.specs.declared.Entry.the-variants.{Empty, Damaged}
 use Rattle.model.specs.Walk.{slot}
 use Rattle.model.specs.Ranges.{isDamaged, isTaken}
 use Rattle.rangemaps.specs.Rows.{anySays, metIn, begunAt, filled}

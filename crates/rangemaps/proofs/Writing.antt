@@ -1,21 +1,21 @@
 -- The pieces of a range are written row by row: the first piece of a row by map, the others by their words alone.
-use Prim.Native.Nat.{ℕ, zero, suc, _+_, _-_, _*_, _/_, _%_, _≤_, _<_}
+use Prim.Native.Nat.{ℕ, zero, suc, _+_, _-_, _*_, _/_, _≤_, _<_}
 use mathlib.Core.Path.{_≡_, refl, ap, sym, _∙_, subst}
-use mathlib.Core.Logic.{_≢_, ⊎-elim}
-use mathlib.Core.Bool.{Bool, true, false, cond}
-use mathlib.Core.List.{List, [], _∷_, _++_, List·Memᴰ, List·Memᴰ·head as here, List·Memᴰ·tail as there, List·Memᴰ·not-nil, Memᴰ·map}
+use mathlib.Core.Logic.{_≢_}
+use mathlib.Core.Bool.{true}
+use mathlib.Core.List.{List, [], _∷_, _++_, List·Memᴰ, List·Memᴰ·head as here, List·Memᴰ·tail as there, Memᴰ·map}
 use native.Mathlib.Nat.{suc-mul, mul-suc}
 use native.Mathlib.Omega.{arith}
 use lib.ListN.{length, set}
 use Rattle.path.specs.Geometry.{Granule, Sane, granuleOf, entries, sizeAt, heightOf, physical, atLevel}
 use Rattle.path.specs.Areas.{areaOf}
 use Rattle.path.specs.Numbers.{withFree, goodSetup, GoodSetup}
-use Rattle.path.specs.Laws.{size-pos, size-height, good-setup, space-physical, level-some}
+use Rattle.path.specs.Laws.{size-pos, size-height, good-setup, space-physical}
 use Rattle.path.specs.Paths.{indexAt, pathOf}
 use Rattle.path.specs.PathLaws.{path-of-at, index-below}
 use Rattle.path.specs.declared.Setup.{Setup}
 use Rattle.entry.specs.Words.{frameWord}
-use Rattle.entry.specs.declared.Entry.the-variants.{Empty, Damaged}
+use Rattle.entry.specs.declared.Entry.the-variants.{Empty}
 use Rattle.model.specs.declared.Walked.{Walked}
 use Rattle.model.specs.Answers.{Mapping, mapping, Answer, took, Pool, pool, Done, done}
 use Rattle.model.specs.Walk.{slot, atHeight}
@@ -30,7 +30,7 @@ use Rattle.ranges.specs.Stretches.{stretchAt, inRow}
 use Rattle.ranges.specs.StretchLaws.{row-index, row-region, Stretched, stretched}
 use Rattle.rangemaps.specs.Rows.{filled}
 use Rattle.rangemaps.proofs.Rows.{row-tables}
-use Rattle.rangemaps.proofs.Surveying.{tiles-none}
+use Rattle.rangemaps.proofs.Surveying.{tiles-none, tall-level, wide-is}
 
 -- ---- a row of words
 
@@ -522,20 +522,14 @@ module _ {G : Granule} {Z : Sane G} {p : Pool} {a b len k : ℕ} {now : Setup} {
 module _ {G : Granule} {Z : Sane G} {p : Pool} {a b len k : ℕ} {now : Setup} {ws : List ℕ} {cut x y left : ℕ} (W : Written G Z p a b len k now ws cut x y left) (some : left ≢ 0)
     (own : granuleOf (p .numbers .granule) ≡ G) {tall wide bytes : ℕ} (u : tall ≡ pieceAt G x y left (G .large)) (v : wide ≡ atLevel G tall (stretchAt G x left tall))
     (e : bytes ≡ atLevel G tall (sizeAt G tall)) where
-  tall-low : tall ≤ G .large
-  tall-low = omega (arith, u, this-row W some .low)
-
-  at-level : (t : ℕ) → atLevel G tall t ≡ t
-  at-level t = level-some G {h = tall} (omega (arith, tall-low, Z .large-below, Z .few-most)) t
-
-  wide-is : wide ≡ many W some
-  wide-is = v ∙ at-level (stretchAt G x left tall) ∙ ap (stretchAt G x left) u
+  wide-many : wide ≡ many W some
+  wide-many = wide-is Z (this-row W some) u v ∙ ap (stretchAt G x left) u
 
   size-is : bytes ≡ size W some
-  size-is = e ∙ at-level (sizeAt G tall) ∙ ap (sizeAt G) u
+  size-is = e ∙ tall-level Z (this-row W some) u v (sizeAt G tall) ∙ ap (sizeAt G) u
 
   pub row-bytes : wide * bytes ≡ many W some * size W some
-  row-bytes = λ i. wide-is i * size-is i
+  row-bytes = λ i. wide-many i * size-is i
 
   -- the row is some of what is left, and ends where its addresses can
   pub row-fits : (wide * bytes ≤ left) × ((0 < wide) × ((0 < wide * bytes) × ((bytes ≤ left) × ((x + left ≤ physical) × (y + left ≤ physical)))))
@@ -543,7 +537,7 @@ module _ {G : Granule} {Z : Sane G} {p : Pool} {a b len k : ℕ} {now : Setup} {
       let S = this-row W some in (
         omega (arith, row-bytes, S .fits),
         (
-          omega (arith, wide-is, S .some),
+          omega (arith, wide-many, S .some),
           (
             omega (arith, row-bytes, bytes-are W some, size-pos G (height W some)),
             (omega (arith, size-is, bytes-are W some, S .fits), (omega (arith, W .sum, W .near), omega (arith, W .sum-frame, W .near-frame))),
@@ -566,11 +560,11 @@ module _ {G : Granule} {Z : Sane G} {p : Pool} {a b len k : ℕ} {now : Setup} {
     pub row-one : {ws″ : List ℕ} → ws″ ≡ ws′ → wide ≤ 1 → Written G Z p a b len k after ws″ cut′ (x + wide * bytes) (y + wide * bytes) (left - wide * bytes)
     row-one q l =
         subst (λ (w : List ℕ). Written G Z p a b len k after w cut′ (x + wide * bytes) (y + wide * bytes) (left - wide * bytes)) (sym q)
-        (written-one W some R row-bytes (omega (arith, wide-is, this-row W some .some)))
+        (written-one W some R row-bytes (omega (arith, wide-many, this-row W some .some)))
 
     module _ (l : 1 < wide) where
       more : 0 < many W some - 1
-      more = omega (arith, wide-is)
+      more = omega (arith, wide-many)
 
       -- what the others ask
       abbrev Asks : Granule → Setup → ℕ → ℕ → ℕ → ℕ → Type 0
@@ -582,7 +576,7 @@ module _ {G : Granule} {Z : Sane G} {p : Pool} {a b len k : ℕ} {now : Setup} {
           × ((walkTo H (pool sp ws′ c []) t (x + z) .entry ≡ Empty) × (walkTo H (pool sp ws′ c []) t (x + z) .left ≡ t)))))
 
       pub row-asks : Asks (granuleOf (after .granule)) after cut′ tall (wide - 1) bytes
-      row-asks = coe 1 0 (i. Asks (same i) (R .after-is i) (R .cut-is i) (u i) (wide-is i - 1) (size-is i)) (
+      row-asks = coe 1 0 (i. Asks (same i) (R .after-is i) (R .cut-is i) (u i) (wide-many i - 1) (size-is i)) (
         (length (p .list), R .going .ok .good),
         (
           this-row W some .low,
@@ -600,4 +594,4 @@ module _ {G : Granule} {Z : Sane G} {p : Pool} {a b len k : ℕ} {now : Setup} {
       row-rest q =
           written-row W some R row-bytes more
           (q
-          ∙ (λ i. filled ws′ (slot (same i) (atHeight (walkTo (same i) (pool (R .after-is i) ws′ (R .cut-is i) []) (u i) (x + size-is i) .tables) (u i)) (indexAt (same i) (x + size-is i) (u i))) (frameWord (y + size-is i) (u i) k) (sizeAt (same i) (u i)) (wide-is i - 1)))
+          ∙ (λ i. filled ws′ (slot (same i) (atHeight (walkTo (same i) (pool (R .after-is i) ws′ (R .cut-is i) []) (u i) (x + size-is i) .tables) (u i)) (indexAt (same i) (x + size-is i) (u i))) (frameWord (y + size-is i) (u i) k) (sizeAt (same i) (u i)) (wide-many i - 1)))

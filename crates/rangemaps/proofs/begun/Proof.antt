@@ -1,8 +1,8 @@
 -- `rangemaps::begun`: the largest region that begins at the address, and all below it.
-use Prim.Native.Nat.{ℕ, _+_, _%_, _≤_, _<_}
-use mathlib.Core.Path.{_≡_, refl, sym, ap, _∙_}
+use Prim.Native.Nat.{_+_, _≤_, _<_}
+use mathlib.Core.Path.{_≡_, refl, sym, _∙_}
 use native.Mathlib.Omega.{arith}
-use Rattle.path.specs.Geometry.{granuleOf, sizeAt}
+use Rattle.path.specs.Geometry.{granuleOf}
 use Rattle.path.specs.Laws.{level-some}
 use Rattle.rangemaps.specs.Rows.{begunAt}
 use Rattle.rangemaps.proofs.Words.{begun-none, begun-here, begun-below}

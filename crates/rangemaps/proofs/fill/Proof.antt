@@ -1,9 +1,9 @@
 -- `rangemaps::fill`: in the run that holds the place.
 use Prim.Native.Nat.{ℕ}
-use mathlib.Core.Path.{_≡_, sym, ap, _∙_}
+use mathlib.Core.Path.{sym, ap, _∙_}
 use mathlib.Core.List.{List, _++_}
 use native.Mathlib.Omega.{arith}
-use lib.ListN.{length, length-append}
+use lib.ListN.{length-append}
 use Rattle.rangemaps.proofs.Words.{filled-left, filled-right}
 use borrow.Author.Needs.{needs}
 use Rattle.rangemaps.proofs.fill.Statement.{statement}

@@ -1,12 +1,12 @@
 -- `rangemaps::fill_run`: after i turns i words are written.
 use Prim.Native.Nat.{ℕ, _+_, _-_, _*_, _≤_}
-use mathlib.Core.Path.{_≡_, refl, sym, ap, _∙_}
+use mathlib.Core.Path.{_≡_, refl, ap, _∙_}
 use mathlib.Core.List.{List}
 use native.Mathlib.Nat.{mul-le-mul-left}
 use native.Mathlib.Omega.{arith}
 use lib.ListN.{length, set, length-set}
 use Rattle.rangemaps.specs.Rows.{filled}
-use Rattle.rangemaps.proofs.Words.{filled-length, filled-more}
+use Rattle.rangemaps.proofs.Words.{filled-more}
 use borrow.Author.Needs.{needs}
 use Rattle.rangemaps.proofs.fill_run.Statement.{statement}
 use Rattle.rangemaps.proofs.fill_run.Tie as tie

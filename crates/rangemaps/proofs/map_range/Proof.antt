@@ -1,14 +1,13 @@
 -- `rangemaps::map_range` makes its tests in their order, then writes.
-use Prim.Native.Nat.{ℕ, _+_, _≤_, _<_}
-use mathlib.Core.Path.{_≡_, refl, sym, ap, _∙_}
+use Prim.Native.Nat.{ℕ, _+_, _≤_}
+use mathlib.Core.Path.{_≡_, sym, ap, _∙_}
 use mathlib.Core.Bool.{true}
-use mathlib.Core.List.{List, _++_}
+use mathlib.Core.List.{_++_}
 use native.Mathlib.Omega.{arith}
 use lib.ListN.{length, getD, replicate}
 use Rattle.laws.specs.ListLaws.{allZero-at, allZero-replicate}
 use Rattle.path.specs.Geometry.{granuleOf}
 use Rattle.path.specs.Areas.{areaOf, total}
-use Rattle.path.specs.Numbers.{GoodSetup}
 use Rattle.path.specs.Laws.{good-setup}
 use Rattle.model.specs.Answers.{took, Pool, pool, Done, done}
 use Rattle.model.specs.Writes.{mayTake}

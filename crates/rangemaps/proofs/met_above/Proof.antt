@@ -1,7 +1,6 @@
 -- `rangemaps::met_above`: by cases of the entry.
-use Prim.Native.Nat.{ℕ, _-_}
-use mathlib.Core.Path.{_≡_, sym, ap, _∙_}
-use native.Mathlib.Omega.{arith}
+use Prim.Native.Nat.{_-_}
+use mathlib.Core.Path.{sym, ap, _∙_}
 use Rattle.entry.specs.declared.Entry.{Entry}
 use Rattle.rangemaps.specs.Rows.{metAt}
 use borrow.Author.Needs.{needs}

@@ -1,7 +1,7 @@
 -- `rangemaps::probe`: by where the first walk ended.
 use Prim.Native.Nat.{ℕ, _+_, _*_, _/_, _%_, _≤_, _<_}
 use mathlib.Core.Path.{_≡_, refl, sym, ap, _∙_, subst}
-use mathlib.Core.Bool.{Bool, true, false}
+use mathlib.Core.Bool.{Bool}
 use mathlib.Core.List.{List, [], _++_}
 use native.Mathlib.Omega.{arith}
 use borrow.Author.Tests.{not-true, not-false}
@@ -17,7 +17,7 @@ use Rattle.model.specs.Answers.{pool}
 use Rattle.model.specs.Walk.{slot, atHeight}
 use Rattle.model.specs.Ranges.{isDamaged}
 use Rattle.lookup.specs.Reaches.{reach-good, Came, came-again, came-word}
-use Rattle.marks.specs.Marks.{Noted, noted, noteWay}
+use Rattle.marks.specs.Marks.{noted}
 use Rattle.maps.proofs.Maps.{came-above}
 use Rattle.rangemaps.proofs.Words.{table-of}
 use Rattle.rangemaps.proofs.Probes.{found-damaged, found-clash, found-above, found-here, found-marks, first-damaged}

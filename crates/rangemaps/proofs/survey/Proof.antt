@@ -1,19 +1,19 @@
 -- `rangemaps::survey`: after each row what the walks before its end find.
-use Prim.Native.Nat.{ℕ, _+_, _-_, _*_, _≤_, _<_}
-use mathlib.Core.Path.{_≡_, refl, sym, ap, _∙_, subst₂}
+use Prim.Native.Nat.{ℕ, _+_, _-_, _*_, _≤_}
+use mathlib.Core.Path.{_≡_, refl, sym, _∙_, subst₂}
 use mathlib.Core.Logic.{_≢_, ⊎-elim}
 use mathlib.Core.Bool.{true}
 use mathlib.Core.List.{List, [], _++_}
 use native.Mathlib.Omega.{arith}
 use lib.ListN.{length, getD}
 use Rattle.path.specs.Geometry.{granuleOf, physical}
-use Rattle.path.specs.Areas.{areaOf, total}
+use Rattle.path.specs.Areas.{areaOf}
 use Rattle.path.specs.Numbers.{goodSetup, GoodSetup}
 use Rattle.path.specs.Laws.{granule-sane, good-setup}
-use Rattle.model.specs.Answers.{Pool, pool}
+use Rattle.model.specs.Answers.{pool}
 use Rattle.model.specs.Ranges.{mapRangeTests}
 use Rattle.rangemaps.proofs.Probes.{found-few}
-use Rattle.rangemaps.proofs.Surveying.{Stands, stands-first, tall-low, wide-is, row-is, bytes-is, bytes-fit, stands-turn, range-near, Sofar, sofar-first, Went, went-taken, went-first, went-later, turn-stops, turn-next, sofar-ends}
+use Rattle.rangemaps.proofs.Surveying.{Stands, stands-first, here-row, tall-low, wide-is, row-is, bytes-is, bytes-fit, stands-turn, range-near, Sofar, sofar-first, Went, went-taken, went-first, went-later, turn-stops, turn-next, sofar-ends}
 use borrow.Author.Needs.{needs}
 use Rattle.rangemaps.proofs.survey.Statement.{statement}
 use Rattle.rangemaps.proofs.survey.Tie as tie
@@ -53,7 +53,7 @@ probe-requires : tie.Need-probe-requires Inv-loop μ-loop
 probe-requires c κs =
     let s = c .before .before .before .before .before .before .before .before in
     let l = c .before .before .before .before .loop in
-    let R = row-is (granule-sane (s .args .s .granule)) (l .inv .0) (λ z. omega (arith, c .before .before .before .loop-test .taken)) (c .before .before .piece-at .ensures) (c .before .stretch .ensures) in
+    let R = row-is (granule-sane (s .args .s .granule)) (here-row (l .inv .0) (λ z. omega (arith, c .before .before .before .loop-test .taken))) (c .before .before .piece-at .ensures) (c .before .stretch .ensures) in
     (s .pre .0, (R .low, (l .inv .0 .long, (R .some, R .room))))
 
 same-length : tie.Need-same-length Inv-loop μ-loop
@@ -66,7 +66,7 @@ returns c =
     let l = c .before .before .before .before .before .before .before .before .loop in
     λ list k g z t. turn-stops (granuleOf (a .s .granule)) (granule-sane (a .s .granule)) (pool (a .s) (a .words .now ++ a .second .now) (length (a .words .now)) list) g (l .inv .1 .1 list k g z t)
     (λ q. omega (arith, c .before .before .before .before .before .before .before .loop-test .taken)) (c .before .before .before .before .before .before .piece-at .ensures)
-    (wide-is (granule-sane (a .s .granule)) (l .inv .0) (λ q. omega (arith, c .before .before .before .before .before .before .before .loop-test .taken)) (c .before .before .before .before .before .before .piece-at .ensures) (c .before .before .before .before .before .stretch .ensures))
+    (wide-is (granule-sane (a .s .granule)) (here-row (l .inv .0) (λ q. omega (arith, c .before .before .before .before .before .before .before .loop-test .taken))) (c .before .before .before .before .before .before .piece-at .ensures) (c .before .before .before .before .before .stretch .ensures))
     (l .inv .0 .long) (omega (arith, l .inv .0 .sum, near s, c .before .before .before .before .before .before .before .loop-test .taken)) (c .before .before .before .probe .ensures .0 list) (λ f. c .before .before .before .probe .ensures .1 f list) (c .if1 .taken)
 
 -- a row that finds neither 8 nor 6 lacks few tables
@@ -75,7 +75,7 @@ few c f =
     let s = c .before .before .before .before .before .before .before .before .before .before .before .before in
     let a = s .args in
     let l = c .before .before .before .before .before .before .before .before .loop in
-    let low = tall-low (granule-sane (a .s .granule)) (l .inv .0) (λ q. omega (arith, c .before .before .before .before .before .before .before .loop-test .taken)) (c .before .before .before .before .before .before .piece-at .ensures) (c .before .before .before .before .before .stretch .ensures) in
+    let low = tall-low (granule-sane (a .s .granule)) (here-row (l .inv .0) (λ q. omega (arith, c .before .before .before .before .before .before .before .loop-test .taken))) (c .before .before .before .before .before .before .piece-at .ensures) (c .before .before .before .before .before .stretch .ensures) in
     found-few (granuleOf (a .s .granule)) (pool (a .s) (a .words .now ++ a .second .now) (length (a .words .now)) []) (omega (arith, good s, granule-sane (a .s .granule))) (c .before .before .before .before .before .before .piece-at .result) (l .x) (l .stands) (c .before .before .before .before .before .stretch .result)
     (omega (arith, low, good s, granule-sane (a .s .granule))) (c .before .before .before .probe .ensures .0 []) (c .if1 .left) f
 
@@ -146,7 +146,7 @@ loop-again c =
       (
         c .before .before .before .before .before .probe .kept .1 .1 .1 .0 ∙ l .inv .1 .0,
         λ list k g z e. turn-next (granuleOf (a .s .granule)) Z (pool (a .s) (a .words .now ++ a .second .now) (length (a .words .now)) list) g (l .inv .1 .1 list k g z e)
-            (λ q. omega (arith, t)) u (wide-is Z (l .inv .0) (λ q. omega (arith, t)) u v) (l .inv .0 .long) (omega (arith, l .inv .0 .sum, near s, t))
+            (λ q. omega (arith, t)) u (wide-is Z (here-row (l .inv .0) (λ q. omega (arith, t))) u v) (l .inv .0 .long) (omega (arith, l .inv .0 .sum, near s, t))
             (c .before .before .before .before .before .probe .ensures .0 list) (λ f. c .before .before .before .before .before .probe .ensures .1 f list) (c .before .before .if1 .left) (bytes-is Z (l .inv .0) (λ q. omega (arith, t)) u v (c .size-at .ensures)) (came (c .before) .0),
       ),
     )

@@ -1,7 +1,7 @@
 -- `rangemaps::write_row`: the place where the walk ended is that of the first word.
 use Prim.Native.Nat.{ℕ, _+_, _*_, _/_, _≤_, _<_}
-use mathlib.Core.Path.{_≡_, sym, ap, _∙_, subst}
-use mathlib.Core.List.{List, [], _++_}
+use mathlib.Core.Path.{_≡_, _∙_, subst}
+use mathlib.Core.List.{[], _++_}
 use native.Mathlib.Omega.{arith}
 use lib.ListN.{length}
 use Rattle.path.specs.Geometry.{granuleOf, entries, sizeAt}
@@ -10,10 +10,10 @@ use Rattle.path.specs.Numbers.{GoodSetup}
 use Rattle.path.specs.Paths.{indexAt}
 use Rattle.path.specs.Laws.{granule-sane, good-setup, table-ends, level-some}
 use Rattle.entry.specs.Words.{frameWord}
-use Rattle.model.specs.Answers.{Pool, pool}
+use Rattle.model.specs.Answers.{pool}
 use Rattle.model.specs.Walk.{slot, atHeight}
 use Rattle.model.specs.Calls.{walkTo}
-use Rattle.lookup.specs.Reaches.{reach-good, Came}
+use Rattle.lookup.specs.Reaches.{reach-good}
 use Rattle.maps.proofs.Maps.{word-is}
 use Rattle.rangemaps.specs.Rows.{filled}
 use Rattle.rangemaps.proofs.Words.{table-of, row-word-fits}
