@@ -44,7 +44,7 @@ use Rattle.model.specs.RefusalLaws.{further, cannot-take, may-not-bad}
 use Rattle.model.specs.WordLaws.{word-stored, word-other, word-wiped, word-kept}
 use Rattle.model.specs.Ranges.{mapRangeTests, pieces, Probe, walkFor, pieceWalk, pieceWalks, anyEnds, isDamaged, isTaken, Standing, standing, onWay, onWays, agree, agrees, oneRegionEach, spoiled, lacked, ways, mapPiece, leftBy, answersOf, sumOf, mapRangeHere, mapRangeAt, mapRangeW}
 use Rattle.model.specs.RangeLaws.{Tiles, over, piece, Fits, FineRange, range-fine, tiles, tiles-tests, tiles-inside, or-false}
-use Rattle.model.specs.RangeWalks.{Stopped, left-low, stopped, stopped-walk, stopped-long, stopped-in, stopped-moved, stopped-linked, came-target, index-region}
+use Rattle.model.specs.RangeWalks.{Stopped, left-low, stopped, stopped-walk, stopped-long, stopped-in, stopped-moved, stopped-beside, stopped-linked, came-target, index-region}
 
 -- what a list holds after one place is set
 mem-set : (xs : List ℕ) (i y x : ℕ) → List·Memᴰ x (set xs i y) → (x ≡ y) ⊎ List·Memᴰ x xs
@@ -167,7 +167,7 @@ ways-has G levels (q ∷ ws) w i j a b =
     (λ k. Memᴰ·append-right (onWay G (q .at) (q .end .tables) (q .end .left) (levels - q .end .left)) (ways-has G levels ws w k j a b))
     (List·Memᴰ·cases-cons i)
 
-tables-in : (ws : List Probe) (w : Probe) → List·Memᴰ w ws → (x : ℕ) → List·Memᴰ x (w .end .tables) → List·Memᴰ x (ways ws)
+pub tables-in : (ws : List Probe) (w : Probe) → List·Memᴰ w ws → (x : ℕ) → List·Memᴰ x (w .end .tables) → List·Memᴰ x (ways ws)
 unfolding ways
 tables-in [] w i x j = absurd (List·Memᴰ·not-nil i)
 tables-in (q ∷ ws) w i x j =
@@ -198,41 +198,41 @@ neither Damaged p q = absurd (false≢true (sym p))
 -- ---- the walks of the pieces
 
 module _ (G : Granule) (Z : Sane G) (sp : Setup) (few : sp .levels - 1 < 4) (cut : ℕ) (list : List ℕ) where
-  abbrev area : Area
+  abbrev pub area : Area
   area = areaOf sp
 
-  abbrev n : ℕ
+  abbrev pub n : ℕ
   n = total area
 
-  abbrev k₀ : ℕ
+  abbrev pub k₀ : ℕ
   k₀ = sp .levels - 1
 
-  abbrev K : ℕ
+  abbrev pub K : ℕ
   K = entries G
 
-  abbrev pl : List ℕ → ℕ → Pool
+  abbrev pub pl : List ℕ → ℕ → Pool
   pl ws f = pool (withFree sp f) ws cut list
 
-  abbrev g : Mapping → ℕ
+  abbrev pub g : Mapping → ℕ
   g m = heightOf G (m .size)
 
-  abbrev walk : List ℕ → Mapping → Walked
+  abbrev pub walk : List ℕ → Mapping → Walked
   walk ws m = walkFrom G ws area (g m) (pathOf G (m .at)) k₀ noWay 0
 
-  abbrev T : List ℕ → Mapping → ℕ → ℕ
+  abbrev pub T : List ℕ → Mapping → ℕ → ℕ
   T ws m j = atHeight (walk ws m .tables) j
 
-  abbrev idx : Mapping → ℕ → ℕ
+  abbrev pub idx : Mapping → ℕ → ℕ
   idx m j = atHeight (pathOf G (m .at)) j
 
   -- the region of height h that a piece lies in
-  abbrev reg : Mapping → ℕ → ℕ
+  abbrev pub reg : Mapping → ℕ → ℕ
   reg m h = m .at / sizeAt G h
 
-  idx-low : (m : Mapping) (j : ℕ) → j ≤ k₀ → idx m j < K
+  pub idx-low : (m : Mapping) (j : ℕ) → j ≤ k₀ → idx m j < K
   idx-low m j l = let z : j < 4 = omega arith in subst (λ (x : ℕ). x < K) (sym (path-of-at G (m .at) {h = j} z)) (index-below G (m .at) j)
 
-  idx-same : (m m′ : Mapping) (h j : ℕ) → h ≤ j → j ≤ k₀ → reg m h ≡ reg m′ h → idx m j ≡ idx m′ j
+  pub idx-same : (m m′ : Mapping) (h j : ℕ) → h ≤ j → j ≤ k₀ → reg m h ≡ reg m′ h → idx m j ≡ idx m′ j
   idx-same m m′ h j a l e = let z : j < 4 = omega arith in path-of-at G (m .at) {h = j} z ∙ region-indices G a (m .at) (m′ .at) e ∙ sym (path-of-at G (m′ .at) {h = j} z)
 
   -- the same region above, and the same index
@@ -274,7 +274,7 @@ module _ (G : Granule) (Z : Sane G) (sp : Setup) (few : sp .levels - 1 < 4) (cut
     some-table : 0 < n
     some-table = omega (arith, good-setup (O .good) .numbers .some-table)
 
-    way-of : (m : Mapping) → List·Memᴰ m ms → Way ws m
+    pub way-of : (m : Mapping) → List·Memᴰ m ms → Way ws m
     way-of m i = way ws m (O .empties m i)
 
     tables-long : (m : Mapping) → List·Memᴰ m ms → length (walk ws m .tables) ≡ 4
@@ -562,7 +562,7 @@ module _ (G : Granule) (Z : Sane G) (sp : Setup) (few : sp .levels - 1 < 4) (cut
       M : Piece m
       M = are m (here refl)
 
-      put-same : (q : Mapping) → List·Memᴰ q rest → walk put q ≡ walk ws q
+      pub put-same : (q : Mapping) → List·Memᴰ q rest → walk put q ≡ walk ws q
       put-same q i = walk-stays ws put q (O .empties q (there i)) (are q (there i) .low)
           (λ j a b. word-other G ws (T ws m (g m)) (idx m (g m)) w (T ws q j) (idx q j) (idx-low m (g m) (M .low)) (idx-low q j b) (apart j a b))
         where
@@ -613,16 +613,18 @@ module _ (G : Granule) (Z : Sane G) (sp : Setup) (few : sp .levels - 1 < 4) (cut
   -- ---- one piece
 
   -- what mapping the first piece writes, where so many tables lack for it
-  record Put (ws : List ℕ) (f N d w : ℕ) (m : Mapping) (rest : List Mapping) : Type 0 where
+  pub record Put (ws : List ℕ) (f N d w : ℕ) (m : Mapping) (rest : List Mapping) : Type 0 where
     pub words : List ℕ
     pub carried : performAll G (mapWrites G area (pathOf G (m .at)) list (g m) w (T ws m (walk ws m .left)) f d) (memory ws list) ≡ memory words list
     pub within : d ≤ N
     pub ok : Ok words (f - d) (N - d) rest
+    -- of a piece of its height in the same table the walk ends there now
+    pub beside : (q : Mapping) → List·Memᴰ q rest → g q ≡ g m → reg m (suc (g m)) ≡ reg q (suc (g m)) → walk words q .left ≡ g m
 
   first-place : (f : ℕ) → taken list f 0 ≡ getD list (f - 1) 0
   first-place f = ap (λ (i : ℕ). getD list i 0) (omega arith)
 
-  chain : (d : ℕ) {ws : List ℕ} {f N : ℕ} (w : ℕ) {m : Mapping} {rest : List Mapping} (O : Ok ws f N (m ∷ rest)) → ((q : Mapping) → List·Memᴰ q (m ∷ rest) → Piece q)
+  pub chain : (d : ℕ) {ws : List ℕ} {f N : ℕ} (w : ℕ) {m : Mapping} {rest : List Mapping} (O : Ok ws f N (m ∷ rest)) → ((q : Mapping) → List·Memᴰ q (m ∷ rest) → Piece q)
       → ((q : Mapping) → List·Memᴰ q rest → m .at + m .size ≤ q .at) → walk ws m .left ≡ d + g m → Put ws f N d w m rest
   unfolding performAll mapWrites
   chain zero {ws} {f} {N} w {m} {rest} O are rising e = record {
@@ -630,10 +632,20 @@ module _ (G : Granule) (Z : Sane G) (sp : Setup) (few : sp .levels - 1 < 4) (cut
     carried = ap (λ (x : ℕ). memory (set ws (slot G (T ws m x) (idx m (g m))) w) list) at-target;
     within = omega arith;
     ok = subst₂ (λ (x y : ℕ). Ok (put O are rising at-target w) x y rest) (omega arith) (omega arith) (put-ok O are rising at-target w);
+    beside = λ q i z r. ap (λ (o : Walked). o .left) (put-same O are rising at-target w q i) ∙ neighbour q z r;
   }
     where
       at-target : walk ws m .left ≡ g m
       at-target = e ∙ omega arith
+
+      neighbour : (q : Mapping) → g q ≡ g m → reg m (suc (g m)) ≡ reg q (suc (g m)) → walk ws q .left ≡ g m
+      neighbour q z r =
+          ap (λ (t : ℕ). walkFrom G ws area t (pathOf G (q .at)) k₀ noWay 0 .left) z
+          ∙ ap (λ (o : Walked). o .left)
+          (stopped-walk G area ws (g m) (pathOf G (q .at))
+          (stopped-beside (way-of O m (here refl)) few refl (pathOf G (q .at)) at-target
+          (λ j a b. idx-same q m (suc (g m)) j (omega (arith, at-target)) b (sym r))))
+          ∙ at-target
   chain (suc d) {ws} {f} {N} w {m} {rest} O are rising e = go (chain d w (linked-ok O are rising s left-is deep) are rising (moved-left O are rising s left-is deep))
     where
       s : ℕ
@@ -667,6 +679,7 @@ module _ (G : Granule) (Z : Sane G) (sp : Setup) (few : sp .levels - 1 < 4) (cut
             ∙ C .carried;
         within = omega (arith, C .within, lacks);
         ok = subst₂ (λ (x y : ℕ). Ok (C .words) x y rest) (omega arith) (omega arith) (C .ok);
+        beside = C .beside;
       }
 
   -- the tables that it takes may be taken
@@ -684,7 +697,7 @@ module _ (G : Granule) (Z : Sane G) (sp : Setup) (few : sp .levels - 1 < 4) (cut
       go false e = absurd (bad (cannot-take list n (walk ws m .tables) f d e))
 
   -- so map accepts the piece
-  map-piece : {ws : List ℕ} {f N : ℕ} {m : Mapping} {rest : List Mapping} (O : Ok ws f N (m ∷ rest))
+  pub map-piece : {ws : List ℕ} {f N : ℕ} {m : Mapping} {rest : List Mapping} (O : Ok ws f N (m ∷ rest))
       → mapTests G (sp .levels) area (m .at) (m .frame) (m .size) (m .attributes) ≡ 0
       → (C : Put ws f N (walk ws m .left - g m) (frameWord (m .frame) (g m) (m .attributes)) m rest)
       → mapPiece G (pl ws f) m ≡ done (took (walk ws m .left - g m)) (pl (C .words) (f - (walk ws m .left - g m)))
@@ -710,7 +723,7 @@ module _ (G : Granule) (Z : Sane G) (sp : Setup) (few : sp .levels - 1 < 4) (cut
       let e = size-height G Z (F .level) in
       record { sized = ap (sizeAt G) e; aligned = rw e (F .address); low = omega (arith, e, F .level, Z .large-below) }
 
-  tiles-piece : {k a b left : ℕ} {ms : List Mapping} → Tiles G k a b left ms → G .fewest ≤ sp .levels → (q : Mapping) → List·Memᴰ q ms → Piece q
+  pub tiles-piece : {k a b left : ℕ} {ms : List Mapping} → Tiles G k a b left ms → G .fewest ≤ sp .levels → (q : Mapping) → List·Memᴰ q ms → Piece q
   tiles-piece over enough q i = absurd (List·Memᴰ·not-nil i)
   tiles-piece (piece F most more) enough q i = ⊎-elim (λ e. subst Piece (sym e) (tile-piece enough F)) (λ j. tiles-piece more enough q j) (List·Memᴰ·cases-cons i)
 
@@ -749,7 +762,7 @@ module _ (G : Granule) (Z : Sane G) (sp : Setup) (few : sp .levels - 1 < 4) (cut
   -- ---- at entry
 
   -- the tests of a range, over its walks at entry, say that its pieces can be mapped
-  start : (ws : List ℕ) (f : ℕ) (ms : List Mapping) → goodPool G (pl ws f) ≡ true → ((m : Mapping) → List·Memᴰ m ms → walk ws m .entry ≡ Empty)
+  pub start : (ws : List ℕ) (f : ℕ) (ms : List Mapping) → goodPool G (pl ws f) ≡ true → ((m : Mapping) → List·Memᴰ m ms → walk ws m .entry ≡ Empty)
       → oneRegionEach (onWays G (sp .levels) (pieceWalks G (pl ws f) ms)) ≡ true → length (lacked G (pl ws f) ms []) ≤ f
       → mayTake list n (ways (pieceWalks G (pl ws f) ms)) f (length (lacked G (pl ws f) ms [])) ≡ true → Ok ws f (length (lacked G (pl ws f) ms [])) ms
   start ws f ms good empties each room may = record {
