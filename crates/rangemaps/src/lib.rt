@@ -43,13 +43,13 @@ fn met_in(
 ) -> u64
     ensures { λ r. ⌜ r ≡ metIn (granuleOf granule) (areaAt base tables base2 tables2) height 0 (now (part .entry)) ⌝ }
 {
-    if pool::zeros_but(part, part.len()) {
+    if contents::zeros_but(part, part.len()) {
         return 0;
     }
     let mut met = 0;
     let mut i = 0;
     while i < part.len() {
-        let e = entry::read_word(granule, part[i], height, base, tables, base2, tables2);
+        let e = links::read_word(granule, part[i], height, base, tables, base2, tables2);
         match e {
             Entry::Damaged => return 8,
             Entry::Empty => {}
@@ -66,7 +66,7 @@ fn met_above(s: Setup, w: u64, height: usize, left: usize) -> u64
     requires { ⌜ (height ≤ left) × (total (areaOf s) ≤ 512) ⌝ }
     ensures { λ r. ⌜ r ≡ metAt (entryAt (granuleOf (s .granule)) (areaOf s) left w) (left - height) ⌝ }
 {
-    let e = entry::read_word(
+    let e = links::read_word(
         s.granule,
         w,
         left,
@@ -96,8 +96,8 @@ fn met_here<'a>(
     requires { ⌜ Good (granuleOf (s .granule)) s (now words) (now second) × ((height ≤ granuleOf (s .granule) .large) × ((t < total (areaOf s)) × (indexAt (granuleOf (s .granule)) address height + count ≤ entries (granuleOf (s .granule))))) ⌝ }
     ensures { λ r. ⌜ r ≡ metIn (granuleOf (s .granule)) (areaOf s) height 0 (part (now (words .entry) ++ now (second .entry)) (slot (granuleOf (s .granule)) t (indexAt (granuleOf (s .granule)) address height)) count) ⌝ }
 {
-    let table = pool::table_part(s.granule, words, second, t);
-    let from = path::index_at(s.granule, address, height) as usize;
+    let table = contents::table_part(s.granule, words, second, t);
+    let from = indices::index_at(s.granule, address, height) as usize;
     let to = from + count;
     met_in(
         s.granule,
@@ -152,7 +152,7 @@ fn begun(granule: u64, address: u64, height: usize, lack: usize) -> usize
 {
     let mut n = lack;
     while n > 0 {
-        if path::rest_at(granule, address, height + n) == 0 {
+        if indices::rest_at(granule, address, height + n) == 0 {
             return n;
         }
         n -= 1;
@@ -194,7 +194,7 @@ fn survey<'a>(
         } else {
             need += begun(s.granule, x, h, met as usize) as u64;
         }
-        let bytes = n * path::size_at(s.granule, h);
+        let bytes = n * indices::size_at(s.granule, h);
         x += bytes;
         y += bytes;
         left -= bytes;
@@ -278,7 +278,7 @@ fn write_row(
         place,
         count,
         first,
-        path::size_at(s.granule, height),
+        indices::size_at(s.granule, height),
     );
 }
 
@@ -304,7 +304,7 @@ fn write_pieces(
     while left > 0 {
         let h = ranges::piece_at(s.granule, x, y, left);
         let n = ranges::stretch(s.granule, x, left, h);
-        let size = path::size_at(s.granule, h);
+        let size = indices::size_at(s.granule, h);
         let r = maps::map(now, words, second, list, x, y, size, attributes);
         let after = r.setup;
         now = after;
@@ -342,7 +342,7 @@ pub fn map_range(
     ensures { λ r. ⌜ mapDid r (now (words .exit)) (now (second .exit)) (now (list .entry))
         ≡ mapRangeW (granuleOf (s .granule)) (pool s (now (words .entry) ++ now (second .entry)) (length (now (words .entry))) (now (list .entry))) address frame len attributes ⌝ }
 {
-    if !path::good_setup(s, words.len(), second.len(), list.len()) {
+    if !setups::good_setup(s, words.len(), second.len(), list.len()) {
         return maps::map_refused(1, s);
     }
     let no = ranges::map_tests(s, address, frame, len, attributes);

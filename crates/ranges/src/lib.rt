@@ -20,7 +20,7 @@ fn good_length(granule: u64, length: u64) -> bool
     if length > LONGEST {
         return false;
     }
-    path::rest_at(granule, length, 0) == 0
+    indices::rest_at(granule, length, 0) == 0
 }
 
 // Of a range to be mapped the tests 2 to 5 and then 11, or 0.
@@ -39,11 +39,11 @@ pub fn map_tests(s: Setup, address: u64, frame: u64, length: u64, attributes: u6
     if frame > path::PHYSICAL - length {
         return 4;
     }
-    let rest = path::rest_at(s.granule, address, 0) + path::rest_at(s.granule, frame, 0);
+    let rest = indices::rest_at(s.granule, address, 0) + indices::rest_at(s.granule, frame, 0);
     if rest != 0 {
         return 5;
     }
-    if path::meets_area(
+    if setups::meets_area(
         s.granule,
         s.base,
         s.tables,
@@ -67,7 +67,7 @@ pub fn unmap_tests(granule: u64, levels: u64, address: u64, length: u64) -> u64
     if !path::in_space(granule, levels, address, length) {
         return 4;
     }
-    if path::rest_at(granule, address, 0) != 0 {
+    if indices::rest_at(granule, address, 0) != 0 {
         return 5;
     }
     0
@@ -110,11 +110,11 @@ pub fn piece_at(granule: u64, address: u64, frame: u64, left: u64) -> usize
 pub fn stretch(granule: u64, address: u64, left: u64, height: usize) -> u64
     ensures { λ r. ⌜ r ≡ atLevel (granuleOf granule) height (stretchAt (granuleOf granule) address left height) ⌝ }
 {
-    let size = path::size_at(granule, height);
+    let size = indices::size_at(granule, height);
     if size == 0 {
         return 0;
     }
     let fit = left / size;
-    let room = path::entries_of(granule) - path::index_at(granule, address, height) as u64;
+    let room = path::entries_of(granule) - indices::index_at(granule, address, height) as u64;
     if fit < room { fit } else { room }
 }
