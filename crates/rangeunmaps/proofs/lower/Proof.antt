@@ -1,0 +1,96 @@
+use mathlib.Core.Path.{_≡_, refl, sym, ap, _∙_}
+use native.Mathlib.Omega.{arith}
+use borrow.Author.Needs.{needs}
+use Rattle.rangeunmaps.proofs.lower.Statement.{statement}
+use Rattle.rangeunmaps.proofs.lower.Tie as tie
+use Rattle.rangeunmaps.proofs.lower.Reads as reads
+use Rattle.rangeunmaps.proofs.lower.Lts as lts
+
+abbrev Inv-loop : tie.InvT-loop
+Inv-loop counts₀ left top way h₀ counts h = ?
+
+abbrev μ-loop : tie.MeasureT-loop
+μ-loop counts₀ left top way h₀ counts h = ?
+
+loop-holds : tie.Need-loop-holds Inv-loop μ-loop
+loop-holds c = search needs
+
+sub-t : tie.Need-sub-t Inv-loop μ-loop
+sub-t c = search needs
+
+mul-t : tie.Need-mul-t Inv-loop μ-loop
+mul-t c = search needs
+
+array-read-t : tie.Need-array-read-t Inv-loop μ-loop
+array-read-t c = search needs
+
+cast-t : tie.Need-cast-t Inv-loop μ-loop
+cast-t c = search needs
+
+mul-n : tie.Need-mul-n Inv-loop μ-loop
+mul-n c = search needs
+
+slice-read-n : tie.Need-slice-read-n Inv-loop μ-loop
+slice-read-n c = search needs
+
+sub-counts : tie.Need-sub-counts Inv-loop μ-loop
+sub-counts c = search needs
+
+mul-counts : tie.Need-mul-counts Inv-loop μ-loop
+mul-counts c = search needs
+
+slice-write-counts : tie.Need-slice-write-counts Inv-loop μ-loop
+slice-write-counts c = search needs
+
+sub-result : tie.Need-sub-result Inv-loop μ-loop
+sub-result c = search needs
+
+same-length : tie.Need-same-length Inv-loop μ-loop
+same-length c = search needs
+
+returns : tie.Need-returns Inv-loop μ-loop
+returns c = ?
+
+add-h : tie.Need-add-h Inv-loop μ-loop
+add-h c = search needs
+
+loop-less : tie.Need-loop-less Inv-loop μ-loop
+loop-less c = search needs
+
+loop-again : tie.Need-loop-again Inv-loop μ-loop
+loop-again c = ?
+
+sub-result-2 : tie.Need-sub-result-2 Inv-loop μ-loop
+sub-result-2 c = search needs
+
+same-length-2 : tie.Need-same-length-2 Inv-loop μ-loop
+same-length-2 c = search needs
+
+returns-2 : tie.Need-returns-2 Inv-loop μ-loop
+returns-2 c = ?
+
+pub lower-spec : {M : Type 1} → statement M
+lower-spec =
+    tie.close
+    (tie.spec
+    Inv-loop
+    μ-loop
+    loop-holds
+    sub-t
+    mul-t
+    array-read-t
+    cast-t
+    mul-n
+    slice-read-n
+    sub-counts
+    mul-counts
+    slice-write-counts
+    sub-result
+    same-length
+    returns
+    add-h
+    loop-less
+    loop-again
+    sub-result-2
+    same-length-2
+    returns-2)

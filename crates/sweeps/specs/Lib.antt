@@ -1,0 +1,4 @@
+pub mod Parts
+pub mod Pages
+pub mod Removing
+pub mod Checking
