@@ -181,13 +181,7 @@ fn lower(counts: &mut [u32], way: [u32; 4], left: usize, top: usize) -> usize
 }
 
 // Whether the free list has room for all tables that come back.
-fn has_room<'a>(
-    s: Setup,
-    words: &'a [u64],
-    second: &'a [u64],
-    address: u64,
-    length: u64,
-) -> bool
+fn has_room<'a>(s: Setup, words: &'a [u64], second: &'a [u64], address: u64, length: u64) -> bool
     requires { ⌜ SomeSound (granuleOf (s .granule)) s (now words ++ now second) (length (now words)) address length ⌝ }
     ensures { λ r. ⌜ ((list : List ℕ) → goodPool (granuleOf (s .granule)) (pool s (now (words .entry) ++ now (second .entry)) (length (now (words .entry))) list) ≡ true
         → r ≡ not (anyRefused 8 (answersOf (unmapW (granuleOf (s .granule))) (pool s (now (words .entry) ++ now (second .entry)) (length (now (words .entry))) list) (pagesOf (granuleOf (s .granule)) address length)))) ⌝ }

@@ -43,6 +43,7 @@ module _ (G : Granule) where
     pub in-range : next ≤ end
     pub in-region : next ≤ baseAt G x h + sizeAt G h
     pub whole : next % W ≡ 0
+    pub else-full : next < end → next ≡ baseAt G x h + sizeAt G h
 
   pub ends-at : (x h end : ℕ) → x < end → end % W ≡ 0 → Ends x h end (untilEnd G x h end)
   ends-at x h end l e =
@@ -52,5 +53,6 @@ module _ (G : Granule) where
         in-range = m;
         in-region = omega arith;
         whole = subst (λ (s : ℕ). (baseAt G x h + sizeAt G h) % s ≡ 0) (size-zero G) (end-aligned G {j = 0} (omega arith) (baseAt G x h) (base-aligned G x h));
+        else-full = λ _. refl;
       })
-      (λ m. record { further = l; in-range = omega arith; in-region = m; whole = e })
+      (λ m. record { further = l; in-range = omega arith; in-region = m; whole = e; else-full = λ n. absurd (omega arith) })

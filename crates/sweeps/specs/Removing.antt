@@ -143,11 +143,10 @@ module _ (G : Granule) (Z : Sane G) (p : Pool) (x end : ℕ) (R : Rest G p x end
   hole-step e {b} {s} {next} u v n =
       let h = o .left in
       let E : Ends G x h end next = subst (Ends G x h end) (sym (n ∙ (λ i. lesser (u i + v i) end))) (ends-at G x h end l (R .ends)) in
-      let (i, q) = pages-between G x next (R .starts) (E .whole) (omega (arith, E .further)) in
-      (
+      let (i, q) = pages-between G x next (R .starts) (E .whole) (omega (arith, E .further)) in (
         passed-removes G i q (hole-skip G p few x e (pagesFrom G x i) (λ y m. let (a, c) = within next i q y m in
-            base-region G x y h (sym (base-inside G (baseAt G x h) y h (base-aligned G x h) (omega (arith, base-le G x h)) (omega (arith, E .in-region))))))
-        , E .further,
+            base-region G x y h (sym (base-inside G (baseAt G x h) y h (base-aligned G x h) (omega (arith, base-le G x h)) (omega (arith, E .in-region)))))),
+        E .further,
         E .in-range,
       )
 

@@ -1,22 +1,24 @@
-use mathlib.Core.Path.{_≡_, refl, sym, ap, _∙_}
-use native.Mathlib.Omega.{arith}
+-- `rangeunmaps::cut_by` meets its contract.
+use mathlib.Core.Path.{refl}
 use borrow.Author.Needs.{needs}
+use borrow.Author.Tests.{lt-ltb, le-ltb}
 use Rattle.rangeunmaps.proofs.cut_by.Statement.{statement}
 use Rattle.rangeunmaps.proofs.cut_by.Tie as tie
-use Rattle.rangeunmaps.proofs.cut_by.Reads as reads
-use Rattle.rangeunmaps.proofs.cut_by.Lts as lts
 
 returns : tie.Need-returns
-returns c = search needs
-
-add-if2 : tie.Need-add-if2
-add-if2 c = search needs
+returns c = rw (lt-ltb _ _ (c .if1 .taken)) refl
 
 returns-2 : tie.Need-returns-2
-returns-2 c = search needs
+returns-2 c = rw (le-ltb _ _ (c .before .if1 .left), lt-ltb _ _ (c .if2 .taken)) refl
+
+add-if3 : tie.Need-add-if3
+add-if3 c = search needs
 
 returns-3 : tie.Need-returns-3
-returns-3 c = search needs
+returns-3 c = rw (le-ltb _ _ (c .before .before .if1 .left), le-ltb _ _ (c .before .if2 .left), lt-ltb _ _ (c .if3 .taken)) refl
+
+returns-4 : tie.Need-returns-4
+returns-4 c = rw (le-ltb _ _ (c .before .before .if1 .left), le-ltb _ _ (c .before .if2 .left), le-ltb _ _ (c .if3 .left)) refl
 
 pub cut-by-spec : {M : Type 1} → statement M
-cut-by-spec = tie.close (tie.spec returns add-if2 returns-2 returns-3)
+cut-by-spec = tie.close (tie.spec returns returns-2 add-if3 returns-3 returns-4)

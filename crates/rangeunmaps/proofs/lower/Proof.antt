@@ -5,6 +5,9 @@ use Rattle.rangeunmaps.proofs.lower.Statement.{statement}
 use Rattle.rangeunmaps.proofs.lower.Tie as tie
 use Rattle.rangeunmaps.proofs.lower.Reads as reads
 use Rattle.rangeunmaps.proofs.lower.Lts as lts
+use Rattle.pool.proofs.give.Reads as give-reads
+use Rattle.pool.proofs.place.Reads as place-reads
+use Rattle.rangeunmaps.proofs.less.Reads as less-reads
 
 abbrev Inv-loop : tie.InvT-loop
 Inv-loop counts₀ left top way h₀ counts h = ?
@@ -15,8 +18,8 @@ abbrev μ-loop : tie.MeasureT-loop
 loop-holds : tie.Need-loop-holds Inv-loop μ-loop
 loop-holds c = search needs
 
-sub-t : tie.Need-sub-t Inv-loop μ-loop
-sub-t c = search needs
+sub-at : tie.Need-sub-at Inv-loop μ-loop
+sub-at c = search needs
 
 mul-t : tie.Need-mul-t Inv-loop μ-loop
 mul-t c = search needs
@@ -27,20 +30,14 @@ array-read-t c = search needs
 cast-t : tie.Need-cast-t Inv-loop μ-loop
 cast-t c = search needs
 
-mul-n : tie.Need-mul-n Inv-loop μ-loop
-mul-n c = search needs
+place-requires : tie.Need-place-requires Inv-loop μ-loop
+place-requires c κs = search needs
 
-slice-read-n : tie.Need-slice-read-n Inv-loop μ-loop
-slice-read-n c = search needs
+less-requires : tie.Need-less-requires Inv-loop μ-loop
+less-requires c κs = search needs
 
-sub-counts : tie.Need-sub-counts Inv-loop μ-loop
-sub-counts c = search needs
-
-mul-counts : tie.Need-mul-counts Inv-loop μ-loop
-mul-counts c = search needs
-
-slice-write-counts : tie.Need-slice-write-counts Inv-loop μ-loop
-slice-write-counts c = search needs
+give-requires : tie.Need-give-requires Inv-loop μ-loop
+give-requires c κs = search needs
 
 sub-result : tie.Need-sub-result Inv-loop μ-loop
 sub-result c = search needs
@@ -76,15 +73,13 @@ lower-spec =
     Inv-loop
     μ-loop
     loop-holds
-    sub-t
+    sub-at
     mul-t
     array-read-t
     cast-t
-    mul-n
-    slice-read-n
-    sub-counts
-    mul-counts
-    slice-write-counts
+    place-requires
+    less-requires
+    give-requires
     sub-result
     same-length
     returns
