@@ -91,11 +91,11 @@ fn cut_by(before: u64, met: u64, address: u64, end: u64, base: u64, size: u64) -
 }
 
 // The walks of all pages of a range: 8 where one meets damage or they come to one table for two regions, else 10 where the range cuts a mapping, else 0.
-fn check_walks(s: Setup, words: &[u64], second: &[u64], address: u64, length: u64) -> u64
-    requires { ⌜ SomeRest (granuleOf (s .granule)) s (now words ++ now second) (length (now words)) address (address + length) ⌝ }
-    ensures { λ r. ⌜ r ≡ walksSay (granuleOf (s .granule)) (pool s (now (words .entry) ++ now (second .entry)) (length (now (words .entry))) []) address length ⌝ }
+fn check_walks(s: Setup, words: &[u64], second: &[u64], address: u64, bytes: u64) -> u64
+    requires { ⌜ SomeRest (granuleOf (s .granule)) s (now words ++ now second) (length (now words)) address (address + bytes) ⌝ }
+    ensures { λ r. ⌜ r ≡ walksSay (granuleOf (s .granule)) (pool s (now (words .entry) ++ now (second .entry)) (length (now (words .entry))) []) address bytes ⌝ }
 {
-    let end = address + length;
+    let end = address + bytes;
     let mut stands = [0u32; TABLES];
     let mut way = [0u32; 4];
     let mut no: u64 = 0;
@@ -181,12 +181,12 @@ fn lower(counts: &mut [u32], way: [u32; 4], left: usize, top: usize) -> usize
 }
 
 // Whether the free list has room for all tables that come back.
-fn has_room<'a>(s: Setup, words: &'a [u64], second: &'a [u64], address: u64, length: u64) -> bool
-    requires { ⌜ SomeSound (granuleOf (s .granule)) s (now words ++ now second) (length (now words)) address length ⌝ }
+fn has_room<'a>(s: Setup, words: &'a [u64], second: &'a [u64], address: u64, bytes: u64) -> bool
+    requires { ⌜ SomeSound (granuleOf (s .granule)) s (now words ++ now second) (length (now words)) address bytes ⌝ }
     ensures { λ r. ⌜ ((list : List ℕ) → goodPool (granuleOf (s .granule)) (pool s (now (words .entry) ++ now (second .entry)) (length (now (words .entry))) list) ≡ true
-        → r ≡ not (anyRefused 8 (answersOf (unmapW (granuleOf (s .granule))) (pool s (now (words .entry) ++ now (second .entry)) (length (now (words .entry))) list) (pagesOf (granuleOf (s .granule)) address length)))) ⌝ }
+        → r ≡ not (anyRefused 8 (answersOf (unmapW (granuleOf (s .granule))) (pool s (now (words .entry) ++ now (second .entry)) (length (now (words .entry))) list) (pagesOf (granuleOf (s .granule)) address bytes)))) ⌝ }
 {
-    let end = address + length;
+    let end = address + bytes;
     let most = s.tables + s.tables2 - 1;
     let top = (s.levels - 1) as usize;
     let mut counts = [0u32; TABLES];
@@ -227,7 +227,7 @@ fn remove_next(
 ) -> Gone
     requires { ⌜ Rest (granuleOf (s .granule)) (pool s (now words ++ now second) (length (now words)) (now list)) address end × (address < end) ⌝ }
     ensures { λ r. ⌜ Did (granuleOf (s .granule)) (pool s (now (words .entry) ++ now (second .entry)) (length (now (words .entry))) (now (list .entry))) address r (now (words .exit)) (now (second .exit)) (now (list .exit))
-        × ((address < r .next) × (r .next ≤ end)) ⌝ }
+        × (address < r .next) × (r .next ≤ end) ⌝ }
 {
     let r = unmaps::unmap(s, words, second, list, address);
     let answer = r.answer;
@@ -305,21 +305,21 @@ pub fn unmap_range(
     second: &mut [u64],
     list: &mut [u32],
     address: u64,
-    length: u64,
+    bytes: u64,
 ) -> RangeUnmapped {
     if !path::good_setup(s, words.len(), second.len(), list.len()) {
         return range_refused(1, s);
     }
-    let no = ranges::unmap_tests(s.granule, s.levels, address, length);
+    let no = ranges::unmap_tests(s.granule, s.levels, address, bytes);
     if no != 0 {
         return range_refused(no, s);
     }
-    let end = address + length;
-    let met = check_walks(s, &words[..], &second[..], address, length);
+    let end = address + bytes;
+    let met = check_walks(s, &words[..], &second[..], address, bytes);
     if met != 0 {
         return range_refused(met, s);
     }
-    if !has_room(s, &words[..], &second[..], address, length) {
+    if !has_room(s, &words[..], &second[..], address, bytes) {
         return range_refused(8, s);
     }
     let g = remove_all(s, words, second, list, address, end);

@@ -4,11 +4,11 @@ use mathlib.Core.Path.{_≡_, refl, ap, sym, _∙_, subst}
 use mathlib.Core.Logic.{_≢_, _⊎_, inl, inr, ⊎-elim}
 use mathlib.Core.Bool.{Bool, true, false, cond}
 use mathlib.Core.List.{List, [], _∷_, _++_, List·Memᴰ}
-use native.Mathlib.Nat.{add-mul, suc-mul}
+use native.Mathlib.Nat.{add-mul, suc-mul, le-mul-of-pos-right}
 use native.Mathlib.Omega.{arith}
 use lib.Dec.{ltb, eqb}
 use borrow.Author.Tests.{eqb-true}
-use Rattle.path.specs.Geometry.{Granule, Sane, pageSize, sizeAt}
+use Rattle.path.specs.Geometry.{Granule, Sane, pageSize, sizeAt, physical}
 use Rattle.path.specs.Areas.{areaOf, total}
 use Rattle.path.specs.Laws.{good-setup, page-pos, size-zero, size-le}
 use Rattle.path.specs.Paths.{baseAt, pathOf}
@@ -16,7 +16,7 @@ use Rattle.path.specs.RegionLaws.{base-region, base-inside, base-aligned, base-
 use Rattle.entry.specs.declared.Entry.{Entry}
 use Rattle.entry.specs.declared.Entry.the-variants.{Empty, Table, Frame, Damaged}
 use Rattle.model.specs.declared.Walked.{Walked}
-use Rattle.model.specs.Answers.{Answer, refusal, gave, hole, refused, tablesIn, Pool, Done, done, refuse}
+use Rattle.model.specs.Answers.{Answer, answered, refusal, gave, hole, refused, tablesIn, Pool, Done, done, refuse}
 use Rattle.model.specs.Writes.{freed}
 use Rattle.model.specs.Calls.{goodPool, walkTo, unmapTests, unmapHere, unmapAt, unmapW}
 use Rattle.model.specs.DescentLaws.{clash}
@@ -115,6 +115,37 @@ module _ (G : Granule) where
     given-is = ap (λ (z : Done). tablesIn (z .answer) + 0) e ∙ omega arith;
   }
 
+  -- a page removes one mapping at most
+  one-most : (r : Answer) → acceptedIn r ≤ 1
+  one-most (answered v) = omega arith
+  one-most (refusal j v) = omega arith
+
+  few-removed : (k : ℕ) (p : Pool) (a : ℕ) → sumOf acceptedIn (answersOf (unmapW G) p (pagesFrom G a k)) ≤ k
+  unfolding pagesFrom answersOf sumOf
+  few-removed zero p a = omega arith
+  few-removed (suc k) p a = omega (arith, one-most (unmapW G p a .answer), few-removed k (unmapW G p a .after) (a + W))
+
+  pub removes-few : {p q : Pool} {a x m t : ℕ} → Removes G p a x m t q → m ≤ x
+  removes-few {p} {q} {a} {x} R = omega (arith, R .next-is, R .removed-is, few-removed (R .pages) p a, le-mul-of-pos-right (R .pages) (page-pos G))
+
+  -- the tables that come back are those by which the free count grows
+  free-one : (p : Pool) (x : ℕ) → unmapW G p x .after .numbers .free ≡ p .numbers .free + tablesIn (unmapW G p x .answer)
+  free-one p x = go (unmapW G p x) (unmap-comes G p x)
+    where
+      go : (d : Done) → Unmaps G p x d → d .after .numbers .free ≡ p .numbers .free + tablesIn (d .answer)
+      go d (removes-one b k e s) = refl
+      go d (passes-hole e) = omega arith
+      go d (refuses j) = omega arith
+
+  free-all : (k : ℕ) (p : Pool) (a : ℕ) → leftBy (unmapW G) p (pagesFrom G a k) .numbers .free ≡ p .numbers .free + sumOf tablesIn (answersOf (unmapW G) p (pagesFrom G a k))
+  unfolding pagesFrom answersOf sumOf leftBy
+  free-all zero p a = omega arith
+  free-all (suc k) p a = free-all k (unmapW G p a .after) (a + W) ∙ omega (arith, free-one p a)
+
+  pub removes-free : {p q : Pool} {a x m t : ℕ} → Removes G p a x m t q → q .numbers .free ≡ p .numbers .free + t
+  removes-free {p} {q} {a} {x} {m} {t} R =
+      ap (λ (z : Pool). z .numbers .free) (sym (R .after)) ∙ free-all (R .pages) p a ∙ ap (λ (z : ℕ). p .numbers .free + z) (R .given-is)
+
   -- the pool that is left is as good
   pub removes-good : {p q : Pool} {a x m t : ℕ} → Removes G p a x m t q → goodPool G p ≡ true → (goodPool G q ≡ true) × Kept p q
   removes-good {p} {q} {a} R g =
@@ -187,3 +218,37 @@ module _ (G : Granule) (Z : Sane G) (p : Pool) (x end : ℕ) (R : Rest G p x end
       at next zero m q u = absurd (omega arith)
       at next (suc zero) m q u = omega (arith, suc-mul 0 w₁)
       at next (suc (suc i)) m q u = absurd (omega (arith, suc-mul (suc i) w₁, suc-mul i w₁, page-pos G))
+
+-- ---- from step to step
+
+pub record Stepped (G : Granule) (p : Pool) (a end y m t : ℕ) (r : Pool) : Type 0 where
+  pub removes-so : Removes G p a y m t r
+  pub rest : Rest G r y end
+  pub few : m ≤ physical
+  pub fewer : t ≤ 512
+  pub kept : Kept p r
+
+pages-whole : (G : Granule) (i a : ℕ) → a % pageSize G ≡ 0 → (a + i * pageSize G) % pageSize G ≡ 0
+pages-whole G zero a e = ap (λ (z : ℕ). z % pageSize G) (omega arith) ∙ e
+pages-whole G (suc i) a e = ap (λ (z : ℕ). z % pageSize G) (omega (arith, suc-mul i (pageSize G))) ∙ pages-whole G i (a + pageSize G) (page-next G a e)
+
+pub steps-on : (G : Granule) {p q r : Pool} {a end x y m t n u : ℕ} → Rest G p a end → Removes G p a x m t q → Removes G q x y n u r → y ≤ end → Stepped G p a end y (m + n) (t + u) r
+steps-on G {p} {q} {r} {a} {end} {x} {y} {m} {t} {n} {u} B R S l = record {
+  removes-so = T;
+  rest = record {
+    good = K .0;
+    starts = subst (λ (z : ℕ). z % pageSize G ≡ 0) (sym (T .next-is)) (pages-whole G (T .pages) a (B .starts));
+    ends = B .ends;
+    left = l;
+    in-space = B .in-space;
+  };
+  few = omega (arith, removes-few G T, B .in-space);
+  fewer = omega (arith, removes-free G T, good-setup (K .0));
+  kept = K .1;
+}
+  where
+    T : Removes G p a y (m + n) (t + u) r
+    T = removes-more G R S
+
+    K : (goodPool G r ≡ true) × Kept p r
+    K = removes-good G T (B .good)
