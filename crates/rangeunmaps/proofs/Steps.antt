@@ -1,7 +1,12 @@
 -- What one unmap of a range comes to, by what the code has of it.
 use Prim.Native.Nat.{ℕ, _+_, _-_, _<_, _≤_, _%_}
 use mathlib.Core.Path.{_≡_, refl, ap, sym, _∙_, subst}
+use mathlib.Core.Logic.{_≢_}
+use mathlib.Core.Bool.{true}
 use mathlib.Core.List.{List, []}
+use native.Mathlib.Decide.{ℕ-discrete}
+use lib.ListN.{length, getD, set}
+use lib.Seq.{getD-set-same, getD-set-other}
 use native.Mathlib.Omega.{arith}
 use Rattle.path.specs.Geometry.{Granule, Sane, pageSize, sizeAt, physical}
 use Rattle.path.specs.Laws.{good-setup, size-fits}
@@ -10,12 +15,12 @@ use Rattle.path.specs.Areas.{areaOf}
 use Rattle.path.specs.RegionLaws.{base-le}
 use Rattle.model.specs.Answers.{Answer, gave, hole, refused, Pool, Done, done, refuse}
 use Rattle.model.specs.Walk.{noWay}
-use Rattle.model.specs.Calls.{walkTo, unmapW}
+use Rattle.model.specs.Calls.{goodPool, walkTo, unmapW}
 use Rattle.model.specs.DescentLaws.{clash}
 use Rattle.model.specs.RangeWalks.{left-low}
 use Rattle.model.specs.RangeRefusals.{givenAt}
 use Rattle.model.specs.RangeUnmapped.{removedAt}
-use Rattle.sweeps.specs.Parts.{lesser, untilEnd, Rest, Removes}
+use Rattle.sweeps.specs.Parts.{lesser, untilEnd, Rest, Removes, Meets, usedIn}
 use Rattle.sweeps.specs.Removing.{Unmaps, removes-one, passes-hole, refuses, unmap-comes, hole-step, frame-step, page-step}
 
 module _ (G : Granule) (Z : Sane G) (p : Pool) (x end : ℕ) (R : Rest G p x end) (l : x < end) where
@@ -77,3 +82,17 @@ module _ (G : Granule) (Z : Sane G) (p : Pool) (x end : ℕ) (R : Rest G p x end
           let sz : s ≡ sizeAt G (walkTo G p 0 x .left) = cc (ap (λ (y : Done). y .answer) e) in
           (omega (arith, base-le G x (walkTo G p 0 x .left)), omega (arith, size-low))
       go d (refuses j) e = clash (cc (ap (λ (y : Done). y .answer) e))
+
+-- the height that a look met is one of the tree's
+pub met-low : (G : Granule) → Sane G → (p : Pool) → goodPool G p ≡ true → (x : ℕ) {met : ℕ} {way : List ℕ} → Meets (walkTo G p 0 x) met way → met < 8 → met % 4 < G .most
+met-low G Z p good x K l =
+    omega (arith, K .left-is l, left-low G (areaOf (p .numbers)) (p .words) 0 (pathOf G x) (p .numbers .levels - 1) noWay 0, good-setup good .numbers .not-more, good-setup good .numbers .enough, Z .large-below)
+
+-- counts up to one table more
+pub counts-more : (G : Granule) (ws C : List ℕ) (t n : ℕ) → t < length C → n ≡ usedIn G ws t → ((u : ℕ) → u < t → getD C u 0 ≡ usedIn G ws u)
+    → (u : ℕ) → u < t + 1 → getD (set C t n) u 0 ≡ usedIn G ws u
+counts-more G ws C t n l e f u m = go (ℕ-discrete u t)
+  where
+    go : Dec (u ≡ t) → getD (set C t n) u 0 ≡ usedIn G ws u
+    go (yes z) = ap (λ (y : ℕ). getD (set C t n) y 0) z ∙ getD-set-same C t n 0 l ∙ e ∙ ap (usedIn G ws) (sym z)
+    go (no z) = getD-set-other C t u n 0 z ∙ f u (omega arith)

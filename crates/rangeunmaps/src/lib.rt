@@ -119,7 +119,7 @@ fn check_walks(s: Setup, words: &[u64], second: &[u64], address: u64, bytes: u64
 
 // How many of some words are not 0.
 fn in_use(part: &[u64]) -> u32
-    requires { ⌜ length (now part) ≤ 2048 ⌝ }
+    requires { ⌜ length (now part) ≤ 2 ^ 31 ⌝ }
     ensures { λ r. ⌜ r ≡ inUse (now (part .entry)) ⌝ }
 {
     let mut n: u32 = 0;
@@ -141,10 +141,9 @@ fn count_words<'a>(
     counts: &mut [u32],
     tables: usize,
 )
-    requires { ⌜ tables ≤ length (now counts) ⌝ }
+    requires { ⌜ ((tables ≤ length (now counts)) × (tables ≤ 512)) × ((k : ℕ) × (length (now words) ≡ entries (granuleOf granule) * k)) ⌝ }
     ensures { λ _. ⌜ (length (now (counts .exit)) ≡ length (now (counts .entry)))
-        × ((k : ℕ) → length (now (words .entry)) ≡ entries (granuleOf granule) * k → (t : ℕ) → t < tables
-        → getD (now (counts .exit)) t 0 ≡ usedIn (granuleOf granule) (now (words .entry) ++ now (second .entry)) t) ⌝ }
+        × ((t : ℕ) → t < tables → getD (now (counts .exit)) t 0 ≡ usedIn (granuleOf granule) (now (words .entry) ++ now (second .entry)) t) ⌝ }
 {
     let mut t = 0;
     while t < tables {

@@ -18,7 +18,8 @@ use Rattle.path.specs.RegionLaws.{base-region, base-inside, base-aligned, base-
 use Rattle.entry.specs.declared.Entry.{Entry}
 use Rattle.entry.specs.declared.Entry.the-variants.{Empty, Table, Frame, Damaged}
 use Rattle.model.specs.declared.Walked.{Walked}
-use Rattle.model.specs.Answers.{Pool}
+use Rattle.path.specs.declared.Setup.{Setup}
+use Rattle.model.specs.Answers.{Pool, pool}
 use Rattle.model.specs.Ledger.{region}
 use Rattle.model.specs.Walk.{atHeight, noWay}
 use Rattle.model.specs.Calls.{goodPool, walkTo}
@@ -106,6 +107,16 @@ checked-none G p a len M e l w = record {
   marked = subst (λ (N : List ℕ). Marked G N []) (sym e) (marked-none G 512);
   cut-is = refl;
 }
+
+-- no free list is read
+pub checked-like : (G : Granule) (s : Setup) (ws : List ℕ) (cut : ℕ) (k l : List ℕ) {a len x : ℕ} {M : List ℕ} {no : ℕ}
+    → Checked G (pool s ws cut k) a len x M no → Checked G (pool s ws cut l) a len x M no
+checked-like G s ws cut k l C =
+    record { pages = C .pages; next-is = C .next-is; whole = C .whole; long = C .long; undamaged = C .undamaged; marked = C .marked; cut-is = C .cut-is }
+
+pub says-like : (G : Granule) (s : Setup) (ws : List ℕ) (cut : ℕ) (k l : List ℕ) (a len : ℕ) → walksSay G (pool s ws cut k) a len ≡ walksSay G (pool s ws cut l) a len
+unfolding walksSay
+says-like G s ws cut k l a len = refl
 
 -- ---- from walk to walk
 
@@ -327,3 +338,48 @@ cut-or G a len x was {o} {met} K l = go (decLt met 4)
     go (no m) =
         let (f, k, e) = K .frame (omega arith) l in
         rw (le-ltb met 4 (omega arith)) (ap (λ (e : Entry). cond (cutAt G a len x (o .left) e) 10 was) e ∙ cut (decLt b a) (decLt (a + len) (b + s)))
+
+-- a turn of the check, by what the code has of it
+module _ (G : Granule) (Z : Sane G) (p : Pool) (a len : ℕ) (R : Rest G p a (a + len)) {x : ℕ} {M : List ℕ} {was : ℕ} (C : Checked G p a len x M was) (more : x < a + len)
+    {met : ℕ} {way : List ℕ} (K : Meets (walkTo G p 0 x) met way) where
+  abbrev walk : Walked
+  walk = walkTo G p 0 x
+
+  pub turn-damaged : 8 ≤ met → 8 ≡ walksSay G p a len
+  turn-damaged l = walk-spoils G Z p a len R x (C .whole) (omega (arith, C .next-is)) more (K .damage l)
+
+  sound : met < 8 → walk .entry ≢ Damaged
+  sound l d = go (decLt met 4)
+    where
+      go : Dec (met < 4) → ⊥
+      go (yes m) = let e = K .empty m in clash (cc)
+      go (no m) = let (b, k, e) = K .frame (omega arith) l in clash (cc)
+
+  noting : (l : met < 8) → Noting G (onWays G (p .numbers .levels) (pageWalks G p (pagesFrom G a (C .pages)) ++ (pageWalk G p x ∷ []))) (noteWay G M x way (met % 4) (p .numbers .levels))
+  noting l =
+      subst (Noting G (onWays G (p .numbers .levels) (pageWalks G p (pagesFrom G a (C .pages)) ++ (pageWalk G p x ∷ []))))
+      ((λ i. noteWay G M x (K .tables-are l i) (K .left-is l i) (p .numbers .levels))) (notes G Z p a len R C more (sound l))
+
+  pub turn-clash : met < 8 → {N : List ℕ} → noted false N ≡ noteWay G M x way (met % 4) (p .numbers .levels) → 8 ≡ walksSay G p a len
+  turn-clash l {N} e = go (noteWay G M x way (met % 4) (p .numbers .levels)) (noting l) e
+    where
+      go : (n : Noted) → Noting G (onWays G (p .numbers .levels) (pageWalks G p (pagesFrom G a (C .pages)) ++ (pageWalk G p x ∷ []))) n → noted false N ≡ n → 8 ≡ walksSay G p a len
+      go n (agreed Q) e = clash (cc (ap (λ (y : Noted). y .fine) e))
+      go n (clashes Q) e = clash-spoils G Z p a len R C more (sound l) Q
+
+  pub turn-on : met < 8 → {N : List ℕ} → length N ≡ length M → noted true N ≡ noteWay G M x way (met % 4) (p .numbers .levels)
+      → {base size no′ next : ℕ} → base ≡ baseAt G x (met % 4) → size ≡ sizeAt G (met % 4) → no′ ≡ cutOr was met a (a + len) base size → next ≡ lesser (base + size) (a + len)
+      → Checked G p a len next N no′ × (x < next) × (next ≤ a + len)
+  turn-on l {N} long e {base} {size} {no′} {next} b s c n =
+      let h : walk .left ≡ met % 4 = K .left-is l in
+      let b′ : base ≡ baseAt G x (walk .left) = b ∙ ap (baseAt G x) (sym h) in
+      let s′ : size ≡ sizeAt G (walk .left) = s ∙ ap (sizeAt G) (sym h) in
+      let E : Ends G x (walk .left) (a + len) next = subst (Ends G x (walk .left) (a + len)) (sym (n ∙ (λ i. lesser (b′ i + s′ i) (a + len)))) (ends-at G x (walk .left) (a + len) more (R .ends)) in
+      let d : cond (cutAt G a len x (walk .left) (walk .entry)) 10 was ≡ no′ = cut-or G a len x was K l ∙ sym (c ∙ (λ i. cutOr was met a (a + len) (b′ i) (s′ i))) in
+      (go (noteWay G M x way (met % 4) (p .numbers .levels)) (noting l) e E d, E .further, E .in-range)
+    where
+      go : (n : Noted) → Noting G (onWays G (p .numbers .levels) (pageWalks G p (pagesFrom G a (C .pages)) ++ (pageWalk G p x ∷ []))) n → noted true N ≡ n
+          → Ends G x (walk .left) (a + len) next → cond (cutAt G a len x (walk .left) (walk .entry)) 10 was ≡ no′ → Checked G p a len next N no′
+      go n (agreed Q) e E d =
+          checks-on G Z p a len R C more (sound l) E (long ∙ C .long) (subst (λ (y : List ℕ). Marked G y (onWays G (p .numbers .levels) (pageWalks G p (pagesFrom G a (C .pages)) ++ (pageWalk G p x ∷ [])))) (sym (ap (λ (y : Noted). y .marks) e)) Q) d
+      go n (clashes Q) e E d = clash (cc (ap (λ (y : Noted). y .fine) e))
