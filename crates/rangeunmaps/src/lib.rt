@@ -37,8 +37,8 @@ fn past(granule: u64, address: u64, height: usize, end: u64) -> u64
     requires { ⌜ (height < granuleOf granule .most) × (address < physical) ⌝ }
     ensures { λ r. ⌜ r ≡ untilEnd (granuleOf granule) address height end ⌝ }
 {
-    let base = path::base_at(granule, address, height);
-    let size = path::size_at(granule, height);
+    let base = indices::base_at(granule, address, height);
+    let size = indices::size_at(granule, height);
     least(base + size, end)
 }
 
@@ -56,7 +56,7 @@ fn look(s: Setup, words: &[u64], second: &[u64], address: u64, way: &mut [u32; 4
     let w = pool::word(words, second, place);
     let tables = s.tables as u16;
     let tables2 = s.tables2 as u16;
-    let e = entry::read_word(
+    let e = links::read_word(
         s.granule,
         w,
         left as usize,
@@ -109,8 +109,8 @@ fn check_walks(s: Setup, words: &[u64], second: &[u64], address: u64, bytes: u64
         if !marks::note_way(s.granule, &mut stands, way, x, left, s.levels) {
             return 8;
         }
-        let base = path::base_at(s.granule, x, left);
-        let size = path::size_at(s.granule, left);
+        let base = indices::base_at(s.granule, x, left);
+        let size = indices::size_at(s.granule, left);
         no = cut_by(no, met, address, end, base, size);
         x = least(base + size, end);
     }
@@ -147,7 +147,7 @@ fn count_words<'a>(
 {
     let mut t = 0;
     while t < tables {
-        let n = in_use(pool::table_part(granule, words, second, t as u32));
+        let n = in_use(contents::table_part(granule, words, second, t as u32));
         counts[t] = n;
         t += 1;
     }
@@ -306,7 +306,7 @@ pub fn unmap_range(
     address: u64,
     bytes: u64,
 ) -> RangeUnmapped {
-    if !path::good_setup(s, words.len(), second.len(), list.len()) {
+    if !setups::good_setup(s, words.len(), second.len(), list.len()) {
         return range_refused(1, s);
     }
     let no = ranges::unmap_tests(s.granule, s.levels, address, bytes);

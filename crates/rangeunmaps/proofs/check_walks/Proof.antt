@@ -18,8 +18,8 @@ use Rattle.rangeunmaps.proofs.check_walks.Tie as tie
 use Rattle.rangeunmaps.proofs.check_walks.Reads as reads
 use Rattle.rangeunmaps.proofs.check_walks.Lts as lts
 use Rattle.marks.proofs.note_way.Reads as note-way-reads
-use Rattle.path.proofs.base_at.Reads as base-at-reads
-use Rattle.path.proofs.size_at.Reads as size-at-reads
+use Rattle.indices.proofs.base_at.Reads as base-at-reads
+use Rattle.indices.proofs.size_at.Reads as size-at-reads
 use Rattle.rangeunmaps.proofs.cut_by.Reads as cut-by-reads
 use Rattle.rangeunmaps.proofs.least.Reads as least-reads
 use Rattle.rangeunmaps.proofs.look.Reads as look-reads

@@ -14,7 +14,7 @@ use Rattle.rangeunmaps.proofs.count_words.Statement.{statement}
 use Rattle.rangeunmaps.proofs.count_words.Tie as tie
 use Rattle.rangeunmaps.proofs.count_words.Reads as reads
 use Rattle.rangeunmaps.proofs.count_words.Lts as lts
-use Rattle.pool.proofs.table_part.Reads as table-part-reads
+use Rattle.contents.proofs.table_part.Reads as table-part-reads
 use Rattle.rangeunmaps.proofs.in_use.Reads as in-use-reads
 
 abbrev Inv-loop : tie.InvT-loop
