@@ -473,7 +473,7 @@ impl Source {
             }
             12 => shape.region(2) * (1 + self.random.below(3)) + page * self.random.below(3),
             13 => shape.region(3) * (1 + self.random.below(4)),
-            14 => (1 << 32) - unit * self.random.below(2),
+            14 => (1 << 32) - unit % (1 << 32) * self.random.below(2),
             _ => space.saturating_sub(address),
         };
         // most are short, since all that is mapped is gone through often
