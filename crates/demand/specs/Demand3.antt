@@ -13,16 +13,20 @@ use Rattle.model.specs.Calls.{walkTo, formatW, queryW, mapW, unmapW}
 use Rattle.model.specs.Audit.{auditW, freeOf}
 use Rattle.model.specs.Adds.{lent, addW}
 use Rattle.model.specs.Sound.{reachedOf}
-use Rattle.model.specs.Ledger.{Ledger, region, regionsNeeded, freeTables, Entered, entered, formatL, addL, queryL, mapL, unmapL, auditL}
+use Rattle.model.specs.Listing.{listW}
+use Rattle.model.specs.Ledger.{Ledger, region, regionsNeeded, freeTables, Entered, entered, formatL, addL, queryL, mapL, unmapL, auditL, listL}
 use Rattle.model.specs.Holes.{IsHole}
 use Rattle.laws.specs.Lists.{Distinct}
 use Rattle.demand.specs.Holds.{Holds}
+use Rattle.demand.specs.Pages.{Paged}
 
 -- a question about a pool, which changes nothing
 pub data Ask : Type 0 where
   -- address
   query : ℕ → Ask
   audit : Ask
+  -- start, and how many places each of the two runs has; what is written is part of the answer
+  listFrom : ℕ → ℕ → ℕ → Ask
 
 -- a call and its arguments, whatever they are
 pub data Call : Type 0 where
@@ -56,10 +60,12 @@ goBack p d (refusal k values) = done (refusal k values) p
 abbrev pub askW : Granule → Pool → Ask → Answer
 askW G p (query a) = queryW G p a
 askW G p audit = auditW G p
+askW G p (listFrom a places entries) = listW G p a places entries
 
 abbrev pub askL : Granule → Ledger → Ask → Answer
 askL G A (query a) = queryL G A a
 askL G A audit = auditL G A
+askL G A (listFrom a places entries) = listL G A a places entries
 
 -- one call on a pool
 abbrev pub stepW : Granule → Pool → Call → Done
@@ -120,6 +126,8 @@ pub record Rests (G : Granule) (p : Pool) (A : Ledger) : Type 0 where
   -- where query or unmap answers 9 with a base and a size, no live mapping touches that region, and the next larger one holds one
   pub query-hole : (a b s : ℕ) → queryW G p a ≡ hole b s → IsHole G A a (region s b)
   pub unmap-hole : (a b s : ℕ) → unmapW G p a .answer ≡ hole b s → IsHole G A a (region s b)
+  -- pages of any lengths list every live mapping once, in rising order
+  pub paged : (ks : List ℕ) → Paged G p A ks
 
 -- the promise, for a pool p, the ledger A that it holds, and any calls cs
 pub record Demand3 (G : Granule) (p : Pool) (A : Ledger) (cs : List Call) : Type 0 where

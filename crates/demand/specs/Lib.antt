@@ -10,6 +10,8 @@ pub mod Queries
 pub mod Maps
 pub mod Unmaps
 pub mod Others
+pub mod Pages
+pub mod Listings
 pub mod Demand3
 pub mod Adds
 pub mod Rest

@@ -35,6 +35,7 @@ use Rattle.demand.specs.Sims.{SimIf, Sim, sim-holds, reached-is}
 use Rattle.demand.specs.Queries.{k₀, R, own, pool-good, root-at, space-is, walk-ended, tables-above, own-shaped, query-own}
 use Rattle.demand.specs.Maps.{own-sim, free-is}
 use Rattle.demand.specs.Others.{audit-own}
+use Rattle.demand.specs.Listings.{paged}
 use Rattle.demand.specs.Demand3.{StandsFor, NeededBy, Rests}
 
 -- an entry that reads as a table is one
@@ -143,4 +144,5 @@ module _ (G : Granule) (Z : Sane G) {p : Pool} {A : Ledger} (I : Sim G Z p A) wh
     audit = audit-own G Z I;
     query-hole = λ a b s e. query-hole G (own G Z I) (own-shaped G Z I) a some-level b s (sym (query-own G Z I tt a) ∙ e);
     unmap-hole = λ a b s e. unmap-hole G (own G Z I) (own-shaped G Z I) a some-level b s (sym (unmap-own a) ∙ e);
+    paged = paged G Z H;
   }

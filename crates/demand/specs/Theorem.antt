@@ -7,7 +7,7 @@ use mathlib.Core.Option.{Option, some, none}
 use Prim.Native.Nat.{ℕ, zero, suc, _+_, _-_, _*_, _%_, _≤_, _<_}
 use native.Mathlib.Omega.{arith}
 use lib.Dec.{ltb, leb, eqb}
-use lib.ListN.{length, take, replicate}
+use lib.ListN.{length, take, drop, replicate}
 use Rattle.laws.specs.Lists.{down}
 use borrow.Author.Tests.{leb-true, leb-false, eqb-true}
 use Rattle.path.specs.Geometry.{Granule, granuleOf, entries, pageSize, sizeAt, spaceOf, physical, heightOf, Sane}
@@ -19,7 +19,8 @@ use Rattle.model.specs.Calls.{walkTo, formatW, formatN, queryW, mapTests, mapAt
 use Rattle.model.specs.Audit.{auditW, noneInside}
 use Rattle.model.specs.GranuleLaws.{format-accepted}
 use Rattle.model.specs.Sound.{mappingsOf}
-use Rattle.model.specs.Ledger.{Ledger, ledger, withLive, anyOverlap, coverOf, dropAt, freeTables, tablesLacking, Entered, entered, formatL, addL, queryOf, queryL, mapL, unmapOf, unmapL, auditL}
+use Rattle.model.specs.Ledger.{Ledger, ledger, withLive, anyOverlap, coverOf, dropAt, freeTables, tablesLacking, Entered, entered, formatL, addL, queryOf, queryL, mapL, unmapOf, unmapL, auditL, sorted, listL}
+use Rattle.model.specs.Listing.{fromOn, listing, listedOf}
 use Rattle.demand.specs.Holds.{ledgerOf, Holds}
 use Rattle.demand.specs.Sims.{Sim, holds-sim, sim-holds}
 use Rattle.demand.specs.Queries.{own, ledger-is, pool-good, query-own}
@@ -28,7 +29,8 @@ use Rattle.demand.specs.Unmaps.{unmap-alike}
 use Rattle.demand.specs.Others.{fresh-sim, audit-own, accepted-holds}
 use Rattle.demand.specs.Adds.{add-step}
 use Rattle.demand.specs.Rest.{rests-own}
-use Rattle.demand.specs.Demand3.{Ask, query, audit, Call, formatC, addC, mapC, unmapC, askC, askW, askL, goOn, stepW, stepL, answersW, answersL, poolAfter, ledgerAfter, Rests, Demand3}
+use Rattle.demand.specs.Listings.{list-alike}
+use Rattle.demand.specs.Demand3.{Ask, query, audit, listFrom, Call, formatC, addC, mapC, unmapC, askC, askW, askL, goOn, stepW, stepL, answersW, answersL, poolAfter, ledgerAfter, Rests, Demand3}
 
 module _ (G : Granule) (Z : Sane G) where
   -- one call, by the pool's own ledger
@@ -91,6 +93,7 @@ module _ (G : Granule) (Z : Sane G) where
     ask-own : (q : Ask) → askW G p q ≡ askL G (own G Z I) q
     ask-own (query a) = query-own G Z I tt a
     ask-own audit = audit-own G Z I
+    ask-own (listFrom a places entries) = list-alike G Z (sim-holds G Z (own-sim G Z I)) a places entries
 
     step-own : (c : Call) → Alike G Z (stepW G p c) (stepL G (own G Z I) c)
     step-own (formatC l r) = format-step l r
@@ -153,7 +156,7 @@ module _ (G : Granule) (Z : Sane G) where
   other f e = let z = f e in omega arith
 
   ask-never-eight : (A : Ledger) (q : Ask) → askL G A q ≢ refused 8
-  unfolding queryL auditL
+  unfolding queryL auditL listL listedOf
   ask-never-eight A (query a) = go (leb (spaceOf G (A .levels)) a) (coverOf a (A .live))
     where
       go : (y : Bool) (m : Option Mapping) → cond y (refused 4) (queryOf G A a m) ≢ refused 8
@@ -161,6 +164,16 @@ module _ (G : Granule) (Z : Sane G) where
       go false none = other (λ e. cc)
       go false (some m) = other (λ e. cc)
   ask-never-eight A audit = other (λ e. cc)
+  ask-never-eight A (listFrom a places entries) = go (eqb places entries) (leb (spaceOf G (A .levels)) a) (fromOn a (sorted (A .live)))
+    where
+      listed : (W R : List Mapping) → listing G W R ≢ refused 8
+      listed W [] = other (λ e. cc)
+      listed W (m ∷ R) = other (λ e. cc)
+
+      go : (x y : Bool) (L : List Mapping) → cond x (cond y (refused 4) (listedOf G places L)) (refused 1) ≢ refused 8
+      go true true L = another 4 (λ e. omega arith)
+      go true false L = listed (take places L) (drop places L)
+      go false y L = another 1 (λ e. omega arith)
 
   never-eight : (A : Ledger) (c : Call) → stepL G A c .answer ≢ refused 8
   unfolding formatL addL mapL unmapL unmapOf

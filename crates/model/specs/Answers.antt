@@ -1,7 +1,7 @@
 -- Pools, answers, and the paper's number and values for each case of an answer.
 use Prim.Native.Nat.{ℕ}
 use mathlib.Core.List.{List, [], _∷_, _++_}
-use lib.ListN.{length}
+use lib.ListN.{length, take}
 use Rattle.path.specs.declared.Setup.{Setup}
 use Rattle.model.specs.declared.FormatAnswer.{FormatAnswer}
 use Rattle.model.specs.declared.FormatAnswer.the-variants as F
@@ -19,6 +19,8 @@ use Rattle.model.specs.declared.QueryAnswer.{QueryAnswer}
 use Rattle.model.specs.declared.QueryAnswer.the-variants as Q
 use Rattle.model.specs.declared.AuditAnswer.{AuditAnswer}
 use Rattle.model.specs.declared.AuditAnswer.the-variants as A
+use Rattle.model.specs.declared.ListAnswer.{ListAnswer}
+use Rattle.model.specs.declared.ListAnswer.the-variants as L
 
 -- a mapping: its address, the base of its frame, the size of both, its attributes
 pub record Mapping : Type 0 where
@@ -58,6 +60,11 @@ found m = answered (m .at ∷ m .frame ∷ m .size ∷ m .attributes ∷ [])
 abbrev pub audited : ℕ → ℕ → Answer
 audited t m = answered (t ∷ m ∷ [])
 
+-- list: how many mappings were written; 1 and the base of the first that was left out, or 0 and 0 where none was; then what was written, the numbers of
+-- the one run and those of the other
+abbrev pub listed : ℕ → ℕ → ℕ → List ℕ → List ℕ → Answer
+listed n more next places entries = answered (n ∷ more ∷ next ∷ (places ++ entries))
+
 -- a refusal with its number and nothing more
 abbrev pub refused : ℕ → Answer
 refused k = refusal k []
@@ -92,6 +99,12 @@ saysQuery (Q.Refused k) = refused k
 abbrev pub saysAudit : AuditAnswer → Answer
 saysAudit (A.Sound t m) = audited t m
 saysAudit (A.Refused k) = refused k
+
+-- list: what was written stands in the first places of the two runs at its end
+abbrev pub saysList : ListAnswer → List ℕ → List ℕ → Answer
+saysList (L.All n) places entries = listed n 0 0 (take n places) (take n entries)
+saysList (L.Some n b) places entries = listed n 1 b (take n places) (take n entries)
+saysList (L.Refused k) places entries = refused k
 
 -- Setup numbers, table words and free list. The words are the two lent runs put together, the first and then the second, so that table t's stand from
 -- place entries × t on whichever region it is in; `cut` is how many of them are the first run's.
@@ -131,3 +144,13 @@ unmapDid r first second list = left (saysUnmap (r .answer)) (r .setup) first sec
 -- a refusal leaves everything as it was
 abbrev pub refuse : ℕ → Pool → Done
 refuse k p = done (refused k) p
+
+-- what list answers, and the two runs that it leaves
+pub record Listed : Type 0 where
+  pub answer : Answer
+  pub places : List ℕ
+  pub entries : List ℕ
+
+-- by the code's answer and the two runs at its end
+abbrev pub listDid : ListAnswer → List ℕ → List ℕ → Listed
+listDid r places entries = record { answer = saysList r places entries; places = places; entries = entries }

@@ -12,6 +12,7 @@ use Rattle.path.specs.Paths.{baseAt}
 use Rattle.model.specs.Answers.{Mapping, mapping, Answer, formatted, added, took, gave, found, audited, refused, hole}
 use Rattle.model.specs.Calls.{mapTests, unmapTests}
 use Rattle.model.specs.Audit.{noneInside}
+use Rattle.model.specs.Listing.{fromOn, listedOf}
 
 -- the pool's numbers, and the live mappings
 pub record Ledger : Type 0 where
@@ -159,3 +160,19 @@ queryL G A a = cond (leb (spaceOf G (A .levels)) a) (refused 4) (queryOf G A a (
 -- Audit: the root and the tables needed, and the live mappings
 unfoldable pub auditL : Granule → Ledger → Answer
 auditL G A = audited (suc (tablesNeeded G (A .levels) (A .live))) (length (A .live))
+
+-- mappings in rising order of their bases
+unfoldable pub insert : Mapping → List Mapping → List Mapping
+insert m [] = m ∷ []
+insert m (k ∷ L) = cond (leb (m .at) (k .at)) (m ∷ k ∷ L) (k ∷ insert m L)
+
+unfoldable pub sorted : List Mapping → List Mapping
+sorted [] = []
+sorted (m ∷ L) = insert m (sorted L)
+
+-- List: of the live mappings in rising order, from the start on, as many as fit
+unfoldable pub listL : Granule → Ledger → ℕ → ℕ → ℕ → Answer
+listL G A start places entries =
+    cond (eqb places entries)
+    (cond (leb (spaceOf G (A .levels)) start) (refused 4) (listedOf G places (fromOn start (sorted (A .live)))))
+    (refused 1)

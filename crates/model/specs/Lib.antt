@@ -4,6 +4,7 @@ pub mod Writes
 pub mod Calls
 pub mod Audit
 pub mod Adds
+pub mod Listing
 pub mod Ledger
 pub mod Holes
 pub mod LedgerLaws
@@ -16,6 +17,7 @@ pub mod AuditLaws
 pub mod AddLaws
 pub mod RunLaws
 pub mod MappingLaws
+pub mod ListingLaws
 pub mod Descent
 pub mod DescentLaws
 pub mod GranuleLaws

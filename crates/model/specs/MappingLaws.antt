@@ -77,7 +77,7 @@ rising-apart lo hi a m b p =
     (λ k i. inr (rising-within (m .at + m .size) hi b r k i .0)))
 
 module _ (G : Granule) (ws : List ℕ) (area : Area) (h : ℕ) (below : ℕ → ℕ → Found) (f : (c v : ℕ) → Rising v (v + sizeAt G h) (below c v .mappings)) where
-  rise-entry : (v : ℕ) (e : Entry) → Rising v (v + sizeAt G h) (ofEntry G h v below e .mappings)
+  pub rise-entry : (v : ℕ) (e : Entry) → Rising v (v + sizeAt G h) (ofEntry G h v below e .mappings)
   unfolding Rising
   rise-entry v Empty = omega arith
   rise-entry v (Table c) = f c v
@@ -110,7 +110,7 @@ table-rises G ws area (suc h) = rise-node G ws area (suc h) (λ c u. ofTable G w
 
 module _ {G : Granule} (S : Sane G) (ws : List ℕ) (area : Area) (h : ℕ) (below : ℕ → ℕ → Found)
     (f : (c v : ℕ) → v % sizeAt G h ≡ 0 → Each (WellFormed G) (below c v .mappings)) where
-  well-entry : (v w : ℕ) (e : Entry) → entryAt G area h w ≡ e → v % sizeAt G h ≡ 0 → Each (WellFormed G) (ofEntry G h v below e .mappings)
+  pub well-entry : (v w : ℕ) (e : Entry) → entryAt G area h w ≡ e → v % sizeAt G h ≡ 0 → Each (WellFormed G) (ofEntry G h v below e .mappings)
   well-entry v w Empty q a = each-nil (WellFormed G)
   well-entry v w (Table c) q a = f c v a
   well-entry v w (Frame b k) q a =

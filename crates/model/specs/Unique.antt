@@ -20,7 +20,9 @@ use Rattle.model.specs.declared.QueryAnswer.{QueryAnswer}
 use Rattle.model.specs.declared.QueryAnswer.the-variants as Q
 use Rattle.model.specs.declared.AuditAnswer.{AuditAnswer}
 use Rattle.model.specs.declared.AuditAnswer.the-variants as A
-use Rattle.model.specs.Answers.{Mapping, mapping, Answer, found, saysFormat, saysAdd, saysMap, saysUnmap, saysQuery, saysAudit, Pool, Done, left, formatDid, addDid, mapDid, unmapDid}
+use Rattle.model.specs.declared.ListAnswer.{ListAnswer}
+use Rattle.model.specs.declared.ListAnswer.the-variants as L
+use Rattle.model.specs.Answers.{Mapping, mapping, Answer, found, saysFormat, saysAdd, saysMap, saysUnmap, saysQuery, saysAudit, saysList, Pool, Done, left, formatDid, addDid, mapDid, unmapDid, Listed, listDid}
 
 pub format-unique : (a b : FormatAnswer) → saysFormat a ≡ saysFormat b → a ≡ b
 format-unique F.Done F.Done e = refl
@@ -76,6 +78,22 @@ add-unique D.Done D.Done e = refl
 add-unique D.Done (D.Refused k) e = cc
 add-unique (D.Refused j) D.Done e = cc
 add-unique (D.Refused j) (D.Refused k) e = cc
+
+-- list: its answer, whatever stands in the runs
+list-unique : (a b : ListAnswer) (p q r s : List ℕ) → saysList a p q ≡ saysList b r s → a ≡ b
+list-unique (L.All m) (L.All n) p q r s e = cc
+list-unique (L.All m) (L.Some n c) p q r s e = cc
+list-unique (L.All m) (L.Refused k) p q r s e = cc
+list-unique (L.Some m b) (L.All n) p q r s e = cc
+list-unique (L.Some m b) (L.Some n c) p q r s e = cc
+list-unique (L.Some m b) (L.Refused k) p q r s e = cc
+list-unique (L.Refused j) (L.All n) p q r s e = cc
+list-unique (L.Refused j) (L.Some n c) p q r s e = cc
+list-unique (L.Refused j) (L.Refused k) p q r s e = cc
+
+-- and the two runs
+pub listed-unique : (a b : ListAnswer) (p q r s : List ℕ) → listDid a p q ≡ listDid b r s → (a ≡ b) × ((p ≡ r) × (q ≡ s))
+listed-unique a b p q r s e = (list-unique a b p q r s (ap (λ (l : Listed). l .answer) e), (ap (λ (l : Listed). l .places) e, ap (λ (l : Listed). l .entries) e))
 
 -- Format, the adding call, map and unmap hand back an answer with a setup, and change the lent memory: equal promises give equal records and equal
 -- memory, run by run.

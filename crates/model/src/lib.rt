@@ -83,3 +83,10 @@ pub enum AuditAnswer {
     Sound { tables: u64, mappings: u64 },
     Refused(u64),
 }
+
+// List's answer: how many mappings were written, where none was left out; or how many, and the base of the first that was.
+pub enum ListAnswer {
+    All(u64),
+    Some { written: u64, next: u64 },
+    Refused(u64),
+}
