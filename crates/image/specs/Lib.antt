@@ -7,3 +7,7 @@ pub mod LayoutLaws
 pub mod Exact
 pub mod Damage
 pub mod ImageCases
+pub mod Images
+pub mod RecordLaws
+pub mod RestoreLaws
+pub mod RestoreCases
