@@ -10,9 +10,9 @@ use lib.ListN.{length, length-append, length-map}
 use lib.Pow.{pow-lt, pow-mono}
 use borrow.Author.Tests.{le-ltb, le-leb}
 use Rattle.laws.specs.ListLaws.{length-part-le}
-use Rattle.path.specs.Geometry.{Granule, Sane, four, sixteen, granuleOf, pageSize, entries, sizeAt, spaceOf, physical, heightOf}
+use Rattle.path.specs.Geometry.{Granule, Sane, granuleOf, pageSize, entries, sizeAt, spaceOf, physical, heightOf}
 use Rattle.path.specs.Areas.{Area}
-use Rattle.path.specs.Laws.{size-pos, size-height, space-some, good-setup}
+use Rattle.path.specs.Laws.{granule-either, size-pos, size-height, space-some, good-setup}
 use Rattle.entry.specs.Words.{entryAt, Framed}
 use Rattle.entry.specs.Laws.{power-down, frame-at-back, framed-below, frame-word-lt}
 use Rattle.entry.specs.declared.Entry.{Entry}
@@ -173,9 +173,4 @@ table-count G ws area (suc h) = count-node G ws area (suc h) (λ c u. ofTable G 
 
 -- with 4 KiB pages there are at most 2^18, with 16 KiB pages 2^20
 pub few-entries : (number : ℕ) → FewEntries (granuleOf number)
-unfolding granuleOf
-few-entries number = go (eqb number 16384)
-  where
-    go : (b : Bool) → FewEntries (cond b sixteen four)
-    go true = omega arith
-    go false = omega arith
+few-entries = granule-either FewEntries (omega arith) (omega arith)
