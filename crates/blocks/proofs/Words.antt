@@ -9,13 +9,13 @@ use Rattle.laws.specs.Lists.{part}
 use Rattle.image.specs.Bytes.{numberOf, wordsOf}
 
 -- one number more
-part-more : (bs : List ℕ) (at k : ℕ) → at < length bs → part bs at (suc k) ≡ getD bs at 0 ∷ part bs (at + 1) k
+pub part-more : (bs : List ℕ) (at k : ℕ) → at < length bs → part bs at (suc k) ≡ getD bs at 0 ∷ part bs (at + 1) k
 unfolding part
 part-more bs at k l =
     let e : suc at ≡ at + 1 = omega arith in
     ap (take (suc k)) (drop-cons bs at 0 l) ∙ ap (λ (n : ℕ). getD bs at 0 ∷ take k (drop n bs)) e
 
-part-none : (bs : List ℕ) (at : ℕ) → part bs at 0 ≡ []
+pub part-none : (bs : List ℕ) (at : ℕ) → part bs at 0 ≡ []
 unfolding part
 part-none bs at = refl
 

@@ -16,17 +16,19 @@ wordRead bs at = cond (leb (at + 8) (length bs)) (numberOf (part bs at 8)) 0
 unfoldable pub inOrder : ℕ → List Rec → ℕ
 inOrder low rs = cond (rises low rs) (lowAfter low rs) 0
 
--- block 0 of a run: one more than its number of mappings where it is good, 0 where it is bad or not there
-unfoldable pub headRead : ℕ → ℕ → List ℕ → ℕ
-headRead levels granule bs =
-    cond (ltb (length bs) 512) 0
-    (let b = wordsOf 64 (take 512 bs) in cond (goodHead levels granule b) (suc (getD b 2 0)) 0)
+-- block 0, as words: one more than its number of mappings where it is good, else 0
+unfoldable pub headIn : ℕ → ℕ → List ℕ → ℕ
+headIn levels granule b = cond (goodHead levels granule b) (suc (getD b 2 0)) 0
 
--- block k of a run, at a place of it, where so many records are left and the first is at `low` or above: what the next base must not be below where the
--- block is good, 0 where it is bad or not there
+-- block 0 of a run: 0 also where it is not there
+unfoldable pub headRead : ℕ → ℕ → List ℕ → ℕ
+headRead levels granule bs = cond (ltb (length bs) 512) 0 (headIn levels granule (wordsOf 64 (take 512 bs)))
+
+-- block k with n records, the first at `low` or above, as words: what the base after them must not be below where the block is good, else 0
+unfoldable pub blockIn : ℕ → ℕ → ℕ → List ℕ → ℕ
+blockIn k n low b = cond (goodBlock k n low b) (lowAfter low (recsIn n (drop 1 b))) 0
+
+-- block k of a run, at a place of it, where so many records are left: 0 also where it is not there
 unfoldable pub blockRead : ℕ → ℕ → ℕ → ℕ → List ℕ → ℕ
 blockRead at k left low bs =
-    cond (ltb (length (drop at bs)) 512) 0
-    (let b = wordsOf 64 (take 512 (drop at bs)) in
-    let n = min 31 left in
-    cond (goodBlock k n low b) (lowAfter low (recsIn n (drop 1 b))) 0)
+    cond (ltb (length (drop at bs)) 512) 0 (blockIn k (min 31 left) low (wordsOf 64 (take 512 (drop at bs))))

@@ -1,14 +1,14 @@
 // The blocks of a saved image: 512 bytes each, 64 little-endian words of which the last is the check. What a block holds is said in crate `image`.
 ghost use mathlib.Core.Path.{_≡_};
-ghost use Prim.Native.Nat.{_+_, _*_, _-_, _≤_, _<_, _^_};
-ghost use lib.ListN.{length};
+ghost use Prim.Native.Nat.{_+_, _*_, _-_, _≤_, _<_, _^_, min};
+ghost use lib.ListN.{length, drop};
 ghost use Rattle.laws.specs.Lists.{part, allZero};
 ghost use Rattle.path.specs.Geometry.{granuleOf};
 ghost use Rattle.image.specs.Bytes.{numberOf, bytesOfWords, wordsOf};
 ghost use Rattle.image.specs.Check.{checkOf};
-ghost use Rattle.image.specs.Layout.{whole, blockOf};
+ghost use Rattle.image.specs.Layout.{recsIn, whole, blockOf};
 ghost use Rattle.image.specs.Images.{granuleWord};
-ghost use Rattle.blocks.specs.Reads.{inOrder, headRead, blockRead, wordRead};
+ghost use Rattle.blocks.specs.Reads.{wordRead, inOrder, headIn, headRead, blockIn, blockRead};
 ghost use Rattle.blocks.specs.Writes.{placed, written, pairs};
 
 // The bytes of a block, and of a word.
@@ -19,6 +19,10 @@ const WORD: usize = 8;
 const WORDS: usize = 63;
 // The records that a block has room for.
 pub const RECORDS: usize = 31;
+// In word 0 of a block the number of its records is times this.
+const NUMBERS: u64 = 4294967296;
+// No image has more mappings.
+const MOST_MAPPINGS: u64 = 1048576;
 
 // A byte as a number.
 fn wide(x: u8) -> u64
@@ -79,4 +83,138 @@ fn check_of(block: &[u8]) -> u64
     }
     let twice = std::num::wrapping_add_u64(sums, sums);
     std::num::wrapping_sub_u64(twice, sum)
+}
+
+// Whether the words of a block from one on, up to its check, are 0.
+fn zeros_from(block: &[u8], at: usize) -> bool
+    requires { ⌜ (length (now block) ≡ 512) × (at ≤ 63) ⌝ }
+    ensures { λ r. ⌜ r ≡ allZero (part (wordsOf 64 (now (block .entry))) at (63 - at)) ⌝ }
+{
+    let mut i = at;
+    while i < WORDS {
+        if word_in(block, WORD * i) != 0 {
+            return false;
+        }
+        i += 1;
+    }
+    true
+}
+
+// Whether the check of a block is right, and its words from one on are 0.
+fn is_whole(block: &[u8], at: usize) -> bool
+    requires { ⌜ (length (now block) ≡ 512) × (at ≤ 63) ⌝ }
+    ensures { λ r. ⌜ r ≡ whole at (wordsOf 64 (now (block .entry))) ⌝ }
+{
+    let check = word_in(block, WORD * WORDS);
+    if check != check_of(block) {
+        return false;
+    }
+    zeros_from(block, at)
+}
+
+// What the next base must not be below, where the bases of the first n records of a block rise from `low` on; else 0.
+fn order_of(block: &[u8], n: usize, low: u64) -> u64
+    requires { ⌜ (length (now block) ≡ 512) × (n ≤ 31) ⌝ }
+    ensures { λ r. ⌜ r ≡ inOrder low (recsIn n (drop 1 (wordsOf 64 (now (block .entry))))) ⌝ }
+{
+    let mut next = low;
+    let mut i: usize = 0;
+    while i < n {
+        let place = word_in(block, 2 * WORD * i + WORD);
+        let base = place - place % 4096;
+        if base < next {
+            return 0;
+        }
+        next = base + 1;
+        i += 1;
+    }
+    next
+}
+
+// One more than the number of mappings that block 0 says, where it is good for these levels and this word of the granule; else 0.
+fn head_of(block: &[u8], levels: u64, granule: u64) -> u64
+    requires { ⌜ length (now block) ≡ 512 ⌝ }
+    ensures { λ r. ⌜ r ≡ headIn levels granule (wordsOf 64 (now (block .entry))) ⌝ }
+{
+    if !is_whole(block, 4) {
+        return 0;
+    }
+    if word_in(block, 0) != 0 {
+        return 0;
+    }
+    if word_in(block, WORD) != levels {
+        return 0;
+    }
+    let count = word_in(block, 2 * WORD);
+    if count > MOST_MAPPINGS {
+        return 0;
+    }
+    if word_in(block, 3 * WORD) != granule {
+        return 0;
+    }
+    count + 1
+}
+
+// What the base after those of block k must not be below, where the block is good with n records, the first at `low` or above; else 0.
+fn block_of(block: &[u8], k: u32, n: usize, low: u64) -> u64
+    requires { ⌜ (length (now block) ≡ 512) × (n ≤ 31) ⌝ }
+    ensures { λ r. ⌜ r ≡ blockIn k n low (wordsOf 64 (now (block .entry))) ⌝ }
+{
+    if !is_whole(block, 1 + 2 * n) {
+        return 0;
+    }
+    let first = (k as u64) + NUMBERS * (n as u64);
+    if word_in(block, 0) != first {
+        return 0;
+    }
+    order_of(block, n, low)
+}
+
+// Word 3 of block 0 for a pool of this granule.
+pub fn granule_word(granule: u64) -> u64
+    ensures { λ r. ⌜ r ≡ granuleWord (granuleOf granule) ⌝ }
+{
+    if granule == path::KIB16 {
+        return granule;
+    }
+    0
+}
+
+// How many of the records that are left the next block has.
+pub fn records_in(left: u64) -> usize
+    ensures { λ r. ⌜ r ≡ min 31 left ⌝ }
+{
+    if left < 31 {
+        return left as usize;
+    }
+    RECORDS
+}
+
+// Reads block 0 of a run, for these levels and this granule: one more than its number of mappings, or 0 where it is bad or not there.
+pub fn read_head(image: &[u8], levels: u64, granule: u64) -> u64
+    ensures { λ r. ⌜ r ≡ headRead levels (granuleWord (granuleOf granule)) (now (image .entry)) ⌝ }
+{
+    if image.len() < BLOCK {
+        return 0;
+    }
+    let third = granule_word(granule);
+    let start = 0;
+    let end = BLOCK;
+    head_of(&image[start..end], levels, third)
+}
+
+// Reads block k of a run, at a place of it, where so many records are left and the first is at `low` or above: what the base after its records must not be
+// below, or 0 where it is bad or not there.
+pub fn read_block(image: &[u8], at: usize, k: u32, left: u64, low: u64) -> u64
+    ensures { λ r. ⌜ r ≡ blockRead at k left low (now (image .entry)) ⌝ }
+{
+    let n = image.len();
+    if n < at {
+        return 0;
+    }
+    if n - at < BLOCK {
+        return 0;
+    }
+    let end = at + BLOCK;
+    block_of(&image[at..end], k, records_in(left), low)
 }

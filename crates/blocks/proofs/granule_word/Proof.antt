@@ -1,0 +1,19 @@
+-- `blocks::granule_word`: 16 KiB or not.
+use mathlib.Core.Path.{_≡_, refl, sym, ap, _∙_}
+use native.Mathlib.Omega.{arith}
+use borrow.Author.Needs.{needs}
+use Rattle.path.specs.Laws.{granule-sixteen, granule-four}
+use Rattle.image.specs.Images.{granuleWord}
+use Rattle.blocks.proofs.granule_word.Statement.{statement}
+use Rattle.blocks.proofs.granule_word.Tie as tie
+use Rattle.blocks.proofs.granule_word.Reads as reads
+use Rattle.blocks.proofs.granule_word.Lts as lts
+
+returns : tie.Need-returns
+returns c = c .if1 .taken ∙ ap granuleWord (sym (granule-sixteen (c .if1 .taken)))
+
+returns-2 : tie.Need-returns-2
+returns-2 c = ap granuleWord (sym (granule-four (c .if1 .left)))
+
+pub granule-word-spec : {M : Type 1} → statement M
+granule-word-spec = tie.close (tie.spec returns returns-2)
