@@ -64,3 +64,10 @@ words-at (suc n) (suc i) bs l =
     let e : 8 + 8 * i ≡ 8 * suc i = omega arith in
     words-at n i (drop 8 bs) (omega arith)
     ∙ ap (λ (k : List ℕ). numberOf (take 8 k)) (drop-drop (8 * i) 8 bs ∙ ap (λ (k : ℕ). drop k bs) e)
+
+-- the first words of a run
+pub words-first : (n m : ℕ) (bs : List ℕ) → n ≤ m → take n (wordsOf m bs) ≡ wordsOf n bs
+unfolding wordsOf
+words-first zero m bs l = refl
+words-first (suc n) zero bs l = absurd (omega arith)
+words-first (suc n) (suc m) bs l = ap (λ (k : List ℕ). numberOf (take 8 bs) ∷ k) (words-first n m (drop 8 bs) (omega arith))

@@ -15,7 +15,7 @@ pairs (p ∷ ps) (e ∷ es) = p ∷ e ∷ pairs ps es
 
 -- a run with these bytes at a place
 abbrev pub placed : List ℕ → ℕ → List ℕ → List ℕ
-placed bs at new = take at bs ++ (new ++ drop (at + length new) bs)
+placed bs at new = take at bs ++ new ++ drop (at + length new) bs
 
 -- a run with the block at a place that has this word 0 and the numbers of two lists after it, in turn; unchanged where there is no room
 unfoldable pub written : ℕ → ℕ → List ℕ → List ℕ → List ℕ → List ℕ

@@ -1,10 +1,11 @@
 // The blocks of a saved image: 512 bytes each, 64 little-endian words of which the last is the check. What a block holds is said in crate `image`.
 ghost use mathlib.Core.Path.{_≡_};
-ghost use Prim.Native.Nat.{_+_, _*_, _-_, _≤_, _<_, _^_, min};
+ghost use mathlib.Core.List.{_∷_};
+ghost use Prim.Native.Nat.{_+_, _*_, _-_, _%_, _≤_, _<_, _^_, min};
 ghost use lib.ListN.{length, drop};
 ghost use Rattle.laws.specs.Lists.{part, allZero};
 ghost use Rattle.path.specs.Geometry.{granuleOf};
-ghost use Rattle.image.specs.Bytes.{numberOf, bytesOfWords, wordsOf};
+ghost use Rattle.image.specs.Bytes.{bytesOf, numberOf, bytesOfWords, wordsOf};
 ghost use Rattle.image.specs.Check.{checkOf};
 ghost use Rattle.image.specs.Layout.{recsIn, whole, blockOf};
 ghost use Rattle.image.specs.Images.{granuleWord};
@@ -217,4 +218,82 @@ pub fn read_block(image: &[u8], at: usize, k: u32, left: u64, low: u64) -> u64
     }
     let end = at + BLOCK;
     block_of(&image[at..end], k, records_in(left), low)
+}
+
+// The lowest byte of a word.
+fn low_byte(w: u64) -> u8
+    ensures { λ r. ⌜ r ≡ w % 256 ⌝ }
+{
+    (w % 256) as u8
+}
+
+// Writes a word at a place, the lowest byte first.
+fn put_word(bytes: &mut [u8], at: usize, w: u64)
+    requires { ⌜ at + 8 ≤ length (now bytes) ⌝ }
+    ensures { λ _. ⌜ now (bytes .exit) ≡ placed (now (bytes .entry)) at (bytesOf 8 w) ⌝ }
+{
+    let b = w / 256;
+    let c = b / 256;
+    let d = c / 256;
+    let e = d / 256;
+    let f = e / 256;
+    let g = f / 256;
+    let h = g / 256;
+    bytes[at] = low_byte(w);
+    bytes[at + 1] = low_byte(b);
+    bytes[at + 2] = low_byte(c);
+    bytes[at + 3] = low_byte(d);
+    bytes[at + 4] = low_byte(e);
+    bytes[at + 5] = low_byte(f);
+    bytes[at + 6] = low_byte(g);
+    bytes[at + 7] = low_byte(h);
+}
+
+// Writes the numbers of two runs into the words 1 to 62 of a block, in turn.
+fn put_records(block: &mut [u8], places: &[u64], entries: &[u64])
+    requires { ⌜ (length (now block) ≡ 512) × ((length (now places) ≡ 31) × (length (now entries) ≡ 31)) ⌝ }
+    ensures { λ _. ⌜ now (block .exit) ≡ placed (now (block .entry)) 8 (bytesOfWords (pairs (now (places .entry)) (now (entries .entry)))) ⌝ }
+{
+    let mut i: usize = 0;
+    while i < RECORDS {
+        let at = 2 * WORD * i + WORD;
+        put_word(block, at, places[i]);
+        put_word(block, at + WORD, entries[i]);
+        i += 1;
+    }
+}
+
+// Writes a whole block: word 0, the numbers of two runs in turn, and the check.
+fn put_words(block: &mut [u8], first: u64, places: &[u64], entries: &[u64])
+    requires { ⌜ (length (now block) ≡ 512) × ((length (now places) ≡ 31) × (length (now entries) ≡ 31)) ⌝ }
+    ensures { λ _. ⌜ now (block .exit) ≡ bytesOfWords (blockOf (first ∷ pairs (now (places .entry)) (now (entries .entry)))) ⌝ }
+{
+    put_word(block, 0, first);
+    put_records(block, places, entries);
+    let check = check_of(&block[..]);
+    put_word(block, WORD * WORDS, check);
+}
+
+// Writes the block at a place of a run: word 0 from its number and its number of records, the numbers of two runs in turn, and the check. Where there is no room
+// for it, nothing.
+pub fn put_block(
+    image: &mut [u8],
+    at: usize,
+    k: u32,
+    n: u32,
+    places: [u64; RECORDS],
+    entries: [u64; RECORDS],
+)
+    ensures { λ _. ⌜ now (image .exit) ≡ written at (k + 2 ^ 32 * n) places entries (now (image .entry)) ⌝ }
+{
+    let len = image.len();
+    if len < at {
+        return;
+    }
+    if len - at < BLOCK {
+        return;
+    }
+    let end = at + BLOCK;
+    let first = (k as u64) + NUMBERS * (n as u64);
+    put_words(&mut image[at..end], first, &places, &entries);
 }
