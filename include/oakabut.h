@@ -140,6 +140,12 @@ typedef struct {
     uint64_t mappings; /* the frames reached */
 } oak_audited;
 
+typedef struct {
+    uint64_t written; /* how many mappings were written */
+    uint64_t more;    /* 1 where a mapping was left out, else 0 */
+    uint64_t next;    /* the base of the first that was left out, else 0 */
+} oak_listed;
+
 /* Empties the pool: all words of both runs become 0, place i of the list tables + second_tables - 1 - i, and every table but the root
  * is free.
  *
@@ -216,6 +222,23 @@ uint64_t oak_query(const oak_setup *s, const uint64_t *words, size_t words_len, 
 uint64_t oak_audit(const oak_setup *s, const uint64_t *words, size_t words_len, const uint64_t *second, size_t second_len,
                    const uint32_t *list, size_t list_len, oak_audited *answer);
 
+/* The mappings with base at or above start, in rising order and as many as there is room for: place i of the run `places` becomes the
+ * address of one plus the power of two of its size (12, 21 or 30; with a granule of 16384 14 or 25), and place i of the run `entries` its
+ * entry word. Later places of both stay as they were, and where the call refuses both runs do. They have one length, which may be 0, and
+ * overlap with nothing that the call is handed. A mapping that holds start and begins below it is left out.
+ *
+ * Calls with at least one place each, from 0 and then each from the base that the last one answered, list every mapping of an unchanged
+ * pool once.
+ *
+ * Answers how many were written and the base of the first that was left out, or the first of these that applies:
+ *   OAK_REFUSED_SETUP    a setup number or a length breaks its rule, or places_len is not entries_len
+ *   OAK_REFUSED_END      start is not below the space
+ *   OAK_REFUSED_DAMAGED  a table that is reached from the root has a damaged word, or is reached twice, below start too. Neither the free
+ *                        list nor a reached table that is empty is looked at, nor whether a frame lies in the pool */
+uint64_t oak_list(const oak_setup *s, const uint64_t *words, size_t words_len, const uint64_t *second, size_t second_len,
+                  const uint32_t *list, size_t list_len, uint64_t start, uint64_t *places, size_t places_len, uint64_t *entries,
+                  size_t entries_len, oak_listed *answer);
+
 /* The library has each answer as a run of 64-bit numbers without a gap, and lengths of 64 bits. */
 #ifdef __cplusplus
 #define OAK_HOLDS(fact) static_assert(fact, #fact)
@@ -253,6 +276,10 @@ OAK_HOLDS(offsetof(oak_found, hole_size) == 40);
 OAK_HOLDS(sizeof(oak_audited) == 16);
 OAK_HOLDS(offsetof(oak_audited, tables) == 0);
 OAK_HOLDS(offsetof(oak_audited, mappings) == 8);
+OAK_HOLDS(sizeof(oak_listed) == 24);
+OAK_HOLDS(offsetof(oak_listed, written) == 0);
+OAK_HOLDS(offsetof(oak_listed, more) == 8);
+OAK_HOLDS(offsetof(oak_listed, next) == 16);
 #undef OAK_HOLDS
 
 #ifdef __cplusplus

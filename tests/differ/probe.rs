@@ -149,6 +149,7 @@ fn sizes(granule: u64) {
         }
         ask!(path::good_levels, granule, n);
         ask!(path::size_at, granule, n as usize);
+        ask!(path::bits_at, granule, n as usize);
         ask!(path::height_of, granule, n);
         ask!(path::path_of, granule, n);
         ask!(path::pages_in, granule, n);
@@ -489,6 +490,30 @@ impl Lent {
         }
     }
 
+    // The mappings from an address on, in runs of so many places each.
+    fn listed(&self, start: u64, room: usize, other: usize) {
+        let (mut places, mut entries, mut answer) = (vec![99; room], vec![44; other], [77; 3]);
+        let r = tried(|| oakabut::oak_list(&self.setup, &self.words, &self.second, &self.list, start, &mut places, &mut entries, &mut answer));
+        let (all, more) = (hash(places.iter().copied()), hash(entries.iter().copied()));
+        line(&format!("{} list {start:#x} {room} {other} = {r} {answer:?} {all:x} {more:x}", self.name));
+    }
+
+    // Pages, the first from an address on, and whether the tree is sound.
+    fn pages(&self, address: u64) {
+        for room in [0, 1, 3, 4096] {
+            self.listed(address, room, room);
+        }
+        for (start, room, other) in [(0, 2, 2), (0, 4096, 4096), (address.wrapping_add(1), 5, 5), (address, 1, 2), (address, 2, 1)] {
+            self.listed(start, room, other);
+        }
+        let [levels, base, tables, free, base2, tables2, granule] = self.setup;
+        let setup = || path::Setup { levels, base, tables, free, base2, tables2, granule };
+        for places in [self.list.len(), self.list.len() + 1] {
+            let r = tried(|| audit::tree_sound(setup(), &self.words, &self.second, places));
+            line(&format!("{} tree_sound {places} = {r}", self.name));
+        }
+    }
+
     fn audit(&self) {
         let mut answer = [55; 2];
         let r = tried(|| oakabut::oak_audit(&self.setup, &self.words, &self.second, &self.list, &mut answer));
@@ -559,6 +584,7 @@ fn of_16_kib(tables: u64, tables2: u64) {
         lent.asked(address);
         lent.asked(address.wrapping_add(size / 2));
         lent.audit();
+        lent.pages(address);
     }
     lent.clone().add(MORE, 1, 1);
     lent.clone().add(MORE + PAGE, 1, 1);
@@ -569,6 +595,7 @@ fn of_16_kib(tables: u64, tables2: u64) {
             copy.words[at] ^= bit;
             copy.audit();
             copy.clone().add(MORE, 1, 1);
+            copy.pages(MIB32);
             copy.asked(0);
             copy.unmap(0);
         }
@@ -626,6 +653,7 @@ fn go_on(mut lent: Lent, mut random: Random, steps: u64) {
         lent.asked(address);
         if step % 8 == 5 || tables < 9 {
             lent.audit();
+            lent.pages(address);
         }
         if step % 4 == 3 {
             for kind in 0..10 {
@@ -640,6 +668,7 @@ fn go_on(mut lent: Lent, mut random: Random, steps: u64) {
                 }
                 copy.random_map(&mut random);
                 copy.audit();
+                copy.pages(random.of(&[0, 0, PAGE, GIB]));
             }
         }
     }

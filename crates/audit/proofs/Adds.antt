@@ -1,4 +1,4 @@
--- The tests of an add, by what the checks of its tree found.
+-- The test of a tree, and the tests of an add, by what the checks of the tree found.
 use Prim.Native.Nat.{ℕ, _+_, _*_, _≤_}
 use mathlib.Core.Path.{_≡_, refl, sym, ap, _∙_}
 use mathlib.Core.Logic.{inr, ⊎-elim}
@@ -11,14 +11,15 @@ use lib.Dec.{ltb, eqb}
 use lib.ListN.{length, length-append, length-replicate, replicate}
 use Rattle.path.specs.Geometry.{Granule, granuleOf, pageSize, entries}
 use Rattle.path.specs.Areas.{areaOf, oneRegion, total, GoodArea}
-use Rattle.path.specs.Numbers.{mostTables, goodAdding, GoodAdding}
+use Rattle.path.specs.Numbers.{mostTables, goodSetup, goodAdding, GoodAdding}
 use Rattle.path.specs.Laws.{apart-meets}
 use Rattle.path.specs.declared.Setup.{Setup}
 use Rattle.model.specs.Answers.{Mapping, pool}
-use Rattle.model.specs.Audit.{noneInside}
+use Rattle.model.specs.Audit.{Found, noneInside}
 use Rattle.model.specs.Adds.{goodAdd, soundTree, addTests}
 use Rattle.model.specs.AddLaws.{may-add}
 use Rattle.audit.specs.Checks.{Rooted, treeOf}
+use Rattle.audit.proofs.Whole.{rooted}
 
 -- no frame shares a byte with no table
 pub none-in-none : (G : Granule) (L : List Mapping) → noneInside G (oneRegion 0 0) L ≡ true
@@ -34,6 +35,28 @@ none-good G = record { aligned = zero-mod (pageSize G); fits = omega arith; alig
 -- a list of so many places
 abbrev zeros : ℕ → List ℕ
 zeros n = replicate n 0
+
+-- a check for no region is one of the tree alone
+pub tree-alone : (G : Granule) {x : Bool} (o : Found) → x ≡ (noneInside G (oneRegion 0 0) (o .mappings) && soundTree o) → x ≡ soundTree o
+tree-alone G o d = d ∙ rw (none-in-none G (o .mappings))
+
+-- the test of the tree, for a free list of so many places
+module _ (s : Setup) (ws us : List ℕ) (places : ℕ) {r : Bool} (e : r ≡ goodSetup (granuleOf (s .granule)) s (length ws) (length ws + length us) places) where
+  pub sound-bad : not r ≡ true → (b : Bool) → false ≡ (goodSetup (granuleOf (s .granule)) s (length ws) (length ws + length us) places && b)
+  sound-bad n b = rw (sym e ∙ not-true _ n)
+
+  module _ (n : not r ≡ false) where
+    yes-good : goodSetup (granuleOf (s .granule)) s (length ws) (length ws + length us) places ≡ true
+    yes-good = sym e ∙ not-false _ n
+
+    pub sound-rooted : Rooted s (length ws) (length us)
+    sound-rooted =
+        rooted (pool s (ws ++ us) (length ws) (zeros places)) (ap (λ (z : ℕ). goodSetup (granuleOf (s .granule)) s (length ws) z (length (zeros places))) (length-append ws us) ∙ ap (goodSetup (granuleOf (s .granule)) s (length ws) (length ws + length us)) (length-replicate {A = ℕ} places 0) ∙ yes-good)
+        (length us) (length-append ws us)
+
+    pub sound-told : {x : Bool} → x ≡ (noneInside (granuleOf (s .granule)) (oneRegion 0 0) (treeOf s (ws ++ us) .mappings) && soundTree (treeOf s (ws ++ us)))
+        → x ≡ (goodSetup (granuleOf (s .granule)) s (length ws) (length ws + length us) places && soundTree (treeOf s (ws ++ us)))
+    sound-told d = tree-alone (granuleOf (s .granule)) (treeOf s (ws ++ us)) d ∙ rw yes-good
 
 -- the first test, for a free list of so many places
 module _ (s : Setup) (ws us : List ℕ) (q m places : ℕ) {r : Bool}
@@ -76,7 +99,7 @@ module _ (s : Setup) (ws us : List ℕ) (q m places : ℕ) {r : Bool}
 
     module _ {x : Bool} (d : x ≡ (noneInside (granuleOf (s .granule)) (oneRegion 0 0) (treeOf s (ws ++ us) .mappings) && soundTree (treeOf s (ws ++ us)))) where
       tree : x ≡ soundTree (treeOf s (ws ++ us))
-      tree = d ∙ rw (none-in-none (granuleOf (s .granule)) (treeOf s (ws ++ us) .mappings))
+      tree = tree-alone (granuleOf (s .granule)) (treeOf s (ws ++ us)) d
 
       pub add-unsound : not x ≡ true → (list : List ℕ) → length list ≡ places → 8 ≡ addTests (granuleOf (s .granule)) (pool s (ws ++ us) (length ws) list) q m
       unfolding addTests

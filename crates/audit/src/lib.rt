@@ -9,7 +9,7 @@ ghost use Prim.Native.Nat.{ℕ, _≤_, _<_, _+_, _-_, _*_};
 ghost use lib.ListN.{length, take, set, getD};
 ghost use Rattle.path.specs.Geometry.{granuleOf, pageSize, entries};
 ghost use Rattle.path.specs.Areas.{areaOf, total, oneRegion, GoodArea, meetsRegion};
-ghost use Rattle.path.specs.Numbers.{mostTables};
+ghost use Rattle.path.specs.Numbers.{mostTables, goodSetup};
 ghost use Rattle.model.specs.Answers.{saysAudit, pool};
 ghost use Rattle.model.specs.Audit.{tableWords, noneInside, auditW};
 ghost use Rattle.model.specs.Adds.{soundTree, addTests};
@@ -279,6 +279,18 @@ fn tree_check<'a>(s: Setup, words: &'a [u64], second: &'a [u64], kept: u64, many
         Tally::Counts(_, _) => true,
         Tally::Damaged => false,
     }
+}
+
+// Whether the setup numbers and the three lengths are good, every reachable word is sound and no table is reached twice. Empty tables, frames in the pool and the
+// free list are not looked at.
+pub fn tree_sound<'a>(s: Setup, words: &'a [u64], second: &'a [u64], places: usize) -> bool
+    ensures { λ r. ⌜ r ≡ (goodSetup (granuleOf (s .granule)) s (length (now (words .entry))) (length (now (words .entry)) + length (now (second .entry))) places
+        && soundTree (treeOf s (now (words .entry) ++ now (second .entry)))) ⌝ }
+{
+    if !path::good_setup(s, words.len(), second.len(), places) {
+        return false;
+    }
+    tree_check(s, words, second, 0, 0)
 }
 
 // The tests of an add of so many tables from an address on, where the free list has so many places: 1, 8 for a tree that is not sound as it stands, 11 where a

@@ -7,7 +7,7 @@ use mathlib.Core.Option.{Option, some, none}
 use Prim.Native.Nat.{ℕ, zero, suc, _+_, _-_, _*_, _%_, _≤_, _<_}
 use native.Mathlib.Omega.{arith}
 use lib.Dec.{ltb, leb, eqb}
-use lib.ListN.{length, take, drop, replicate}
+use lib.ListN.{length, take, replicate}
 use Rattle.laws.specs.Lists.{down}
 use borrow.Author.Tests.{leb-true, leb-false, eqb-true}
 use Rattle.path.specs.Geometry.{Granule, granuleOf, entries, pageSize, sizeAt, spaceOf, physical, heightOf, Sane}
@@ -20,7 +20,8 @@ use Rattle.model.specs.Audit.{auditW, noneInside}
 use Rattle.model.specs.GranuleLaws.{format-accepted}
 use Rattle.model.specs.Sound.{mappingsOf}
 use Rattle.model.specs.Ledger.{Ledger, ledger, withLive, anyOverlap, coverOf, dropAt, freeTables, tablesLacking, Entered, entered, formatL, addL, queryOf, queryL, mapL, unmapOf, unmapL, auditL, sorted, listL}
-use Rattle.model.specs.Listing.{fromOn, listing, listedOf}
+use Rattle.model.specs.Listing.{fromOn, listedOf}
+use Rattle.model.specs.ListingLaws.{lists-not}
 use Rattle.demand.specs.Holds.{ledgerOf, Holds}
 use Rattle.demand.specs.Sims.{Sim, holds-sim, sim-holds}
 use Rattle.demand.specs.Queries.{own, ledger-is, pool-good, query-own}
@@ -156,7 +157,7 @@ module _ (G : Granule) (Z : Sane G) where
   other f e = let z = f e in omega arith
 
   ask-never-eight : (A : Ledger) (q : Ask) → askL G A q ≢ refused 8
-  unfolding queryL auditL listL listedOf
+  unfolding queryL auditL listL
   ask-never-eight A (query a) = go (leb (spaceOf G (A .levels)) a) (coverOf a (A .live))
     where
       go : (y : Bool) (m : Option Mapping) → cond y (refused 4) (queryOf G A a m) ≢ refused 8
@@ -166,13 +167,9 @@ module _ (G : Granule) (Z : Sane G) where
   ask-never-eight A audit = other (λ e. cc)
   ask-never-eight A (listFrom a places entries) = go (eqb places entries) (leb (spaceOf G (A .levels)) a) (fromOn a (sorted (A .live)))
     where
-      listed : (W R : List Mapping) → listing G W R ≢ refused 8
-      listed W [] = other (λ e. cc)
-      listed W (m ∷ R) = other (λ e. cc)
-
       go : (x y : Bool) (L : List Mapping) → cond x (cond y (refused 4) (listedOf G places L)) (refused 1) ≢ refused 8
       go true true L = another 4 (λ e. omega arith)
-      go true false L = listed (take places L) (drop places L)
+      go true false L = lists-not G places L 8 []
       go false y L = another 1 (λ e. omega arith)
 
   never-eight : (A : Ledger) (c : Call) → stepL G A c .answer ≢ refused 8

@@ -1,8 +1,7 @@
 -- List the mappings: from a start address on, in rising order, as many as fit into two lent runs, a number of each run for a mapping.
-use Prim.Native.Nat.{ℕ, suc, _+_, _*_, _≤_, _<_}
+use Prim.Native.Nat.{ℕ, suc, _+_, _*_, _≤_}
 use mathlib.Core.Path.{_≡_}
-use mathlib.Core.Logic.{_≢_, _⊎_, _↔_}
-use mathlib.Core.Bool.{true, false, cond, _&&_}
+use mathlib.Core.Bool.{cond, _&&_}
 use mathlib.Core.List.{List, [], _∷_, _++_, map}
 use mathlib.Core.Option.{Option, some, none}
 use lib.Dec.{leb, eqb}
@@ -13,7 +12,7 @@ use Rattle.model.specs.Answers.{Mapping, Answer, answered, refusal, refu
 use Rattle.model.specs.Calls.{goodPool}
 use Rattle.model.specs.Audit.{ofPool}
 use Rattle.model.specs.Adds.{soundTree}
-use Rattle.model.specs.Sound.{Each, mappingsOf, WfTree}
+use Rattle.model.specs.Sound.{Each}
 
 -- ---- one mapping
 
@@ -53,19 +52,6 @@ listW G p start places entries =
     (cond (leb (spaceOf G (p .numbers .levels)) start) (refused 4)
     (cond (soundTree (ofPool G p)) (listedOf G places (fromOn start (ofPool G p .mappings))) (refused 8)))
     (refused 1)
-
--- the same, number by number
-pub record ListNumbers (G : Granule) (p : Pool) (start places entries : ℕ) : Type 0 where
-  pub no-1 : (listW G p start places entries ≡ refused 1) ↔ ((goodPool G p ≡ false) ⊎ (places ≢ entries))
-  pub no-4 :
-      (listW G p start places entries ≡ refused 4)
-      ↔ ((goodPool G p ≡ true) × (places ≡ entries) × (spaceOf G (p .numbers .levels) ≤ start))
-  pub no-8 :
-      (listW G p start places entries ≡ refused 8)
-      ↔ ((goodPool G p ≡ true) × (places ≡ entries) × (start < spaceOf G (p .numbers .levels)) × (¬ WfTree G p))
-  pub accepted :
-      goodPool G p ≡ true → places ≡ entries → start < spaceOf G (p .numbers .levels) → WfTree G p
-      → listW G p start places entries ≡ listedOf G places (fromOn start (mappingsOf G p))
 
 -- ---- the runs after it
 

@@ -2,28 +2,28 @@
 use Prim.Native.Nat.{ℕ, zero, suc, _+_, _-_, _*_, _^_, _≤_, _<_}
 use mathlib.Core.Path.{_≡_, refl, sym, ap, ap₂, subst, _∙_}
 use mathlib.Core.Logic.{_↔_, _≢_, _⊎_, inl, inr, ⊎-elim}
-use mathlib.Core.Bool.{Bool, true, false, cond, _&&_, true≢false, false≢true}
+use mathlib.Core.Bool.{Bool, true, false, cond}
 use mathlib.Core.List.{List, [], _∷_, _++_, map, List·Memᴰ, List·Memᴰ·head as here, List·Memᴰ·tail as there, List·Memᴰ·not-nil, List·Memᴰ·cases-cons, Memᴰ·cast, Memᴰ·append-right}
 use mathlib.Core.Option.{Option, some, none}
 use native.Mathlib.Omega.{arith}
-use lib.Dec.{leb, eqb}
+use lib.Dec.{leb}
 use lib.ListN.{length, getD, take, drop, length-append, length-drop, length-map, take-append-drop, drop-of-length-le}
 use lib.Seq.{take-at, drop-at, drop-drop, take-add, take-nil, drop-nil, getD-drop}
-use borrow.Author.Tests.{leb-true, leb-false, le-leb, lt-leb, eq-eqb, ne-eqb, eqb-true, eqb-false}
+use borrow.Author.Tests.{leb-true, leb-false, le-leb, lt-leb, eq-eqb}
 use Rattle.laws.specs.Lists.{Distinct}
 use Rattle.laws.specs.ListLaws.{getD-first, getD-later}
 use Rattle.path.specs.Geometry.{Granule, Sane, sizeAt, spaceOf, heightOf}
 use Rattle.path.specs.Laws.{size-pos, size-height, space-some, good-setup}
-use Rattle.model.specs.Answers.{Mapping, Answer, refused, Pool}
+use Rattle.model.specs.Answers.{Mapping, Answer, refusal, Pool}
 use Rattle.model.specs.Calls.{goodPool}
 use Rattle.model.specs.Audit.{ofPool}
 use Rattle.model.specs.Adds.{soundTree}
-use Rattle.model.specs.AddLaws.{tree-wf, wf-tree}
 use Rattle.model.specs.Sound.{Each, mappingsOf, Rising, WellFormed}
 use Rattle.model.specs.AuditLaws.{each-nil, each-cons}
 use Rattle.model.specs.MappingLaws.{pool-rises, pool-within, pool-well}
+use Rattle.model.specs.DescentLaws.{clash}
 use Rattle.model.specs.Ledger.{insert, sorted}
-use Rattle.model.specs.Listing.{powerOf, placeOf, entryOf, fromOn, listing, listedOf, listW, ListNumbers, over, placesIn, entriesIn, nextIn, pagesFrom, startAfter, joined, placesOf, Pages, Climbing}
+use Rattle.model.specs.Listing.{powerOf, placeOf, entryOf, fromOn, listing, listedOf, listW, over, placesIn, entriesIn, nextIn, pagesFrom, startAfter, joined, placesOf, Pages, Climbing}
 
 -- ---- one mapping
 
@@ -303,98 +303,16 @@ pub over-past : (new run : List ℕ) (i : ℕ) → length new ≤ i → getD (ov
 over-past new run i l =
     getD-later new (drop (length new) run) i l ∙ getD-drop (length new) run (i - length new) 0 ∙ ap (λ (j : ℕ). getD run j 0) (omega arith)
 
--- ---- the refusals
+-- ---- what is answered
 
--- two refusals have one number
-same-number : {m n : ℕ} → refused m ≡ refused n → m ≡ n
-same-number e = cc
-
--- an answer that lists is no refusal
-lists-not : (G : Granule) (k : ℕ) (L : List Mapping) (n : ℕ) → listedOf G k L ≡ refused n → ⊥
+-- a list is no refusal
+pub lists-not : (G : Granule) (places : ℕ) (L : List Mapping) (n : ℕ) (v : List ℕ) → listedOf G places L ≢ refusal n v
 unfolding listedOf
-lists-not G k L n = go (take k L) (drop k L)
+lists-not G places L n v = go (take places L) (drop places L)
   where
-    go : (W R : List Mapping) → listing G W R ≡ refused n → ⊥
-    go W [] e = let z : _≡_ {A = ℕ} 0 1 = cc in omega arith
-    go W (m ∷ R) e = let z : _≡_ {A = ℕ} 0 1 = cc in omega arith
-
-module _ (G : Granule) (p : Pool) (start places entries : ℕ) where
-  abbrev space : ℕ
-  space = spaceOf G (p .numbers .levels)
-
-  abbrev Bad : Type 0
-  Bad = (goodPool G p ≡ false) ⊎ (places ≢ entries)
-
-  bad-not : Bad → goodPool G p ≡ true → places ≡ entries → ⊥
-  bad-not f g e = ⊎-elim (λ b. true≢false (sym g ∙ b)) (λ n. n e) f
-
-  no-other : {m n : ℕ} {A : Type 0} → listW G p start places entries ≡ refused m → (m ≡ n → ⊥) → listW G p start places entries ≡ refused n → A
-  no-other is f e = absurd (f (same-number (sym is ∙ e)))
-
-  refuses-1 : Bad → ListNumbers G p start places entries
-  unfolding listW
-  refuses-1 f = record {
-    no-1 = (λ e. f, λ b. is);
-    no-4 = (no-other is (λ e. omega arith), λ (g, e, l). absurd (bad-not f g e));
-    no-8 = (no-other is (λ e. omega arith), λ (g, e, l, n). absurd (bad-not f g e));
-    accepted = λ g e l w. absurd (bad-not f g e);
-  }
-    where
-      is : listW G p start places entries ≡ refused 1
-      is = ⊎-elim (λ b. rw b) (λ n. go (goodPool G p) n) f
-        where
-          go : (g : Bool) → places ≢ entries
-              → cond (g && eqb places entries) (cond (leb space start) (refused 4) (cond (soundTree (ofPool G p)) (listedOf G places (fromOn start (ofPool G p .mappings))) (refused 8))) (refused 1) ≡ refused 1
-          go true n = rw (ne-eqb places entries n)
-          go false n = refl
-
-  module _ (g : goodPool G p ≡ true) (e : places ≡ entries) where
-    refuses-4 : space ≤ start → ListNumbers G p start places entries
-    unfolding listW
-    refuses-4 l = record {
-      no-1 = (no-other is (λ e. omega arith), λ f. absurd (bad-not f g e));
-      no-4 = (λ q. (g, e, l), λ b. is);
-      no-8 = (no-other is (λ e. omega arith), λ (_, _, m, n). absurd (omega arith));
-      accepted = λ _ _ m w. absurd (omega arith);
-    }
-      where
-        is : listW G p start places entries ≡ refused 4
-        is = rw (g, eq-eqb places entries e, le-leb space start l)
-
-    module _ (l : start < space) where
-      refuses-8 : soundTree (ofPool G p) ≡ false → ListNumbers G p start places entries
-      unfolding listW
-      refuses-8 t = record {
-        no-1 = (no-other is (λ e. omega arith), λ f. absurd (bad-not f g e));
-        no-4 = (no-other is (λ e. omega arith), λ (_, _, m). absurd (omega arith));
-        no-8 = (λ q. (g, e, l, λ w. true≢false (sym (wf-tree G p w) ∙ t)), λ b. is);
-        accepted = λ _ _ _ w. absurd (true≢false (sym (wf-tree G p w) ∙ t));
-      }
-        where
-          is : listW G p start places entries ≡ refused 8
-          is = rw (g, eq-eqb places entries e, lt-leb space start l, t)
-
-      lists-them : soundTree (ofPool G p) ≡ true → ListNumbers G p start places entries
-      unfolding listW
-      lists-them t = record {
-        no-1 = (λ q. absurd (lists-not G places _ 1 (sym is ∙ q)), λ f. absurd (bad-not f g e));
-        no-4 = (λ q. absurd (lists-not G places _ 4 (sym is ∙ q)), λ (_, _, m). absurd (omega arith));
-        no-8 = (λ q. absurd (lists-not G places _ 8 (sym is ∙ q)), λ (_, _, _, n). absurd (n (tree-wf G p t)));
-        accepted = λ _ _ _ w. is;
-      }
-        where
-          is : listW G p start places entries ≡ listedOf G places (fromOn start (ofPool G p .mappings))
-          is = rw (g, eq-eqb places entries e, lt-leb space start l, t)
-
-  pub list-numbers : ListNumbers G p start places entries
-  list-numbers = go (goodPool G p) (eqb places entries) (leb space start) (soundTree (ofPool G p)) refl refl refl refl
-    where
-      go : (g e s t : Bool) → goodPool G p ≡ g → eqb places entries ≡ e → leb space start ≡ s → soundTree (ofPool G p) ≡ t → ListNumbers G p start places entries
-      go false e s t a b c d = refuses-1 (inl a)
-      go true false s t a b c d = refuses-1 (inr (eqb-false places entries b))
-      go true true true t a b c d = refuses-4 a (eqb-true places entries b) (leb-true space start c)
-      go true true false false a b c d = refuses-8 a (eqb-true places entries b) (leb-false space start c) d
-      go true true false true a b c d = lists-them a (eqb-true places entries b) (leb-false space start c) d
+    go : (W R : List Mapping) → listing G W R ≢ refusal n v
+    go W [] e = clash (cc)
+    go W (m ∷ R) e = clash (cc)
 
 -- ---- page by page
 

@@ -28,6 +28,8 @@ use Rattle.model.specs.Unique.{found-same}
 use Rattle.model.specs.Calls.{goodPool, formatW, formatN, foundAt, queryW, mapTests, mapHere, mapAt, mapW, unmapTests, unmapHere, unmapAt, unmapW}
 use Rattle.model.specs.Audit.{ofPool, noneInside, soundPool, auditW}
 use Rattle.model.specs.Adds.{goodAdd, soundTree, addW}
+use Rattle.model.specs.Listing.{fromOn, listedOf, listW}
+use Rattle.model.specs.ListingLaws.{lists-not}
 use Rattle.model.specs.AddLaws.{tree-wf, wf-tree, may-add}
 use Rattle.model.specs.AuditLaws.{inside-back, sound-only, sound-all, audit-counts}
 use Rattle.model.specs.Sound.{wordAt, reachedOf, mappingsOf, WfTree, SoundPool}
@@ -35,10 +37,10 @@ use Rattle.model.specs.DescentLaws.{clash}
 use Rattle.model.specs.GranuleLaws.{is-four, is-sixteen, no-granule, some-granule, not-named}
 use Rattle.model.specs.Refusals.{Broken, areaIn, tableCount, Breaks, NoSize, NoAttributes, NotBelow, Outside, Misplaced, InRegion, InPool, Occupied, Damage, Vacant}
 use Rattle.model.specs.Refusals.{mapWalk, needed, taken, BadTaken, BadList, lastWalk, OffPage, OffStart, Starts, Emptied, GivesBack, FullList}
-use Rattle.model.specs.Refusals.{Row, row, First, None, mapTable, unmapTable, queryTable, auditTable, formatTable, addTable}
-use Rattle.model.specs.Refusals.{bare, withHole, ByTable, FormatNumbers, AddNumbers, WellFormedMap, MapNumbers, UnmapNumbers, QueryNumbers, AuditNumbers}
+use Rattle.model.specs.Refusals.{Row, row, First, None, mapTable, unmapTable, queryTable, auditTable, formatTable, addTable, listTable}
+use Rattle.model.specs.Refusals.{bare, withHole, ByTable, FormatNumbers, AddNumbers, WellFormedMap, MapNumbers, UnmapNumbers, QueryNumbers, AuditNumbers, ListNumbers}
 use Rattle.model.specs.Refusals.Broken.{bad-levels, no-table, many-tables, base-unaligned, base-high, second-unaligned, second-high, regions-overlap, second-nowhere, bad-words, bad-second, bad-places}
-use Rattle.model.specs.Refusals.{CannotAdd, NewUnder, GranuleNumbers, FourNumbers, SixteenNumbers}
+use Rattle.model.specs.Refusals.{CannotAdd, NewUnder, CannotList, GranuleNumbers, FourNumbers, SixteenNumbers}
 use Rattle.model.specs.Refusals.CannotAdd.{other-granule, region-there, second-base-there, no-new-table, broken-with-it, free-high}
 use Rattle.model.specs.Refusals.Outside.{starts-outside, ends-outside, frame-outside}
 use Rattle.model.specs.Refusals.BadTaken.{root-taken, beyond-taken, taken-twice, taken-on-path}
@@ -758,6 +760,30 @@ module _ (G : Granule) where
         go true false e q = miss (good-keeps p e) (hit (λ s. true≢false (sym (sound-all G p s) ∙ q)))
         go false y e q = hit (bad-breaks p e)
 
+  -- ---- list
+
+  module _ (p : Pool) (start places entries : ℕ) where
+    abbrev all : Answer
+    all = listedOf G places (fromOn start (mappingsOf G p))
+
+    list-told : Told (listTable G p start places entries) bare p (λ d. d .answer ≡ all) (done (listW G p start places entries) p)
+    unfolding listW
+    list-told = go (goodPool G p) (eqb places entries) (leb space start) (soundTree (ofPool G p)) refl refl refl refl
+      where
+        space : ℕ
+        space = spaceOf G (p .numbers .levels)
+
+        can : goodPool G p ≡ true → eqb places entries ≡ true → CannotList G p places entries → ⊥
+        can g e = ⊎-elim (good-keeps p g) (λ n. n (eqb-true places entries e))
+
+        go : (g e x y : Bool) → goodPool G p ≡ g → eqb places entries ≡ e → leb space start ≡ x → soundTree (ofPool G p) ≡ y
+            → Told (listTable G p start places entries) bare p (λ d. d .answer ≡ all) (done (cond (g && e) (cond x (refused 4) (cond y all (refused 8))) (refused 1)) p)
+        go false e x y a b c d = hit (inl (bad-breaks p a))
+        go true false x y a b c d = hit (inr (eqb-false places entries b))
+        go true true true y a b c d = miss (can a b) (hit (leb-true space start c))
+        go true true false false a b c d = miss (can a b) (miss (λ l. omega (arith, leb-false space start c)) (hit (λ w. true≢false (sym (wf-tree G p w) ∙ d))))
+        go true true false true a b c d = miss (can a b) (miss (λ l. omega (arith, leb-false space start c)) (miss (λ f. f (tree-wf G p d)) (accepted-by tt refl)))
+
   -- ---- each call keeps its table
 
   pub add-table : (p : Pool) (q m : ℕ) → ByTable (addTable G p q m) bare p (addW G p q m)
@@ -774,6 +800,9 @@ module _ (G : Granule) where
 
   pub audit-table : (p : Pool) → ByTable (auditTable G p) bare p (done (auditW G p) p)
   audit-table p = by-table (audit-told p) (λ n v q e. clash (cc))
+
+  pub list-table : (p : Pool) (start places entries : ℕ) → ByTable (listTable G p start places entries) bare p (done (listW G p start places entries) p)
+  list-table p start places entries = by-table (list-told p start places entries) (λ n v q e. lists-not G places (fromOn start (mappingsOf G p)) n v (sym q ∙ e))
 
   -- ---- number by number
 
@@ -798,6 +827,17 @@ module _ (G : Granule) where
     where
       told : Told (addTable G p q m) bare p (λ d. d .answer ≡ added) (addW G p q m)
       told = add-told p q m
+
+  pub list-numbers : (p : Pool) (start places entries : ℕ) → ListNumbers G p start places entries
+  list-numbers p start places entries = record {
+    no-1 = row-of T 0 1 refl;
+    no-4 = row-of T 1 4 refl;
+    no-8 = Iff·trans (row-of T 2 8 refl) (λ (x, (y, z)). (x, y, z), λ (x, y, z). (x, (y, z)));
+    accepted = λ x y w. none-by (list-told p start places entries) (x, (y, ((λ f. f w), tt)));
+  }
+    where
+      T : ByTable (listTable G p start places entries) bare p (done (listW G p start places entries) p)
+      T = list-table p start places entries
 
   pub audit-numbers : (p : Pool) → AuditNumbers G p
   audit-numbers p = record {
@@ -1076,6 +1116,7 @@ four-numbers = record {
   sizes = λ size. (λ f. (f 0 (omega arith), f 1 (omega arith), f 2 (omega arith)), λ (x, y, z). none size x y z);
   heights = (refl, refl, refl);
   regions = (refl, refl, refl, refl);
+  powers = λ a b k. (refl, refl, refl);
 }
   where
     beyond : (l : ℕ) → Dec (l < 3) → l ≢ 3 → l ≢ 4 → (l < 3) ⊎ (4 < l)
@@ -1098,6 +1139,7 @@ sixteen-numbers = record {
   sizes = λ size. (λ f. (f 0 (omega arith), f 1 (omega arith)), λ (x, y). none size x y);
   heights = (refl, refl);
   regions = (refl, refl, refl);
+  powers = λ a b k. (refl, refl);
 }
   where
     beyond : (l : ℕ) → Dec (l < 3) → l ≢ 3 → (l < 3) ⊎ (3 < l)

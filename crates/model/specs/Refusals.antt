@@ -17,6 +17,7 @@ use Rattle.model.specs.Walk.{atHeight}
 use Rattle.model.specs.Calls.{walkTo, formatN, queryW, mapW, unmapW}
 use Rattle.model.specs.Audit.{auditW}
 use Rattle.model.specs.Adds.{addW}
+use Rattle.model.specs.Listing.{powerOf, fromOn, listedOf, listW}
 use Rattle.model.specs.Sound.{wordAt, reachedOf, mappingsOf, WfTree, SoundPool}
 
 -- ---- tables of rows
@@ -246,6 +247,14 @@ module _ (G : Granule) where
   abbrev pub addTable : Pool → ℕ → ℕ → List Row
   addTable p q m = row 1 (CannotAdd p q m) ∷ row 8 (¬ WfTree G p) ∷ row 11 (NewUnder p q m) ∷ []
 
+  -- 1, list: a setup number or a length breaks a rule, or its two runs are of unequal length
+  abbrev pub CannotList : Pool → ℕ → ℕ → Type 0
+  CannotList p places entries = Breaks p ⊎ (places ≢ entries)
+
+  abbrev pub listTable : Pool → ℕ → ℕ → ℕ → List Row
+  listTable p start places entries =
+      row 1 (CannotList p places entries) ∷ row 4 (NotBelow (p .numbers .levels) start) ∷ row 8 (¬ WfTree G p) ∷ []
+
   -- ---- what is promised
 
   -- what goes with a number: with 9 alone the base and the size of the region of the entry where the walk ended
@@ -368,6 +377,17 @@ module _ (G : Granule) where
         → (auditW G p ≡ audited t m)
         ↔ ((¬ Breaks p) × SoundPool G p × (t ≡ length (reachedOf G p)) × (m ≡ length (mappingsOf G p)))
 
+  pub record ListNumbers (p : Pool) (start places entries : ℕ) : Type 0 where
+    pub no-1 : (listW G p start places entries ≡ refused 1) ↔ CannotList p places entries
+    pub no-4 : (listW G p start places entries ≡ refused 4)
+        ↔ ((¬ CannotList p places entries) × NotBelow (p .numbers .levels) start)
+    pub no-8 : (listW G p start places entries ≡ refused 8)
+        ↔ ((¬ CannotList p places entries) × (¬ NotBelow (p .numbers .levels) start) × (¬ WfTree G p))
+    pub accepted : (¬ CannotList p places entries)
+        → (¬ NotBelow (p .numbers .levels) start)
+        → WfTree G p
+        → listW G p start places entries ≡ listedOf G places (fromOn start (mappingsOf G p))
+
 -- ---- format, whose granule is a number
 
 -- it names no granule
@@ -403,6 +423,9 @@ pub record FourNumbers : Type 0 where
   pub sizes : (size : ℕ) → NoSize four size ↔ ((size ≢ 4096) × (size ≢ 2 ^ 21) × (size ≢ 2 ^ 30))
   pub heights : (heightOf four 4096 ≡ 0) × (heightOf four (2 ^ 21) ≡ 1) × (heightOf four (2 ^ 30) ≡ 2)
   pub regions : (sizeAt four 0 ≡ 4096) × (sizeAt four 1 ≡ 2 ^ 21) × (sizeAt four 2 ≡ 2 ^ 30) × (sizeAt four 3 ≡ 2 ^ 39)
+  -- of the sizes in a list
+  pub powers : (a b k : ℕ)
+      → (powerOf four (mapping a b 4096 k) ≡ 12) × (powerOf four (mapping a b (2 ^ 21) k) ≡ 21) × (powerOf four (mapping a b (2 ^ 30) k) ≡ 30)
 
 -- 16 KiB: three levels, a space of 2^47, frames of 16384 and 32 MiB; holes of these sizes and of 64 GiB
 pub record SixteenNumbers : Type 0 where
@@ -413,3 +436,4 @@ pub record SixteenNumbers : Type 0 where
   pub sizes : (size : ℕ) → NoSize sixteen size ↔ ((size ≢ 16384) × (size ≢ 2 ^ 25))
   pub heights : (heightOf sixteen 16384 ≡ 0) × (heightOf sixteen (2 ^ 25) ≡ 1)
   pub regions : (sizeAt sixteen 0 ≡ 16384) × (sizeAt sixteen 1 ≡ 2 ^ 25) × (sizeAt sixteen 2 ≡ 2 ^ 36)
+  pub powers : (a b k : ℕ) → (powerOf sixteen (mapping a b 16384 k) ≡ 14) × (powerOf sixteen (mapping a b (2 ^ 25) k) ≡ 25)

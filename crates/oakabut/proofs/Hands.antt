@@ -3,8 +3,8 @@ use Prim.Native.Nat.{ℕ}
 use mathlib.Core.List.{List}
 use mathlib.Core.Path.{_≡_, sym, ap, _∙_}
 use Rattle.path.specs.declared.Setup.{Setup}
-use Rattle.model.specs.Answers.{Answer, Done, left}
-use Rattle.oakabut.specs.Surface.{numberOf, Told, Left}
+use Rattle.model.specs.Answers.{Answer, Done, left, Listed}
+use Rattle.oakabut.specs.Surface.{numberOf, listPlaces, Told, Left, Wrote}
 
 -- an answer of the code's that is known by its case
 pub tells : {X : Type 0} (says : X → Answer) (placesOf : Answer → List ℕ) {a b : X} → a ≡ b → Told (says a) placesOf (numberOf (says b)) (placesOf (says b))
@@ -27,4 +27,12 @@ leaves placesOf q t = record {
   words-are = ap (λ (d : Done). d .after .words) q;
   cut-is = ap (λ (d : Done). d .after .cut) q;
   list-is = ap (λ (d : Done). d .after .list) q;
+}
+
+-- and what list does
+pub writes : {x y : Listed} {n : ℕ} {a : List ℕ} → x ≡ y → Told (x .answer) listPlaces n a → Wrote y n a (x .places) (x .entries)
+writes q t = record {
+  told = hears (ap (λ (l : Listed). l .answer) q) t;
+  places-are = ap (λ (l : Listed). l .places) q;
+  entries-are = ap (λ (l : Listed). l .entries) q;
 }

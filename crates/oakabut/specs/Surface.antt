@@ -1,12 +1,12 @@
 -- The calls' answers in plain numbers, as a caller in C finds them: the returned number, and the places behind the pointer `answer`.
 use Prim.Native.Nat.{ℕ}
 use mathlib.Core.List.{List, [], _∷_, _++_}
-use lib.ListN.{length, getD}
+use lib.ListN.{length, getD, take}
 use mathlib.Core.Path.{_≡_}
 use Rattle.path.specs.Geometry.{Granule, granuleOf}
 use Rattle.path.specs.Numbers.{setup}
 use Rattle.path.specs.declared.Setup.{Setup}
-use Rattle.model.specs.Answers.{Answer, answered, refusal, Pool, pool, Done}
+use Rattle.model.specs.Answers.{Answer, answered, refusal, Pool, pool, Done, Listed}
 
 -- 0, or the refusal's number
 abbrev pub numberOf : Answer → ℕ
@@ -60,6 +60,10 @@ queryPlaces = holedOf (0 ∷ 0 ∷ 0 ∷ 0 ∷ [])
 abbrev pub auditPlaces : Answer → List ℕ
 auditPlaces = toldOf (0 ∷ 0 ∷ [])
 
+-- of list three: what it wrote stands in the two runs
+abbrev pub listPlaces : Answer → List ℕ
+listPlaces a = take 3 (toldOf (0 ∷ 0 ∷ 0 ∷ []) a)
+
 -- an answer as the caller finds it
 pub record Told (a : Answer) (placesOf : Answer → List ℕ) (number : ℕ) (places : List ℕ) : Type 0 where
   pub number-is : number ≡ numberOf a
@@ -71,3 +75,9 @@ pub record Left (d : Done) (placesOf : Setup → Answer → List ℕ) (number : 
   pub words-are : words ++ second ≡ d .after .words
   pub cut-is : length words ≡ d .after .cut
   pub list-is : list ≡ d .after .list
+
+-- and of list, with the two runs that it writes
+pub record Wrote (d : Listed) (number : ℕ) (answer places entries : List ℕ) : Type 0 where
+  pub told : Told (d .answer) listPlaces number answer
+  pub places-are : places ≡ d .places
+  pub entries-are : entries ≡ d .entries

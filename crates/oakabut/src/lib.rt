@@ -2,20 +2,23 @@
 use model::AddAnswer;
 use model::AuditAnswer;
 use model::FormatAnswer;
+use model::ListAnswer;
 use model::MapAnswer;
 use model::QueryAnswer;
 use model::UnmapAnswer;
 use path::Setup;
 ghost use mathlib.Core.Path.{_≡_};
-ghost use mathlib.Core.List.{[], _++_};
+ghost use mathlib.Core.List.{List, [], _++_};
+ghost use Prim.Native.Nat.{ℕ};
 ghost use lib.ListN.{length};
 ghost use Rattle.path.specs.Areas.{areaAt};
 ghost use Rattle.entry.specs.Host.{sizedBy, hostWord, hostMeaning};
-ghost use Rattle.model.specs.Answers.{saysFormat, saysAdd, saysMap, saysUnmap, saysQuery, saysAudit};
+ghost use Rattle.model.specs.Answers.{saysFormat, saysAdd, saysMap, saysUnmap, saysQuery, saysAudit, saysList};
 ghost use Rattle.model.specs.Calls.{formatN, mapW, unmapW, queryW};
 ghost use Rattle.model.specs.Adds.{addW};
 ghost use Rattle.model.specs.Audit.{auditW};
-ghost use Rattle.oakabut.specs.Surface.{setupAt, granuleAt, poolAt, after, setupPlaces, mapPlaces, unmapPlaces, queryPlaces, auditPlaces, Told, Left};
+ghost use Rattle.model.specs.Listing.{listW, leaves};
+ghost use Rattle.oakabut.specs.Surface.{setupAt, granuleAt, poolAt, after, setupPlaces, mapPlaces, unmapPlaces, queryPlaces, auditPlaces, listPlaces, Told, Left, Wrote};
 
 // The entry word of a frame, or a refusal: 2, 3, 4 or 5.
 #[no_mangle]
@@ -185,6 +188,25 @@ fn audited(a: AuditAnswer, answer: &mut [u64; 2]) -> u64
     }
 }
 
+fn listed(a: ListAnswer, answer: &mut [u64; 3]) -> u64
+    ensures { λ r. ⌜ ((places : List ℕ) (entries : List ℕ) → Told (saysList a places entries) listPlaces r (now (answer .exit))) ⌝ }
+{
+    match a {
+        ListAnswer::All(written) => {
+            *answer = [written, 0, 0];
+            0
+        }
+        ListAnswer::Some { written, next } => {
+            *answer = [written, 1, next];
+            0
+        }
+        ListAnswer::Refused(k) => {
+            *answer = [0, 0, 0];
+            k
+        }
+    }
+}
+
 // Empties the pool, and answers its setup.
 #[no_mangle]
 pub extern "C" fn oak_format(
@@ -307,4 +329,25 @@ pub extern "C" fn oak_audit<'a>(
 {
     let a = pagetable::audit(setup_at(s), words, second, list);
     audited(a, answer)
+}
+
+// Writes the mappings from a start on into two runs, as many as fit, and answers how many, and the base of the first left out.
+#[no_mangle]
+pub extern "C" fn oak_list<'a>(
+    s: &[u64; 7],
+    words: &'a [u64],
+    second: &'a [u64],
+    list: &[u32],
+    start: u64,
+    places: &mut [u64],
+    entries: &mut [u64],
+    answer: &mut [u64; 3],
+) -> u64
+    ensures { λ r. ⌜ Wrote (leaves (listW (granuleAt (now (s .entry))) (poolAt (now (s .entry)) (now (words .entry) ++ now (second .entry)) (length (now (words .entry))) (now (list .entry)))
+        start (length (now (places .entry))) (length (now (entries .entry)))) (now (places .entry)) (now (entries .entry)))
+        r (now (answer .exit)) (now (places .exit)) (now (entries .exit)) ⌝ }
+{
+    let p = setup_at(s);
+    let a = pagetable::list(p, words, second, list, start, places, entries);
+    listed(a, answer)
 }

@@ -1,8 +1,9 @@
-// The page table: format, add, query, map, unmap and audit of one pool of tables in lent memory, of one region or two. Each contract says the whole answer and
+// The page table: format, add, query, list, map, unmap and audit of one pool of tables in lent memory, of one region or two. Each contract says the whole answer and
 // all lent memory after the call, for every input (`whole`), and what both are by any ledger that the pool holds (`ledger`).
 use model::Added;
 use model::AuditAnswer;
 use model::Formatted;
+use model::ListAnswer;
 use model::Mapped;
 use model::QueryAnswer;
 use model::Unmapped;
@@ -12,10 +13,11 @@ ghost use mathlib.Core.List.{_++_};
 ghost use lib.ListN.{length};
 ghost use Rattle.path.specs.Geometry.{granuleOf};
 ghost use Rattle.path.specs.Areas.{areaAt};
-ghost use Rattle.model.specs.Answers.{pool, formatDid, addDid, mapDid, unmapDid, saysQuery, saysAudit};
+ghost use Rattle.model.specs.Answers.{pool, formatDid, addDid, mapDid, unmapDid, saysQuery, saysAudit, saysList, listDid};
 ghost use Rattle.model.specs.Calls.{formatN, mapW, unmapW, queryW};
 ghost use Rattle.model.specs.Adds.{addW};
 ghost use Rattle.model.specs.Audit.{auditW};
+ghost use Rattle.model.specs.Listing.{listW, leaves};
 ghost use Rattle.demand.specs.Demand3.{mapC, unmapC};
 ghost use Rattle.demand.specs.Demand3 as question;
 ghost use Rattle.demand.specs.Clauses.{ByLedger, FormatByLedger, AddByLedger, AskedByLedger};
@@ -118,4 +120,24 @@ pub fn audit<'a>(s: Setup, words: &'a [u64], second: &'a [u64], list: &[u32]) ->
     ensures ledger { λ r. ⌜ AskedByLedger (granuleOf (s .granule)) (pool s (now (words .entry) ++ now (second .entry)) (length (now (words .entry))) (now (list .entry))) question.audit (saysAudit r) ⌝ }
 {
     audit::audit(s, words, second, list)
+}
+
+// Writes the mappings with base at or above a start into two runs of one length, in rising order and as many as fit: address plus power of two of the size, and entry
+// word. Answers how many, and the base of the first left out, or that none is. Refused, both runs stay.
+pub fn list<'a>(
+    s: Setup,
+    words: &'a [u64],
+    second: &'a [u64],
+    list: &[u32],
+    start: u64,
+    places: &mut [u64],
+    entries: &mut [u64],
+) -> ListAnswer
+    ensures whole { λ r. ⌜ listDid r (now (places .exit)) (now (entries .exit))
+        ≡ leaves (listW (granuleOf (s .granule)) (pool s (now (words .entry) ++ now (second .entry)) (length (now (words .entry))) (now (list .entry))) start (length (now (places .entry))) (length (now (entries .entry))))
+        (now (places .entry)) (now (entries .entry)) ⌝ }
+    ensures ledger { λ r. ⌜ AskedByLedger (granuleOf (s .granule)) (pool s (now (words .entry) ++ now (second .entry)) (length (now (words .entry))) (now (list .entry)))
+        (question.listFrom start (length (now (places .entry))) (length (now (entries .entry)))) (saysList r (now (places .exit)) (now (entries .exit))) ⌝ }
+{
+    lists::list(s, words, second, list, start, places, entries)
 }

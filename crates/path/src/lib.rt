@@ -397,8 +397,8 @@ pub fn height_of(granule: u64, size: u64) -> usize
     3
 }
 
-// The bits of an address within a region of a height; 0 where no level has it.
-fn bits_at(granule: u64, height: usize) -> u64
+// The bits of an address within a region of a height, which are its size's power of two; 0 where no level has it.
+pub fn bits_at(granule: u64, height: usize) -> u64
     ensures { λ r. ⌜ r ≡ atLevel (granuleOf granule) height (granuleOf granule .page + granuleOf granule .index * height) ⌝ }
 {
     if granule == KIB16 {

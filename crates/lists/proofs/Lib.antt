@@ -1,0 +1,3 @@
+mod Feeding
+mod Rests
+mod Whole

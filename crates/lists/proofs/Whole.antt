@@ -1,0 +1,110 @@
+-- The public call: its refusals, and what it asks of the tree.
+use Prim.Native.Nat.{ℕ, suc, _+_, _-_, _≤_, _<_}
+use mathlib.Core.Path.{_≡_, sym, ap, _∙_}
+use mathlib.Core.Bool.{Bool, true, false, not, _&&_}
+use mathlib.Core.List.{List, _++_}
+use native.Mathlib.Nat.{zero-mod}
+use native.Mathlib.Omega.{arith}
+use lib.Dec.{leb}
+use lib.ListN.{length, length-append}
+use borrow.Author.Tests.{not-true, not-false, eq-eqb, ne-eqb, le-leb, lt-leb}
+use Rattle.path.specs.Geometry.{Granule, Sane, sizeAt, goodLevels, spaceOf}
+use Rattle.path.specs.Areas.{areaOf}
+use Rattle.path.specs.Numbers.{goodSetup, GoodNumbers}
+use Rattle.path.specs.Laws.{good-setup, space-some, size-fits, in-space, past-space}
+use Rattle.path.specs.declared.Setup.{Setup}
+use Rattle.model.specs.declared.ListAnswer.the-variants as L
+use Rattle.model.specs.Answers.{Pool, pool, listDid}
+use Rattle.model.specs.Calls.{goodPool}
+use Rattle.model.specs.Audit.{ofPool}
+use Rattle.model.specs.Adds.{soundTree}
+use Rattle.model.specs.AddLaws.{tree-wf}
+use Rattle.model.specs.Listing.{fromOn, listedOf, listW, leaves}
+use Rattle.lists.specs.Feeds.{TableFit, RunsFit, fed, feed}
+use Rattle.lists.specs.declared.Cursor.{Cursor}
+use Rattle.lists.proofs.Feeding.{list-all, list-some}
+
+module _ {G : Granule} (S : Sane G) (s : Setup) (ws us list : List ℕ) (start : ℕ) (P E : List ℕ) {r : Bool}
+    (e : r ≡ goodSetup G s (length ws) (length ws + length us) (length list)) where
+  abbrev p : Pool
+  p = pool s (ws ++ us) (length ws) list
+
+  good-is : r ≡ goodPool G p
+  good-is = e ∙ ap (λ (n : ℕ). goodSetup G s (length ws) n (length list)) (sym (length-append ws us))
+
+  -- 1: bad setup numbers or lengths
+  pub list-bad : not r ≡ true → listDid (L.Refused 1) P E ≡ leaves (listW G p start (length P) (length E)) P E
+  unfolding listW
+  list-bad n = rw (sym good-is ∙ not-true r n)
+
+  module _ (n : not r ≡ false) where
+    good : goodPool G p ≡ true
+    good = sym good-is ∙ not-false r n
+
+    abbrev N : GoodNumbers G (s .levels) (areaOf s) (length ws) (length (ws ++ us)) (length list)
+    N = good-setup good .numbers
+
+    pub few-tables : s .tables + s .tables2 ≤ 512
+    few-tables = N .few
+
+    pub some-level : 1 ≤ s .levels
+    some-level = omega (arith, N .enough, S .large-below)
+
+    -- runs of unequal length
+    pub list-uneven : (length P ≡ length E → ⊥) → listDid (L.Refused 1) P E ≡ leaves (listW G p start (length P) (length E)) P E
+    unfolding listW
+    list-uneven f = rw (good, ne-eqb (length P) (length E) f)
+
+    module _ (even : length P ≡ length E) {x : Bool} (d : x ≡ (goodLevels G (s .levels) && leb (start + 1) (spaceOf G (s .levels)))) where
+      -- 4
+      pub list-outside : not x ≡ true → listDid (L.Refused 4) P E ≡ leaves (listW G p start (length P) (length E)) P E
+      unfolding listW
+      list-outside k =
+          rw (good, eq-eqb (length P) (length E) even, le-leb (spaceOf G (s .levels)) start (omega (arith, past-space G (s .levels) start 1 (sym d ∙ not-true x k) (omega arith))))
+
+      module _ (k : not x ≡ false) where
+        pub inside : start < spaceOf G (s .levels)
+        inside = omega (arith, in-space G (s .levels) start 1 (sym d ∙ not-false x k))
+
+        pub runs-fit : RunsFit G (areaOf s) (length ws) (length us)
+        runs-fit = record { cut-is = N .cut-is; long = omega (arith, N .words-are, length-append ws us) }
+
+        module _ {y : Bool} (c : y ≡ (goodSetup G s (length ws) (length ws + length us) (length list) && soundTree (ofPool G p))) where
+          tree-is : y ≡ soundTree (ofPool G p)
+          tree-is = c ∙ rw (sym e ∙ not-false r n)
+
+          -- 8
+          pub list-unsound : not y ≡ true → listDid (L.Refused 8) P E ≡ leaves (listW G p start (length P) (length E)) P E
+          unfolding listW
+          list-unsound j = rw (good, eq-eqb (length P) (length E) even, lt-leb (spaceOf G (s .levels)) start inside, sym tree-is ∙ not-true y j)
+
+          module _ (j : not y ≡ false) where
+            sound : soundTree (ofPool G p) ≡ true
+            sound = sym tree-is ∙ not-false y j
+
+            -- the root
+            pub root-fit : TableFit G (ws ++ us) (areaOf s) start 0 (s .levels - 1) 0
+            root-fit = record {
+              inside = omega (arith, N .some-table);
+              region = record {
+                level = omega (arith, top, N .not-more);
+                aligned = zero-mod (sizeAt G (suc (s .levels - 1)));
+                fits = omega (arith, ap (sizeAt G) top, size-fits G S (N .not-more));
+                not-before = omega (arith, ap (sizeAt G) top, inside, space-some G (N .enough) (N .not-more));
+              };
+              sound = tree-wf G p sound .tree;
+            }
+              where
+                top : suc (s .levels - 1) ≡ s .levels
+                top = omega (arith, N .enough, S .large-below)
+
+            module _ (P′ E′ : List ℕ) (q : Cursor) (f : fed q P′ E′ ≡ feed G (fromOn start (ofPool G p .mappings)) P E 0) where
+              answer-is : listW G p start (length P) (length E) ≡ listedOf G (length P) (fromOn start (ofPool G p .mappings))
+              unfolding listW
+              answer-is = rw (good, eq-eqb (length P) (length E) even, lt-leb (spaceOf G (s .levels)) start inside, sound)
+
+              pub listed-all : q .more ≡ false → listDid (L.All (q .written)) P′ E′ ≡ leaves (listW G p start (length P) (length E)) P E
+              listed-all m = list-all G (fromOn start (ofPool G p .mappings)) P E P′ E′ q f even m ∙ ap (λ a. leaves a P E) (sym answer-is)
+
+              pub listed-some : q .more ≡ true → listDid (L.Some (q .written) (q .next)) P′ E′ ≡ leaves (listW G p start (length P) (length E)) P E
+              listed-some m = list-some G (fromOn start (ofPool G p .mappings)) P E P′ E′ q f even m ∙ ap (λ a. leaves a P E) (sym answer-is)
