@@ -1,15 +1,17 @@
 -- What the stores of a word, of records and of a block leave.
 use mathlib.Core.Path.{_≡_, refl, ap, sym, _∙_, subst}
-use mathlib.Core.List.{List, [], _∷_, _++_, append-assoc, append-nil}
+use mathlib.Core.List.{List, [], _∷_, _++_, append-assoc, append-nil, List·Memᴰ·head as here, List·Memᴰ·tail as there}
 use Prim.Native.Nat.{ℕ, zero, suc, _+_, _-_, _*_, _/_, _%_, _^_, _≤_, _<_}
 use native.Mathlib.Omega.{arith}
 use lib.ListN.{length, take, drop, getD, set, replicate, length-append, length-drop, take-append-drop, drop-of-length-le}
 use lib.Seq.{sets-eq, take-suc, length-take-le, take-at, drop-at, drop-drop, take-all}
 use borrow.Author.Tests.{le-leb, lt-leb}
 use Rattle.image.specs.Bytes.{bytesOf, bytesOfWords, wordsOf, Below}
-use Rattle.image.specs.ByteLaws.{length-bytes, length-bytes-words, words-back}
+use Rattle.image.specs.ByteLaws.{below-nil, below-cons, length-bytes, length-bytes-words, words-back}
 use Rattle.image.specs.Check.{weigh, checkOf}
 use Rattle.image.specs.Layout.{padded, blockOf}
+use Rattle.image.specs.LayoutLaws.{length-block}
+use Rattle.laws.specs.ListLaws.{mem-at}
 use Rattle.blocks.proofs.Words.{words-first}
 use Rattle.blocks.specs.Writes.{pairs, placed, written}
 
@@ -40,6 +42,10 @@ unfolding bytesOfWords
 bytes-append [] b = refl
 bytes-append (w ∷ a) b = ap (λ (l : List ℕ). bytesOf 8 w ++ l) (bytes-append a b) ∙ sym (append-assoc (bytesOf 8 w) (bytesOfWords a) (bytesOfWords b))
 
+one-word : (w : ℕ) → bytesOfWords (w ∷ []) ≡ bytesOf 8 w
+unfolding bytesOfWords
+one-word w = append-nil (bytesOf 8 w)
+
 pub length-placed : (bs : List ℕ) (at : ℕ) (new : List ℕ) → at + length new ≤ length bs → length (placed bs at new) ≡ length bs
 length-placed bs at new l = omega (
   arith,
@@ -50,8 +56,8 @@ length-placed bs at new l = omega (
 )
 
 -- a word stored leaves a block as long as it was
-pub placed-long : {bs r : List ℕ} {at w : ℕ} → r ≡ placed bs at (bytesOf 8 w) → length bs ≡ 512 → at + 8 ≤ 512 → length r ≡ 512
-placed-long {bs} {r} {at} {w} e long l = ap length e ∙ length-placed bs at (bytesOf 8 w) (omega (arith, length-bytes 8 w)) ∙ long
+pub placed-long : (bs : List ℕ) (at w : ℕ) {r : List ℕ} → r ≡ placed bs at (bytesOf 8 w) → length bs ≡ 512 → at + 8 ≤ 512 → length r ≡ 512
+placed-long bs at w e long l = ap length e ∙ length-placed bs at (bytesOf 8 w) (omega (arith, length-bytes 8 w)) ∙ long
 
 -- bytes at a place, and more after them
 pub placed-then : (bs : List ℕ) (at : ℕ) (new more : List ℕ) (next : ℕ) → next ≡ at + length new → at + length new + length more ≤ length bs
@@ -189,8 +195,7 @@ module _ (block ps es : List ℕ) (first : ℕ) (long : length block ≡ 512) (p
       ∙ placed-then block 0 (bytesOfWords ws) (bytesOf 8 v) 504 (omega (arith, length-bytes-words ws, ws-long))
       (omega (arith, length-bytes-words ws, ws-long, length-bytes 8 v))
       ∙ rest
-      ∙ (λ i. bytesOfWords ws ++ sym (append-nil (bytesOf 8 v)) i)
-      ∙ sym (bytes-append ws (v ∷ []))
+      ∙ sym (bytes-append ws (v ∷ []) ∙ ap (λ (l : List ℕ). bytesOfWords ws ++ l) (one-word v))
       ∙ ap (λ (l : List ℕ). bytesOfWords (l ++ (weigh 0 l % 2 ^ 64 ∷ []))) (sym padded-is)
     where
       v : ℕ
@@ -217,9 +222,40 @@ pub written-none : (at first : ℕ) (ps es bs : List ℕ) → length bs < at + 5
 unfolding written
 written-none at first ps es bs l = rw (lt-leb (at + 512) (length bs) l)
 
-pub written-there : (at first : ℕ) (ps es bs b : List ℕ) → at + 512 ≤ length bs → length b ≡ 512 → b ≡ bytesOfWords (blockOf (first ∷ pairs ps es))
-    → take at bs ++ b ++ drop (at + 512) bs ≡ written at first ps es bs
+pub written-there : (at first : ℕ) (ps es bs b : List ℕ) → length ps ≡ 31 → length es ≡ 31 → at + 512 ≤ length bs → b ≡ bytesOfWords (blockOf (first ∷ pairs ps es))
+    → take at bs ++ (b ++ drop (at + 512 - at) (drop at bs)) ≡ written at first ps es bs
 unfolding written
-written-there at first ps es bs b l long e =
-    let n = sym long in
-    (λ i. take at bs ++ b ++ drop (at + n i) bs) ∙ ap (placed bs at) e ∙ rw (le-leb (at + 512) (length bs) l)
+written-there at first ps es bs b p-long e-long l e =
+    sym (append-assoc (take at bs) b (drop (at + 512 - at) (drop at bs)))
+    ∙ ap (λ (k : List ℕ). take at bs ++ b ++ k) (drop-drop (at + 512 - at) at bs ∙ ap (λ (n : ℕ). drop n bs) end)
+    ∙ ap (placed bs at) e
+    ∙ rw (le-leb (at + 512) (length bs) l)
+  where
+    ws : List ℕ
+    ws = first ∷ pairs ps es
+
+    few : length ws ≤ 63
+    few = omega (arith, length-pairs ps es (p-long ∙ sym e-long))
+
+    long : length b ≡ 512
+    long = ap length e ∙ omega (arith, length-bytes-words (blockOf ws), length-block ws few)
+
+    end : at + (at + 512 - at) ≡ at + length b
+    end = omega (arith, long)
+
+-- ---- numbers of 64 bits
+
+-- a list of numbers below a bound, by its places
+pub below-places : (top : ℕ) (l : List ℕ) → ((i : ℕ) → getD l i 0 < top) → Below top l
+below-places top l f x m = let (i, _, e) = mem-at l m in subst (λ (y : ℕ). y < top) e (f i)
+
+pub pairs-below : (top : ℕ) (ps es : List ℕ) → Below top ps → Below top es → Below top (pairs ps es)
+unfolding pairs
+pairs-below top [] es f g = below-nil top
+pairs-below top (p ∷ ps) [] f g = below-nil top
+pairs-below top (p ∷ ps) (e ∷ es) f g =
+    below-cons top p (e ∷ pairs ps es) (f p (here refl))
+    (below-cons top e (pairs ps es) (g e (here refl)) (pairs-below top ps es (λ x i. f x (there i)) (λ x i. g x (there i))))
+
+pub words-below-top : (first : ℕ) (ps es : List ℕ) → first < 2 ^ 64 → ((i : ℕ) → getD ps i 0 < 2 ^ 64) → ((i : ℕ) → getD es i 0 < 2 ^ 64) → Below (2 ^ 64) (first ∷ pairs ps es)
+words-below-top first ps es l f g = below-cons (2 ^ 64) first (pairs ps es) l (pairs-below (2 ^ 64) ps es (below-places (2 ^ 64) ps f) (below-places (2 ^ 64) es g))

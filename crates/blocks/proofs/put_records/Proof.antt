@@ -51,7 +51,9 @@ shared-slice-read-put-word-2 : tie.Need-shared-slice-read-put-word-2 Inv-loop μ
 shared-slice-read-put-word-2 c = search needs
 
 put-word-requires-2 : tie.Need-put-word-requires-2 Inv-loop μ-loop
-put-word-requires-2 c κs = omega (arith, placed-long (c .before .before .before .before .put-word .ensures) (c .before .before .before .before .before .before .before .before .loop .inv .1 .1) (omega arith))
+put-word-requires-2 c κs =
+    let l = c .before .before .before .before .before .before .before .before .loop in
+    omega (arith, placed-long (l .block) (16 * l .i + 8) (getD (c .before .before .before .before .before .before .before .before .before .before .before .before .args .places .now) (l .i) 0) (c .before .before .before .before .put-word .ensures) (l .inv .1 .1) (omega arith))
 
 add-i : tie.Need-add-i Inv-loop μ-loop
 add-i c = search needs
@@ -63,7 +65,8 @@ loop-again : tie.Need-loop-again Inv-loop μ-loop
 loop-again c =
     let l = c .before .before .before .before .before .before .before .before .before .before .before .loop in
     let a = c .before .before .before .before .before .before .before .before .before .before .before .before .before .before .before .args in
-    let one : length (c .before .before .before .before .before .before .before .put-word .last .0) ≡ 512 = placed-long (c .before .before .before .before .before .before .before .put-word .ensures) (l .inv .1 .1) (omega arith) in
+    let b = c .before .before .before .before .before .before .before .put-word .last .0 in
+    let one : length b ≡ 512 = placed-long (l .block) (16 * l .i + 8) (getD (a .places .now) (l .i) 0) (c .before .before .before .before .before .before .before .put-word .ensures) (l .inv .1 .1) (omega arith) in
     (
       search needs,
       (
@@ -71,7 +74,7 @@ loop-again c =
             ∙ ap (λ (b : List ℕ). placed b (16 * l .i + 8 + 8) (bytesOf 8 (getD (a .entries .now) (l .i) 0)))
             (c .before .before .before .before .before .before .before .put-word .ensures ∙ ap (λ (b : List ℕ). placed b (16 * l .i + 8) (bytesOf 8 (getD (a .places .now) (l .i) 0))) (l .inv .1 .0))
             ∙ filled-more (a .block .now) (a .places .now) (a .entries .now) (omega arith) (omega arith) (omega arith) (l .i) (omega arith),
-        placed-long (c .before .before .put-word2 .ensures) one (omega arith),
+        placed-long b (16 * l .i + 8 + 8) (getD (a .entries .now) (l .i) 0) (c .before .before .put-word2 .ensures) one (omega arith),
       ),
     )
 
