@@ -4,19 +4,24 @@ use Prim.Native.Nat.{ℕ, _+_, _*_, _%_, _^_, _≤_}
 use mathlib.Core.Bool.{Bool, true, false, cond}
 use mathlib.Core.List.{List, [], _∷_, _++_, map}
 use lib.Dec.{ltb, eqb}
-use lib.ListN.{length, drop}
+use lib.ListN.{length, take, drop}
 use Rattle.path.specs.Geometry.{Granule, goodGranule, granuleOf, pageSize, entries, heightOf}
 use Rattle.path.specs.Areas.{Area}
 use Rattle.path.specs.Numbers.{noSetup, mostTables}
 use Rattle.entry.specs.Words.{frameAt}
 use Rattle.entry.specs.declared.Entry.{Entry}
 use Rattle.entry.specs.declared.Entry.the-variants.{Empty, Table, Frame, Damaged}
-use Rattle.model.specs.Answers.{Mapping, mapping, Answer, answered, refusal, refused, Pool, pool, Done, done, refuse}
+use Rattle.model.specs.Answers.{Mapping, mapping, Answer, answered, refusal, refused, Pool, pool, Done, done, left, refuse}
 use Rattle.model.specs.Calls.{goodPool, formatW, mapW}
 use Rattle.model.specs.Audit.{ofPool}
 use Rattle.model.specs.Adds.{soundTree}
 use Rattle.model.specs.Listing.{placeOf, entryOf}
 use Rattle.model.specs.Ledger.{Ledger, Entered, entered, formatL, mapL, sorted}
+use Rattle.image.specs.declared.SaveAnswer.{SaveAnswer}
+use Rattle.image.specs.declared.SaveAnswer.the-variants as S
+use Rattle.image.specs.declared.RestoreAnswer.{RestoreAnswer}
+use Rattle.image.specs.declared.RestoreAnswer.the-variants as R
+use Rattle.image.specs.declared.Restored.{Restored}
 use Rattle.image.specs.Layout.{Rec, rec, baseOf, blocksFor, imageOf, Reading, block, bad, ended, readImage}
 
 -- ---- answers
@@ -31,6 +36,17 @@ badImage k = refusal 12 (k ∷ [])
 
 abbrev pub restored : Answer
 restored = answered []
+
+-- the paper's answer for each case of the code's; what save wrote stands at the start of the run at its end
+abbrev pub saysSave : SaveAnswer → List ℕ → Answer
+saysSave (S.Saved n) run = saved n (take (512 * n) run)
+saysSave (S.Short n) run = badImage n
+saysSave (S.Refused k) run = refused k
+
+abbrev pub saysRestore : RestoreAnswer → Answer
+saysRestore R.Done = restored
+saysRestore (R.Bad k) = badImage k
+saysRestore (R.Refused k) = refused k
 
 -- no refusal
 abbrev pub accepted : Answer → Bool
@@ -96,6 +112,17 @@ imageAfter (answered []) run = run
 imageAfter (answered (n ∷ bytes)) run = bytes ++ drop (length bytes) run
 imageAfter (refusal k values) run = run
 
+-- what save answers, and the run that it leaves: by the code's answer and the run at its end, and by an answer and the run before the call
+pub record Imaged : Type 0 where
+  pub answer : Answer
+  pub run : List ℕ
+
+abbrev pub saveDid : SaveAnswer → List ℕ → Imaged
+saveDid r run = record { answer = saysSave r run; run = run }
+
+abbrev pub imaged : Answer → List ℕ → Imaged
+imaged a run = record { answer = a; run = imageAfter a run }
+
 -- ---- restore
 
 -- what a call came to: its answer, and what it left, a pool or a ledger
@@ -145,6 +172,10 @@ restoreW G levels area ws cut list image =
 unfoldable pub restoreN : ℕ → ℕ → Area → List ℕ → ℕ → List ℕ → List ℕ → Done
 restoreN number levels area ws cut list image =
     cond (goodGranule number) (restoreW (granuleOf number) levels area ws cut list image) (refuse 1 (pool noSetup ws cut list))
+
+-- by the code's answer and the lent memory at its end
+abbrev pub restoreDid : Restored → List ℕ → List ℕ → List ℕ → Done
+restoreDid r first second list = left (saysRestore (r .answer)) (r .setup) first second list
 
 -- by the ledger: refused with 1 it stays as it was, with any other number it is empty
 abbrev pub enterFrom : Granule → ℕ → List ℕ → Entered → Answer → Entered
