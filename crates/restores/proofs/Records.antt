@@ -7,23 +7,23 @@ use native.Mathlib.Omega.{arith}
 use native.Mathlib.Nat.{mul-le-mul-left}
 use native.Mathlib.Decide.{decLe}
 use lib.Dec.{ltb}
-use lib.ListN.{length, take, drop, getD, length-drop}
+use lib.ListN.{length, take, drop, getD, drop-of-length-le}
 use lib.Pow.{pow-lt, shl-exact}
-use lib.Seq.{drop-cons, drop-drop, take-take, getD-drop}
+use lib.Seq.{drop-drop, take-take, getD-drop}
 use borrow.Author.Tests.{lt-ltb, le-ltb, le-leb}
 use Rattle.laws.specs.Lists.{part}
 use Rattle.laws.specs.ListLaws.{drop-take}
 use Rattle.path.specs.Geometry.{Granule, Sane, sizeAt, heightOf}
 use Rattle.path.specs.Laws.{height-size}
-use Rattle.path.specs.declared.Setup.{Setup}
 use Rattle.entry.specs.Words.{frameAt}
 use Rattle.entry.specs.declared.Entry.{Entry}
 use Rattle.entry.specs.declared.Entry.the-variants.{Empty, Table, Frame, Damaged}
-use Rattle.model.specs.Answers.{Answer, answered, refusal, refused, Mapping, mapping, Pool, pool, Done, done}
+use Rattle.model.specs.Answers.{Answer, answered, refused, Mapping, Pool, Done, done}
 use Rattle.model.specs.Calls.{mapW}
+use Rattle.model.specs.LeftLaws.{Leaves, as-it-was, after-writes, map-leaves}
 use Rattle.image.specs.Bytes.{numberOf, wordsOf}
 use Rattle.image.specs.Layout.{Rec, rec, baseOf, recsIn}
-use Rattle.image.specs.Images.{accepted, Meant, means, means-none, framedAt, meant, Came, came, mapPool, restoreOne, restoreRecs}
+use Rattle.image.specs.Images.{restored, accepted, Meant, means, means-none, framedAt, meant, Came, came, mapPool, restoreOne, restoreRecs}
 use Rattle.blocks.specs.Reads.{wordRead}
 use Rattle.blocks.proofs.Words.{words-at}
 use Rattle.restores.specs.Plays.{asDone, recordsAt}
@@ -101,6 +101,11 @@ recs-drop (suc n) (suc i) ws l =
     second : getD (drop 2 ws) (2 * i + 1) 0 ≡ getD ws (2 * suc i + 1) 0
     second = let e : 2 + (2 * i + 1) ≡ 2 * suc i + 1 = omega arith in getD-drop 2 ws (2 * i + 1) 0 ∙ ap (λ (k : ℕ). getD ws k 0) e
 
+length-recs-in : (n : ℕ) (ws : List ℕ) → length (recsIn n ws) ≡ n
+unfolding recsIn
+length-recs-in zero ws = refl
+length-recs-in (suc n) ws = ap suc (length-recs-in n (drop 2 ws))
+
 -- a word of the block at a place is a word of the run
 word-at : (image : List ℕ) (at k i : ℕ) → at + 512 ≤ length image → k ≡ at + 8 + 8 * i → i < 63
     → getD (drop 1 (wordsOf 64 (take 512 (drop at image)))) i 0 ≡ wordRead image k
@@ -146,3 +151,39 @@ module _ (G : Granule) (p : Pool) (r : Rec) (rs : List Rec) (d : Done) (e : d �
   -- refused: that is all
   pub recs-off : (k : ℕ) → d .answer ≡ refused k → done (refused k) (d .after) ≡ asDone (restoreRecs G (mapPool G) p (r ∷ rs))
   recs-off k q = sym (ap asDone (recs-cons ∙ ap (λ (a : Answer). cond (accepted a) (restoreRecs G (mapPool G) (d .after) rs) (came a (d .after))) q))
+
+-- the granule stays the pool's
+leaves-granule : {G : Granule} {p q : Pool} → Leaves G p q → q .numbers .granule ≡ p .numbers .granule
+leaves-granule as-it-was = refl
+leaves-granule (after-writes ws f l) = refl
+
+pub one-granule : (G : Granule) (p : Pool) (m : Meant) → restoreOne G (mapPool G) p m .after .numbers .granule ≡ p .numbers .granule
+one-granule G p (means m) = leaves-granule (map-leaves G p (m .at) (m .frame) (m .size) (m .attributes))
+one-granule G p (means-none k) = refl
+
+-- Of the records of a block, those from record i on are left, and come to what all of them come to.
+module _ (G : Granule) (image : List ℕ) (at n : ℕ) (l : at + 512 ≤ length image) (few : n ≤ 31) (all : Came Pool) where
+  abbrev pub Left : Pool → ℕ → Type 0
+  Left p i = restoreRecs G (mapPool G) p (drop i (recordsAt image at n)) ≡ all
+
+  module _ (p : Pool) (i place w : ℕ) (b : i < n) (f : place ≡ wordRead image (at + 8 + 16 * i)) (g : w ≡ wordRead image (at + 8 + 16 * i + 8)) (e : Left p i)
+      (d : Done) (q : d ≡ asDone (restoreOne G (mapPool G) p (meant G (rec place w)))) where
+    next : restoreRecs G (mapPool G) p (rec place w ∷ drop (suc i) (recordsAt image at n)) ≡ all
+    next = ap (restoreRecs G (mapPool G) p) (sym (records-next image at n i place w l few b f g)) ∙ e
+
+    pub turn-on : (v : List ℕ) → d .answer ≡ answered v → Left (d .after) (i + 1)
+    turn-on v a =
+        let s : i + 1 ≡ suc i = omega arith in
+        ap (λ (k : ℕ). restoreRecs G (mapPool G) (d .after) (drop k (recordsAt image at n))) s
+        ∙ recs-on G p (rec place w) (drop (suc i) (recordsAt image at n)) d q v a ∙ next
+
+    pub turn-off : (k : ℕ) → d .answer ≡ refused k → done (refused k) (d .after) ≡ asDone all
+    turn-off k a = recs-off G p (rec place w) (drop (suc i) (recordsAt image at n)) d q k a ∙ ap asDone next
+
+    pub turn-granule : d .after .numbers .granule ≡ p .numbers .granule
+    turn-granule = ap (λ (x : Done). x .after .numbers .granule) q ∙ one-granule G p (meant G (rec place w))
+
+  pub turn-end : (p : Pool) (i : ℕ) → i ≡ n → Left p i → done restored p ≡ asDone all
+  unfolding restoreRecs
+  turn-end p i s e =
+      ap (λ (rs : List Rec). asDone (restoreRecs G (mapPool G) p rs)) (sym (drop-of-length-le (recordsAt image at n) {i = i} (omega (arith, length-recs-in n (drop 1 (wordsOf 64 (take 512 (drop at image)))))))) ∙ ap asDone e

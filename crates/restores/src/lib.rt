@@ -9,12 +9,12 @@ use path::Setup;
 ghost use mathlib.Core.Path.{_≡_};
 ghost use mathlib.Core.List.{_++_};
 ghost use Prim.Native.Nat.{_+_, _≤_, _^_};
-ghost use lib.ListN.{length};
+ghost use lib.ListN.{length, drop};
 ghost use Rattle.path.specs.Geometry.{granuleOf};
 ghost use Rattle.path.specs.Areas.{areaOf};
 ghost use Rattle.model.specs.Answers.{saysMap, refused, pool, mapDid};
-ghost use Rattle.image.specs.Layout.{rec, readImage};
-ghost use Rattle.image.specs.Images.{saysRestore, meant, granuleWord, mapPool, restoreOne, restoreRecs, restoreN, restoreDid};
+ghost use Rattle.image.specs.Layout.{rec, blocksFor, readBlocks, readImage};
+ghost use Rattle.image.specs.Images.{saysRestore, accepted, meant, granuleWord, mapPool, restoreOne, restoreRecs, restoreN, restoreDid};
 ghost use Rattle.restores.specs.Plays.{asDone, recordsAt, playFrom};
 
 // The bytes of a block.
@@ -107,4 +107,111 @@ fn records_map(
         i += 1;
     }
     stopped(RestoreAnswer::Done, last)
+}
+
+// Whether a restore came to its end.
+fn is_done(answer: RestoreAnswer) -> bool
+    ensures { λ r. ⌜ r ≡ accepted (saysRestore answer) ⌝ }
+{
+    match answer {
+        RestoreAnswer::Done => true,
+        RestoreAnswer::Bad(_) => false,
+        RestoreAnswer::Refused(_) => false,
+    }
+}
+
+// Reads the blocks of records of an image whose block 0 says so many mappings, and maps the records of each, up to the first refusal.
+fn blocks_map(
+    s: Setup,
+    words: &mut [u64],
+    second: &mut [u64],
+    list: &[u32],
+    image: &[u8],
+    count: u64,
+) -> Restored
+    requires { ⌜ (512 ≤ length (now image)) × (count ≤ 2 ^ 20) ⌝ }
+    ensures { λ r. ⌜ restoreDid r (now (words .exit)) (now (second .exit)) (now (list .entry))
+        ≡ asDone (playFrom (granuleOf (s .granule)) (mapPool (granuleOf (s .granule)))
+        (pool s (now (words .entry) ++ now (second .entry)) (length (now (words .entry))) (now (list .entry)))
+        (readBlocks (blocksFor count) 1 count 0 (drop 512 (now (image .entry))))) ⌝ }
+{
+    let mut last = s;
+    let mut at = BLOCK;
+    let mut k: u32 = 1;
+    let mut left = count;
+    let mut low: u64 = 0;
+    while 0 < left {
+        let next = blocks::read_block(image, at, k, left, low);
+        if next == 0 {
+            return stopped(RestoreAnswer::Bad(k as u64), last);
+        }
+        let n = blocks::records_in(left);
+        let r = records_map(last, words, second, list, image, at, n);
+        let a = r.answer;
+        if !is_done(a) {
+            return r;
+        }
+        last = r.setup;
+        low = next;
+        at += BLOCK;
+        k += 1;
+        left -= n as u64;
+    }
+    if at < image.len() {
+        return stopped(RestoreAnswer::Bad(k as u64), last);
+    }
+    stopped(RestoreAnswer::Done, last)
+}
+
+// Reads an image: block 0, and then its blocks of records.
+fn image_map(
+    s: Setup,
+    words: &mut [u64],
+    second: &mut [u64],
+    list: &[u32],
+    image: &[u8],
+) -> Restored
+    ensures { λ r. ⌜ restoreDid r (now (words .exit)) (now (second .exit)) (now (list .entry))
+        ≡ asDone (playFrom (granuleOf (s .granule)) (mapPool (granuleOf (s .granule)))
+        (pool s (now (words .entry) ++ now (second .entry)) (length (now (words .entry))) (now (list .entry)))
+        (readImage (s .levels) (granuleWord (granuleOf (s .granule))) (now (image .entry)))) ⌝ }
+{
+    let more = blocks::read_head(image, s.levels, s.granule);
+    if more == 0 {
+        return stopped(RestoreAnswer::Bad(0), s);
+    }
+    blocks_map(s, words, second, list, image, more - 1)
+}
+
+// Formats the pool as its setup numbers say, the free count not read, and maps the records of an image in it. Refused with 1 it changes nothing and hands back zeros; with
+// any other number it leaves the pool as format does.
+pub fn restore(
+    s: Setup,
+    words: &mut [u64],
+    second: &mut [u64],
+    list: &mut [u32],
+    image: &[u8],
+) -> Restored
+    ensures { λ r. ⌜ restoreDid r (now (words .exit)) (now (second .exit)) (now (list .exit))
+        ≡ restoreN (s .granule) (s .levels) (areaOf s) (now (words .entry) ++ now (second .entry)) (length (now (words .entry))) (now (list .entry)) (now (image .entry)) ⌝ }
+{
+    let fresh = formats::format(
+        s.levels, s.base, s.tables, s.base2, s.tables2, s.granule, words, second, list,
+    );
+    let a = fresh.answer;
+    match a {
+        FormatAnswer::Done => {}
+        FormatAnswer::Refused(k) => {
+            return stopped(RestoreAnswer::Refused(k), fresh.setup);
+        }
+    }
+    let r = image_map(fresh.setup, words, second, &list[..], image);
+    let b = r.answer;
+    if is_done(b) {
+        return r;
+    }
+    let again = formats::format(
+        s.levels, s.base, s.tables, s.base2, s.tables2, s.granule, words, second, list,
+    );
+    stopped(b, again.setup)
 }
