@@ -161,6 +161,19 @@ pub one-granule : (G : Granule) (p : Pool) (m : Meant) → restoreOne G (mapPool
 one-granule G p (means m) = leaves-granule (map-leaves G p (m .at) (m .frame) (m .size) (m .attributes))
 one-granule G p (means-none k) = refl
 
+pub recs-granule : (G : Granule) (p : Pool) (rs : List Rec) → restoreRecs G (mapPool G) p rs .after .numbers .granule ≡ p .numbers .granule
+unfolding restoreRecs
+recs-granule G p [] = refl
+recs-granule G p (r ∷ rs) = go (accepted (c .answer)) (recs-granule G (c .after) rs)
+  where
+    c : Came Pool
+    c = restoreOne G (mapPool G) p (meant G r)
+
+    go : (x : Bool) → restoreRecs G (mapPool G) (c .after) rs .after .numbers .granule ≡ c .after .numbers .granule
+        → cond x (restoreRecs G (mapPool G) (c .after) rs) c .after .numbers .granule ≡ p .numbers .granule
+    go true e = e ∙ one-granule G p (meant G r)
+    go false e = one-granule G p (meant G r)
+
 -- Of the records of a block, those from record i on are left, and come to what all of them come to.
 module _ (G : Granule) (image : List ℕ) (at n : ℕ) (l : at + 512 ≤ length image) (few : n ≤ 31) (all : Came Pool) where
   abbrev pub Left : Pool → ℕ → Type 0

@@ -2,9 +2,10 @@
 use Prim.Native.Nat.{ℕ, zero, suc, _+_, _-_, _*_, _/_, _^_, _≤_, _<_, min}
 use mathlib.Core.Path.{_≡_, refl, ap, sym, _∙_, subst}
 use mathlib.Core.Logic.{_≢_}
-use mathlib.Core.Bool.{Bool, true, false, cond, false≢true}
+use mathlib.Core.Bool.{Bool, true, false, cond, _&&_}
 use mathlib.Core.List.{List, [], _∷_}
 use native.Mathlib.Omega.{arith}
+use native.Mathlib.Decide.{decLe}
 use lib.Dec.{ltb, leb, eqb}
 use lib.ListN.{length, take, drop, getD, length-drop}
 use lib.Seq.{drop-drop}
@@ -42,7 +43,11 @@ module _ (image : List ℕ) (at k left low : ℕ) (some : 0 < left) where
   readingAt = readBlocks (blocksFor left) k left low (drop at image)
 
   one-less : blocksFor left ≡ suc (blocksFor (left - n))
-  one-less = omega arith
+  one-less = go (decLe 31 left)
+    where
+      go : Dec (31 ≤ left) → blocksFor left ≡ suc (blocksFor (left - n))
+      go (yes l) = let m : n ≡ 31 = omega arith in rw m (omega arith)
+      go (no l) = let m : n ≡ left = omega arith in rw m (omega arith)
 
   reading-is : readingAt ≡ cond (ltb (length (drop at image)) 512) (bad k)
       (cond (goodBlock k n low b) (block rs (readBlocks (blocksFor (left - n)) (suc k) (left - n) (lowAfter low rs) (drop 512 (drop at image)))) (bad k))
@@ -160,12 +165,14 @@ module _ (levels granule : ℕ) (image : List ℕ) (r : ℕ) (e : r ≡ headRead
 
     pub head-few : r - 1 ≤ 2 ^ 20
     unfolding goodHead
-    head-few =
-        let a = and-true _ _ (head-facts .1 .0) in
-        let b = and-true _ _ (a .1) in
-        let c = and-true _ _ (b .1) in
-        let d = and-true _ _ (c .1) in
-        omega (arith, leb-true (getD h 2 0) (2 ^ 20) (d .0), head-facts .1 .1)
+    head-few = omega (arith, leb-true (getD h 2 0) (2 ^ 20) (third (whole 4 h) (eqb (getD h 0 0) 0) (eqb (getD h 1 0) levels) (leb (getD h 2 0) (2 ^ 20)) (eqb (getD h 3 0) granule) (head-facts .1 .0)), head-facts .1 .1)
+      where
+        third : (v w x y z : Bool) → (v && (w && (x && (y && z)))) ≡ true → y ≡ true
+        third v w x y z e =
+            let a = and-true v (w && (x && (y && z))) e .1 in
+            let b = and-true w (x && (y && z)) a .1 in
+            let c = and-true x (y && z) b .1 in
+            and-true y z c .0
 
     pub head-good : readImage levels granule image ≡ readBlocks (blocksFor (r - 1)) 1 (r - 1) 0 (drop 512 image)
     unfolding readImage

@@ -2,11 +2,13 @@
 use Prim.Native.Nat.{ℕ, _-_}
 use mathlib.Core.Path.{_≡_, refl, ap, sym, _∙_, subst}
 use mathlib.Core.Bool.{Bool, true, false, cond}
-use mathlib.Core.List.{List}
+use mathlib.Core.List.{List, _++_}
 use native.Mathlib.Omega.{arith}
-use lib.ListN.{length, replicate}
+use borrow.Author.Tests.{eqb-true}
+use lib.ListN.{length, replicate, length-append}
 use Rattle.laws.specs.Lists.{down}
-use Rattle.path.specs.Geometry.{Granule, goodGranule, granuleOf}
+use Rattle.path.specs.Geometry.{Granule, goodGranule, granuleOf, pageSize}
+use Rattle.path.specs.Laws.{granule-page}
 use Rattle.path.specs.Areas.{Area, total}
 use Rattle.path.specs.Numbers.{noSetup, setupOf, goodNumbers}
 use Rattle.model.specs.Answers.{Mapping, Answer, answered, refusal, formatted, refused, Pool, pool, Done, done, refuse}
@@ -80,19 +82,38 @@ module _ (number levels : ℕ) (area : Area) (ws : List ℕ) (cut : ℕ) (list i
         → done (c .answer) (f .after) ≡ restoreN number levels area ws cut list image
     restore-stopped c r a = sym (restore-played c r ∙ ap (λ (x : Bool). asDone (cond x c (came (c .answer) (f .after)))) a)
 
-    -- format of other memory that is as long leaves the same
-    pub format-same : (ws′ list′ : List ℕ) (g : Done) → g ≡ formatN number levels area ws′ cut list′ → length ws′ ≡ length ws → length list′ ≡ length list → g ≡ f
-    unfolding formatN formatW
-    format-same ws′ list′ g h l m = go (goodNumbers G levels area cut (length ws) (length list)) refl
-      where
-        fresh : ℕ → Done
-        fresh n = done formatted (pool (setupOf G levels area (total area - 1)) (replicate n 0) cut (down (total area)))
+    abbrev fresh : ℕ → ℕ → Done
+    fresh long cut′ = done formatted (pool (setupOf G levels area (total area - 1)) (replicate long 0) cut′ (down (total area)))
 
-        go : (x : Bool) → goodNumbers G levels area cut (length ws) (length list) ≡ x → g ≡ f
-        go true t =
-            let t′ : goodNumbers G levels area cut (length ws′) (length list′) ≡ true = (λ i. goodNumbers G levels area cut (l i) (m i)) ∙ t in
-            h ∙ rw (named, t′) (ap fresh l) ∙ sym (e ∙ rw (named, t))
-        go false t =
-            let r : f ≡ refuse 1 (pool noSetup ws cut list) = e ∙ rw (named, t) in
-            let a = ap (λ (d : Done). d .answer) r in
-            let z : _≡_ {A = ℕ} 0 1 = cc in absurd (omega arith)
+    good : goodNumbers G levels area cut (length ws) (length list) ≡ true
+    unfolding formatN formatW
+    good =
+        let r : f ≡ cond (goodNumbers G levels area cut (length ws) (length list)) (fresh (length ws) cut) (refuse 1 (pool noSetup ws cut list)) = e ∙ rw named in
+        go (goodNumbers G levels area cut (length ws) (length list)) (sym q ∙ ap (λ (d : Done). d .answer) r)
+      where
+        go : (x : Bool) → formatted ≡ cond x (fresh (length ws) cut) (refuse 1 (pool noSetup ws cut list)) .answer → x ≡ true
+        go true r = refl
+        go false r = let z : _≡_ {A = ℕ} 0 1 = cc in absurd (omega arith)
+
+    fresh-is : f ≡ fresh (length ws) cut
+    unfolding formatN formatW
+    fresh-is = e ∙ rw (named, good)
+
+    -- the numbers that it hands back
+    pub fresh-granule : f .after .numbers .granule ≡ number
+    fresh-granule = ap (λ (d : Done). d .after .numbers .granule) fresh-is ∙ sym (eqb-true number (pageSize G) (sym (granule-page number) ∙ named))
+
+    pub fresh-levels : f .after .numbers .levels ≡ levels
+    fresh-levels = ap (λ (d : Done). d .after .numbers .levels) fresh-is
+
+    -- format of other memory that is as long leaves the same
+    pub format-same : (ws′ : List ℕ) (cut′ : ℕ) (list′ : List ℕ) (g : Done) → g ≡ formatN number levels area ws′ cut′ list′
+        → length ws′ ≡ length ws → cut′ ≡ cut → length list′ ≡ length list → g ≡ f
+    unfolding formatN formatW
+    format-same ws′ cut′ list′ g h l m n =
+        let t : goodNumbers G levels area cut′ (length ws′) (length list′) ≡ true = (λ i. goodNumbers G levels area (m i) (l i) (n i)) ∙ good in
+        h ∙ rw (named, t) (λ i. fresh (l i) (m i)) ∙ sym fresh-is
+
+-- two runs that are as long as two others are as long together
+pub both-long : (a b c d : List ℕ) → length a ≡ length c → length b ≡ length d → length (a ++ b) ≡ length (c ++ d)
+both-long a b c d e f = omega (arith, length-append a b, length-append c d)

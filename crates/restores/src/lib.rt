@@ -56,7 +56,16 @@ fn record_map(
     let e = entry::frame_at(s.granule, word, height);
     match e {
         Entry::Frame { base, attributes } => {
-            maps::map(s, words, second, list, place - power, base, size, attributes)
+            maps::map(
+                s,
+                words,
+                second,
+                list,
+                place - power,
+                base,
+                size,
+                attributes,
+            )
         }
         Entry::Empty => not_mapped(8, s),
         Entry::Table(_) => not_mapped(8, s),
@@ -68,10 +77,7 @@ fn record_map(
 fn stopped(answer: RestoreAnswer, s: Setup) -> Restored
     ensures { λ r. ⌜ (r .answer ≡ answer) × (r .setup ≡ s) ⌝ }
 {
-    Restored {
-        answer,
-        setup: s,
-    }
+    Restored { answer, setup: s }
 }
 
 // Maps the first n records of the block at a place of the image, up to the first that is refused.
@@ -196,7 +202,15 @@ pub fn restore(
         ≡ restoreN (s .granule) (s .levels) (areaOf s) (now (words .entry) ++ now (second .entry)) (length (now (words .entry))) (now (list .entry)) (now (image .entry)) ⌝ }
 {
     let fresh = formats::format(
-        s.levels, s.base, s.tables, s.base2, s.tables2, s.granule, words, second, list,
+        s.levels,
+        s.base,
+        s.tables,
+        s.base2,
+        s.tables2,
+        s.granule,
+        words,
+        second,
+        list,
     );
     let a = fresh.answer;
     match a {
@@ -211,7 +225,15 @@ pub fn restore(
         return r;
     }
     let again = formats::format(
-        s.levels, s.base, s.tables, s.base2, s.tables2, s.granule, words, second, list,
+        s.levels,
+        s.base,
+        s.tables,
+        s.base2,
+        s.tables2,
+        s.granule,
+        words,
+        second,
+        list,
     );
     stopped(b, again.setup)
 }

@@ -21,8 +21,7 @@ abbrev μ-loop : tie.MeasureT-loop
 
 loop-holds : tie.Need-loop-holds Inv-loop μ-loop
 loop-holds c =
-    let block = c .before .args .block .now in
-    (
+    let block = c .before .args .block .now in (
       omega arith,
       (
         ap (λ (x : ℕ). x % 2 ^ 64) (sym (summed-end (wordsIn block) 63 (length-words-in block))),
@@ -54,8 +53,7 @@ loop-again c =
     let block = c .before .before .before .before .before .before .args .block .now in
     let i : l .i ≡ suc (l .i - 1) = omega arith in
     let s = turn-sum block (l .i - 1) (l .sum) (c .before .before .word-in .result) (c .before .wrapping-add-u64 .result) (omega arith) (l .inv .1 .0 ∙ ap (λ (n : ℕ). summed (drop n (wordsIn block)) % 2 ^ 64) i)
-    (c .before .before .word-in .ensures) (c .before .wrapping-add-u64 .ensures) in
-    (
+    (c .before .before .word-in .ensures) (c .before .wrapping-add-u64 .ensures) in (
       omega arith,
       (
         s,

@@ -55,8 +55,7 @@ loop-less c = search needs
 loop-again : tie.Need-loop-again Inv-loop μ-loop
 loop-again c =
     let l = c .before .before .before .loop in
-    let a = c .before .before .before .before .before .args in
-    (
+    let a = c .before .before .before .before .before .args in (
       search needs,
       order-on (a .block .now) (a .n) (l .next) (l .i) (c .before .word-in .result) (omega arith) (omega arith) (c .before .word-in .ensures) (c .if1 .left) ∙ l .inv .1,
     )

@@ -66,8 +66,7 @@ loop-again c =
     let l = c .before .before .before .before .before .before .before .before .before .before .before .loop in
     let a = c .before .before .before .before .before .before .before .before .before .before .before .before .before .before .before .args in
     let b = c .before .before .before .before .before .before .before .put-word .last .0 in
-    let one : length b ≡ 512 = placed-long (l .block) (16 * l .i + 8) (getD (a .places .now) (l .i) 0) (c .before .before .before .before .before .before .before .put-word .ensures) (l .inv .1 .1) (omega arith) in
-    (
+    let one : length b ≡ 512 = placed-long (l .block) (16 * l .i + 8) (getD (a .places .now) (l .i) 0) (c .before .before .before .before .before .before .before .put-word .ensures) (l .inv .1 .1) (omega arith) in (
       search needs,
       (
         c .before .before .put-word2 .ensures

@@ -102,8 +102,7 @@ loop-again c =
     let d = mapDid (m .result) (m .last .1 .0) (m .last .1 .1 .0) (a .list .now) in
     let q : d ≡ asDone (restoreOne G (mapPool G) p (meant G (rec (c .before .before .before .before .before .before .before .before .before .before .before .word .result) (c .before .before .before .before .before .before .before .before .before .before .word2 .result)))) =
     subst (λ (g : ℕ). d ≡ asDone (restoreOne (granuleOf g) (mapPool (granuleOf g)) p (meant (granuleOf g) (rec (c .before .before .before .before .before .before .before .before .before .before .before .word .result) (c .before .before .before .before .before .before .before .before .before .before .word2 .result))))) (l .inv .1 .0) (m .ensures) in
-    let all = restoreRecs G (mapPool G) (pool (a .s) (a .words .now ++ a .second .now) (length (a .words .now)) (a .list .now)) (recordsAt (a .image .now) (a .at) (a .n)) in
-    (
+    let all = restoreRecs G (mapPool G) (pool (a .s) (a .words .now ++ a .second .now) (length (a .words .now)) (a .list .now)) (recordsAt (a .image .now) (a .at) (a .n)) in (
       search needs,
       (
         turn-granule G (a .image .now) (a .at) (a .n) (c .before .before .before .before .before .before .before .before .before .before .before .before .before .before .before .before .before .before .pre .0) (c .before .before .before .before .before .before .before .before .before .before .before .before .before .before .before .before .before .before .pre .1) all p (l .i) (c .before .before .before .before .before .before .before .before .before .before .before .word .result) (c .before .before .before .before .before .before .before .before .before .before .word2 .result) (omega arith) (c .before .before .before .before .before .before .before .before .before .before .before .word .ensures) (c .before .before .before .before .before .before .before .before .before .before .word2 .ensures) (l .inv .1 .1 .1 .1) d q ∙ l .inv .1 .0,
