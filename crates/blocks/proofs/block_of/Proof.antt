@@ -1,17 +1,11 @@
 -- `blocks::block_of`: the tests of block k, one after the other.
-use mathlib.Core.Path.{_≡_, refl, sym, ap, _∙_}
-use native.Mathlib.Omega.{arith}
+use mathlib.Core.Path.{refl}
 use borrow.Author.Needs.{needs}
 use Prim.Native.Nat.{_+_, _*_, _^_}
 use borrow.Author.Tests.{not-true, not-false}
 use Rattle.blocks.proofs.Blocks.{block-broken, block-number, block-good}
 use Rattle.blocks.proofs.block_of.Statement.{statement}
 use Rattle.blocks.proofs.block_of.Tie as tie
-use Rattle.blocks.proofs.block_of.Reads as reads
-use Rattle.blocks.proofs.block_of.Lts as lts
-use Rattle.blocks.proofs.is_whole.Reads as is-whole-reads
-use Rattle.blocks.proofs.order_of.Reads as order-of-reads
-use Rattle.blocks.proofs.word_in.Reads as word-in-reads
 
 mul-is-whole : tie.Need-mul-is-whole
 mul-is-whole c = search needs

@@ -1,4 +1,5 @@
-use mathlib.Core.Path.{_≡_, refl, sym, ap, _∙_}
+-- `blocks::check_of`: from word i on the words and the sums are added up, modulo 2^64.
+use mathlib.Core.Path.{_≡_, sym, ap, _∙_}
 use native.Mathlib.Omega.{arith}
 use borrow.Author.Needs.{needs}
 use Prim.Native.Nat.{ℕ, suc, _-_, _%_, _^_, _≤_}
@@ -6,11 +7,6 @@ use lib.ListN.{drop}
 use Rattle.blocks.proofs.Sums.{summed, sumsOf, summed-end, sums-end, wordsIn, length-words-in, turn-sum, turn-sums, turn-last}
 use Rattle.blocks.proofs.check_of.Statement.{statement}
 use Rattle.blocks.proofs.check_of.Tie as tie
-use Rattle.blocks.proofs.check_of.Reads as reads
-use Rattle.blocks.proofs.check_of.Lts as lts
-use Rattle.blocks.proofs.word_in.Reads as word-in-reads
-use Rattle.std.proofs.num.wrapping_add_u64.Reads as wrapping-add-u64-reads
-use Rattle.std.proofs.num.wrapping_sub_u64.Reads as wrapping-sub-u64-reads
 
 abbrev Inv-loop : tie.InvT-loop
 Inv-loop block sum₀ sums₀ i₀ sum sums i =

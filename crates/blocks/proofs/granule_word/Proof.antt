@@ -1,13 +1,9 @@
 -- `blocks::granule_word`: 16 KiB or not.
-use mathlib.Core.Path.{_≡_, refl, sym, ap, _∙_}
-use native.Mathlib.Omega.{arith}
-use borrow.Author.Needs.{needs}
+use mathlib.Core.Path.{sym, ap, _∙_}
 use Rattle.path.specs.Laws.{granule-sixteen, granule-four}
 use Rattle.image.specs.Images.{granuleWord}
 use Rattle.blocks.proofs.granule_word.Statement.{statement}
 use Rattle.blocks.proofs.granule_word.Tie as tie
-use Rattle.blocks.proofs.granule_word.Reads as reads
-use Rattle.blocks.proofs.granule_word.Lts as lts
 
 returns : tie.Need-returns
 returns c = c .if1 .taken ∙ ap granuleWord (sym (granule-sixteen (c .if1 .taken)))

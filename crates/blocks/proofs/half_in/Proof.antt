@@ -1,12 +1,9 @@
-use mathlib.Core.Path.{_≡_, refl, sym, ap, _∙_}
+-- `blocks::half_in`: four bytes.
 use native.Mathlib.Omega.{arith}
 use borrow.Author.Needs.{needs}
 use Rattle.blocks.proofs.Words.{half-is}
 use Rattle.blocks.proofs.half_in.Statement.{statement}
 use Rattle.blocks.proofs.half_in.Tie as tie
-use Rattle.blocks.proofs.half_in.Reads as reads
-use Rattle.blocks.proofs.half_in.Lts as lts
-use Rattle.blocks.proofs.wide.Reads as wide-reads
 
 shared-slice-read-wide : tie.Need-shared-slice-read-wide
 shared-slice-read-wide c = search needs

@@ -1,15 +1,10 @@
 -- `blocks::head_of`: the tests of block 0, one after the other.
-use mathlib.Core.Path.{_≡_, refl, sym, ap, _∙_}
 use native.Mathlib.Omega.{arith}
 use borrow.Author.Needs.{needs}
 use borrow.Author.Tests.{not-true, not-false}
 use Rattle.blocks.proofs.Blocks.{head-broken, head-number, head-levels, head-many, head-granule, head-good}
 use Rattle.blocks.proofs.head_of.Statement.{statement}
 use Rattle.blocks.proofs.head_of.Tie as tie
-use Rattle.blocks.proofs.head_of.Reads as reads
-use Rattle.blocks.proofs.head_of.Lts as lts
-use Rattle.blocks.proofs.is_whole.Reads as is-whole-reads
-use Rattle.blocks.proofs.word_in.Reads as word-in-reads
 
 is-whole-requires : tie.Need-is-whole-requires
 is-whole-requires c κs = search needs

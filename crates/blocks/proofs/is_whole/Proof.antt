@@ -1,15 +1,8 @@
 -- `blocks::is_whole`: the check, then the zeros.
-use mathlib.Core.Path.{_≡_, refl, sym, ap, _∙_}
-use native.Mathlib.Omega.{arith}
 use borrow.Author.Needs.{needs}
 use Rattle.blocks.proofs.Blocks.{not-whole, is-whole}
 use Rattle.blocks.proofs.is_whole.Statement.{statement}
 use Rattle.blocks.proofs.is_whole.Tie as tie
-use Rattle.blocks.proofs.is_whole.Reads as reads
-use Rattle.blocks.proofs.is_whole.Lts as lts
-use Rattle.blocks.proofs.check_of.Reads as check-of-reads
-use Rattle.blocks.proofs.word_in.Reads as word-in-reads
-use Rattle.blocks.proofs.zeros_from.Reads as zeros-from-reads
 
 mul-word-in : tie.Need-mul-word-in
 mul-word-in c = search needs

@@ -1,4 +1,5 @@
-use mathlib.Core.Path.{_≡_, refl, sym, ap, _∙_}
+-- `blocks::order_of`: the bases of the records passed rise.
+use mathlib.Core.Path.{_≡_, _∙_}
 use native.Mathlib.Omega.{arith}
 use borrow.Author.Needs.{needs}
 use Prim.Native.Nat.{_-_, _≤_}
@@ -9,9 +10,6 @@ use Rattle.blocks.specs.Reads.{inOrder}
 use Rattle.blocks.proofs.Turns.{orderAt, order-on, order-off, order-end, order-start}
 use Rattle.blocks.proofs.order_of.Statement.{statement}
 use Rattle.blocks.proofs.order_of.Tie as tie
-use Rattle.blocks.proofs.order_of.Reads as reads
-use Rattle.blocks.proofs.order_of.Lts as lts
-use Rattle.blocks.proofs.word_in.Reads as word-in-reads
 
 abbrev Inv-loop : tie.InvT-loop
 Inv-loop block n low next₀ i₀ next i = (i ≤ n) × (orderAt block n next i ≡ inOrder low (recsIn n (drop 1 (wordsOf 64 block))))

@@ -1,14 +1,10 @@
 -- `blocks::put_block`: the block, where there is room.
-use mathlib.Core.Path.{_≡_, refl, sym, ap, _∙_}
 use native.Mathlib.Omega.{arith}
 use borrow.Author.Needs.{needs}
 use Prim.Native.Nat.{_+_, _*_, _^_}
 use Rattle.blocks.proofs.Stores.{written-none, written-there}
 use Rattle.blocks.proofs.put_block.Statement.{statement}
 use Rattle.blocks.proofs.put_block.Tie as tie
-use Rattle.blocks.proofs.put_block.Reads as reads
-use Rattle.blocks.proofs.put_block.Lts as lts
-use Rattle.blocks.proofs.put_words.Reads as put-words-reads
 
 returns : tie.Need-returns
 returns c = written-none (c .before .before .args .at) (c .before .before .args .k + 2 ^ 32 * c .before .before .args .n) (c .before .before .args .t5) (c .before .before .args .t6) (c .before .before .args .image .now) (omega arith)

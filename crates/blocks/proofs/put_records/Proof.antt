@@ -1,5 +1,5 @@
 -- `blocks::put_records`: after i turns the first i numbers of each run are written.
-use mathlib.Core.Path.{_≡_, refl, sym, ap, _∙_}
+use mathlib.Core.Path.{_≡_, ap, _∙_}
 use native.Mathlib.Omega.{arith}
 use borrow.Author.Needs.{needs}
 use Prim.Native.Nat.{ℕ, _+_, _*_, _-_, _≤_}
@@ -10,9 +10,6 @@ use Rattle.blocks.specs.Writes.{placed}
 use Rattle.blocks.proofs.Stores.{filled, filled-none, filled-more, filled-all, placed-long}
 use Rattle.blocks.proofs.put_records.Statement.{statement}
 use Rattle.blocks.proofs.put_records.Tie as tie
-use Rattle.blocks.proofs.put_records.Reads as reads
-use Rattle.blocks.proofs.put_records.Lts as lts
-use Rattle.blocks.proofs.put_word.Reads as put-word-reads
 
 abbrev Inv-loop : tie.InvT-loop
 Inv-loop block₀ places entries i₀ block i = (i ≤ 31) × ((block ≡ filled block₀ places entries i) × (length block ≡ 512))

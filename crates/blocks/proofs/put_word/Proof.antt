@@ -1,14 +1,10 @@
 -- `blocks::put_word`: eight stores, one after the other.
-use mathlib.Core.Path.{_≡_, refl, sym, ap, _∙_}
 use native.Mathlib.Omega.{arith}
 use borrow.Author.Needs.{needs}
 use lib.ListN.{length-set}
 use Rattle.blocks.proofs.Stores.{eight-stores}
 use Rattle.blocks.proofs.put_word.Statement.{statement}
 use Rattle.blocks.proofs.put_word.Tie as tie
-use Rattle.blocks.proofs.put_word.Reads as reads
-use Rattle.blocks.proofs.put_word.Lts as lts
-use Rattle.blocks.proofs.low_byte.Reads as low-byte-reads
 
 low-byte-requires : tie.Need-low-byte-requires
 low-byte-requires c κs = search needs

@@ -1,5 +1,5 @@
 -- `blocks::put_words`: word 0, the records, the check.
-use mathlib.Core.Path.{_≡_, refl, sym, ap, _∙_}
+use mathlib.Core.Path.{ap, _∙_}
 use native.Mathlib.Omega.{arith}
 use borrow.Author.Needs.{needs}
 use Prim.Native.Nat.{ℕ}
@@ -9,11 +9,6 @@ use Rattle.blocks.specs.Writes.{pairs, placed}
 use Rattle.blocks.proofs.Stores.{whole-block, words-below-top}
 use Rattle.blocks.proofs.put_words.Statement.{statement}
 use Rattle.blocks.proofs.put_words.Tie as tie
-use Rattle.blocks.proofs.put_words.Reads as reads
-use Rattle.blocks.proofs.put_words.Lts as lts
-use Rattle.blocks.proofs.check_of.Reads as check-of-reads
-use Rattle.blocks.proofs.put_records.Reads as put-records-reads
-use Rattle.blocks.proofs.put_word.Reads as put-word-reads
 
 put-word-requires : tie.Need-put-word-requires
 put-word-requires c κs = search needs

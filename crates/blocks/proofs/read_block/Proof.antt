@@ -1,5 +1,5 @@
 -- `blocks::read_block`: block k, where it is there.
-use mathlib.Core.Path.{_≡_, refl, sym, ap, _∙_}
+use mathlib.Core.Path.{_∙_}
 use native.Mathlib.Omega.{arith}
 use borrow.Author.Needs.{needs}
 use Rattle.image.specs.Bytes.{wordsOf}
@@ -8,10 +8,6 @@ use Rattle.blocks.proofs.Blocks.{block-part, block-long, block-missing,
 use Rattle.blocks.proofs.Blocks.{block-missing, block-there}
 use Rattle.blocks.proofs.read_block.Statement.{statement}
 use Rattle.blocks.proofs.read_block.Tie as tie
-use Rattle.blocks.proofs.read_block.Reads as reads
-use Rattle.blocks.proofs.read_block.Lts as lts
-use Rattle.blocks.proofs.block_of.Reads as block-of-reads
-use Rattle.blocks.proofs.records_in.Reads as records-in-reads
 
 returns : tie.Need-returns
 returns c = block-missing (c .before .before .args .at) (c .before .before .args .k) (c .before .before .args .left) (c .before .before .args .low) (c .before .before .args .image .now) (omega arith)

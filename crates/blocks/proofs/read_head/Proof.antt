@@ -1,5 +1,5 @@
 -- `blocks::read_head`: block 0, where it is there.
-use mathlib.Core.Path.{_≡_, refl, sym, ap, _∙_}
+use mathlib.Core.Path.{ap, _∙_}
 use native.Mathlib.Omega.{arith}
 use borrow.Author.Needs.{needs}
 use Prim.Native.Nat.{ℕ}
@@ -11,10 +11,6 @@ use Rattle.blocks.specs.Reads.{headIn}
 use Rattle.blocks.proofs.Blocks.{block-long, head-missing, head-there}
 use Rattle.blocks.proofs.read_head.Statement.{statement}
 use Rattle.blocks.proofs.read_head.Tie as tie
-use Rattle.blocks.proofs.read_head.Reads as reads
-use Rattle.blocks.proofs.read_head.Lts as lts
-use Rattle.blocks.proofs.granule_word.Reads as granule-word-reads
-use Rattle.blocks.proofs.head_of.Reads as head-of-reads
 
 returns : tie.Need-returns
 returns c = head-missing (c .before .before .args .levels) _ (c .before .before .args .image .now) (c .if1 .taken)

@@ -1,4 +1,4 @@
-use mathlib.Core.Path.{_≡_, refl, sym, ap, _∙_}
+-- `blocks::word`: the word, where its bytes are there.
 use native.Mathlib.Omega.{arith}
 use borrow.Author.Needs.{needs}
 use Prim.Native.Nat.{_+_}
@@ -7,9 +7,6 @@ use lib.ListN.{length}
 use Rattle.blocks.specs.Reads.{wordRead}
 use Rattle.blocks.proofs.word.Statement.{statement}
 use Rattle.blocks.proofs.word.Tie as tie
-use Rattle.blocks.proofs.word.Reads as reads
-use Rattle.blocks.proofs.word.Lts as lts
-use Rattle.blocks.proofs.word_in.Reads as word-in-reads
 
 returns : tie.Need-returns
 unfolding wordRead

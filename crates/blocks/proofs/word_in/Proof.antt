@@ -1,12 +1,9 @@
-use mathlib.Core.Path.{_≡_, refl, sym, ap, _∙_}
+-- `blocks::word_in`: four bytes and four.
 use native.Mathlib.Omega.{arith}
 use borrow.Author.Needs.{needs}
 use Rattle.blocks.proofs.Words.{word-is}
 use Rattle.blocks.proofs.word_in.Statement.{statement}
 use Rattle.blocks.proofs.word_in.Tie as tie
-use Rattle.blocks.proofs.word_in.Reads as reads
-use Rattle.blocks.proofs.word_in.Lts as lts
-use Rattle.blocks.proofs.half_in.Reads as half-in-reads
 
 half-in-requires : tie.Need-half-in-requires
 half-in-requires c κs = search needs

@@ -1,13 +1,11 @@
-use mathlib.Core.Path.{_≡_, refl, sym, ap, _∙_}
+-- `blocks::zeros_from`: the words passed are 0.
+use mathlib.Core.Path.{_≡_, refl, _∙_}
 use native.Mathlib.Omega.{arith}
 use borrow.Author.Needs.{needs}
 use Prim.Native.Nat.{_-_, _≤_}
 use Rattle.blocks.proofs.Turns.{zerosAt, zeros-on, zeros-off, zeros-end}
 use Rattle.blocks.proofs.zeros_from.Statement.{statement}
 use Rattle.blocks.proofs.zeros_from.Tie as tie
-use Rattle.blocks.proofs.zeros_from.Reads as reads
-use Rattle.blocks.proofs.zeros_from.Lts as lts
-use Rattle.blocks.proofs.word_in.Reads as word-in-reads
 
 abbrev Inv-loop : tie.InvT-loop
 Inv-loop block at i₀ i = (i ≤ 63) × (zerosAt block i ≡ zerosAt block at)

@@ -17,13 +17,6 @@ use Rattle.restores.proofs.Turns.{read-bad, read-long, read-good, play-
 use Rattle.restores.proofs.Records.{recs-granule}
 use Rattle.restores.proofs.blocks_map.Statement.{statement}
 use Rattle.restores.proofs.blocks_map.Tie as tie
-use Rattle.restores.proofs.blocks_map.Reads as reads
-use Rattle.restores.proofs.blocks_map.Lts as lts
-use Rattle.blocks.proofs.read_block.Reads as read-block-reads
-use Rattle.blocks.proofs.records_in.Reads as records-in-reads
-use Rattle.restores.proofs.is_done.Reads as is-done-reads
-use Rattle.restores.proofs.records_map.Reads as records-map-reads
-use Rattle.restores.proofs.stopped.Reads as stopped-reads
 
 abbrev Inv-loop : tie.InvT-loop
 Inv-loop words₀ second₀ list image count last₀ at₀ k₀ left₀ low₀ words second last at k left low =

@@ -1,6 +1,5 @@
 -- `restores::image_map`: block 0, and then the others.
-use mathlib.Core.Path.{_≡_, refl, sym, ap, _∙_}
-use native.Mathlib.Omega.{arith}
+use mathlib.Core.Path.{sym, ap, _∙_}
 use borrow.Author.Needs.{needs}
 use mathlib.Core.List.{_++_}
 use lib.ListN.{length}
@@ -13,11 +12,6 @@ use Rattle.restores.specs.Plays.{asDone, playFrom}
 use Rattle.restores.proofs.Turns.{play-bad, head-bad, head-long, head-few, head-good}
 use Rattle.restores.proofs.image_map.Statement.{statement}
 use Rattle.restores.proofs.image_map.Tie as tie
-use Rattle.restores.proofs.image_map.Reads as reads
-use Rattle.restores.proofs.image_map.Lts as lts
-use Rattle.blocks.proofs.read_head.Reads as read-head-reads
-use Rattle.restores.proofs.blocks_map.Reads as blocks-map-reads
-use Rattle.restores.proofs.stopped.Reads as stopped-reads
 
 read-head-requires : tie.Need-read-head-requires
 read-head-requires c κs = search needs

@@ -1,8 +1,8 @@
 -- `restores::record_map`: what the record says, and then map.
-use mathlib.Core.Path.{_≡_, refl, sym, ap, _∙_}
+use mathlib.Core.Path.{_∙_}
 use native.Mathlib.Omega.{arith}
 use borrow.Author.Needs.{needs}
-use Prim.Native.Nat.{_%_, _^_}
+use Prim.Native.Nat.{_%_}
 use mathlib.Core.List.{_++_}
 use lib.ListN.{length}
 use Rattle.path.specs.Geometry.{granuleOf}
@@ -13,13 +13,6 @@ use Rattle.entry.specs.declared.Entry.the-variants.{Empty, Damaged}
 use Rattle.restores.proofs.Records.{power-bad, shifted, height-bad, height-good, one-none, one-mapped}
 use Rattle.restores.proofs.record_map.Statement.{statement}
 use Rattle.restores.proofs.record_map.Tie as tie
-use Rattle.restores.proofs.record_map.Reads as reads
-use Rattle.restores.proofs.record_map.Lts as lts
-use Rattle.entry.proofs.frame_at.Reads as frame-at-reads
-use Rattle.maps.proofs.map.Reads as map-reads
-use Rattle.path.proofs.height_of.Reads as height-of-reads
-use Rattle.path.proofs.large_of.Reads as large-of-reads
-use Rattle.restores.proofs.not_mapped.Reads as not-mapped-reads
 
 not-mapped-requires : tie.Need-not-mapped-requires
 not-mapped-requires c κs = search needs

@@ -1,5 +1,5 @@
 -- `restores::records_map`: the records from record i on come to what all of them come to.
-use mathlib.Core.Path.{_≡_, refl, sym, ap, _∙_}
+use mathlib.Core.Path.{_≡_, refl, ap, _∙_}
 use native.Mathlib.Omega.{arith}
 use borrow.Author.Needs.{needs}
 use Prim.Native.Nat.{_-_, _≤_}
@@ -18,11 +18,6 @@ use Rattle.image.specs.Images.{saysRestore}
 use Rattle.restores.proofs.Records.{turn-on, turn-off, turn-granule, turn-end}
 use Rattle.restores.proofs.records_map.Statement.{statement}
 use Rattle.restores.proofs.records_map.Tie as tie
-use Rattle.restores.proofs.records_map.Reads as reads
-use Rattle.restores.proofs.records_map.Lts as lts
-use Rattle.blocks.proofs.word.Reads as word-reads
-use Rattle.restores.proofs.record_map.Reads as record-map-reads
-use Rattle.restores.proofs.stopped.Reads as stopped-reads
 
 abbrev Inv-loop : tie.InvT-loop
 Inv-loop words₀ second₀ list image at n last₀ i₀ words second last i =

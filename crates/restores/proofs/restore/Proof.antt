@@ -1,6 +1,5 @@
 -- `restores::restore`: format, the image, and format again where that is refused.
-use mathlib.Core.Path.{_≡_, refl, sym, ap, _∙_}
-use native.Mathlib.Omega.{arith}
+use mathlib.Core.Path.{_≡_, sym, ap, _∙_}
 use borrow.Author.Needs.{needs}
 use mathlib.Core.List.{_++_}
 use lib.ListN.{length}
@@ -15,12 +14,6 @@ use Rattle.restores.proofs.Whole.{restore-refused, restore-done, restor
 use Rattle.restores.proofs.Turns.{came-of}
 use Rattle.restores.proofs.restore.Statement.{statement}
 use Rattle.restores.proofs.restore.Tie as tie
-use Rattle.restores.proofs.restore.Reads as reads
-use Rattle.restores.proofs.restore.Lts as lts
-use Rattle.formats.proofs.format.Reads as format-reads
-use Rattle.restores.proofs.image_map.Reads as image-map-reads
-use Rattle.restores.proofs.is_done.Reads as is-done-reads
-use Rattle.restores.proofs.stopped.Reads as stopped-reads
 
 format-requires : tie.Need-format-requires
 format-requires c κs = search needs
