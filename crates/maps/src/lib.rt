@@ -102,18 +102,19 @@ fn map_writes(
     let mut t = table;
     let mut i = 0;
     while i < need {
-        let c = pool::place(list, free - 1 - i);
+        let last = free - 1 - i;
+        let c = pool::place(list, last);
         let at = 3 - (height + need - i);
-        let place = pool::entry_place(granule, t, path[at]);
+        let link = pool::entry_place(granule, t, path[at]);
         let value = links::table_word(granule, base, tables, base2, c);
         pool::wipe(granule, words, second, c);
-        pool::put(words, second, place, value);
+        pool::put(words, second, link, value);
         t = c;
         i += 1;
     }
     let at = 3 - height;
-    let place = pool::entry_place(granule, t, path[at]);
-    pool::put(words, second, place, word);
+    let own = pool::entry_place(granule, t, path[at]);
+    pool::put(words, second, own, word);
 }
 
 // A refused map.

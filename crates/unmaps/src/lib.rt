@@ -77,15 +77,15 @@ fn unmap_writes(
         ≡ performAll (granuleOf granule) (unmapWrites (granuleOf granule) way path left free given) (memory (now (words .entry) ++ now (second .entry)) (now (list .entry))) ⌝ }
 {
     let at = 3 - left;
-    let place = pool::entry_place(granule, way[at], path[at]);
-    pool::put(words, second, place, 0);
+    let own = pool::entry_place(granule, way[at], path[at]);
+    pool::put(words, second, own, 0);
     let mut k = 0;
     while k < given {
         let at = 3 - (left + k);
         let table = way[at];
         let up = at - 1;
-        let place = pool::entry_place(granule, way[up], path[up]);
-        pool::put(words, second, place, 0);
+        let link = pool::entry_place(granule, way[up], path[up]);
+        pool::put(words, second, link, 0);
         pool::give(list, free + k, table);
         k += 1;
     }

@@ -24,11 +24,11 @@ loop-holds c =
     let a = c .before .before .before .args in
     (search needs, (refl, (refl, λ k e. linking-start (granuleOf (a .granule)) (a .base) (a .tables) (a .base2) (a .t8) (a .list .now) (a .height) (a .word) (a .table) (a .free) (a .need) (a .words .now ++ a .second .now))))
 
-sub-place : tie.Need-sub-place Inv-loop μ-loop
-sub-place c = omega arith
+sub-last : tie.Need-sub-last Inv-loop μ-loop
+sub-last c = omega arith
 
-sub-place-2 : tie.Need-sub-place-2 Inv-loop μ-loop
-sub-place-2 c = omega arith
+sub-last-2 : tie.Need-sub-last-2 Inv-loop μ-loop
+sub-last-2 c = omega arith
 
 place-requires : tie.Need-place-requires Inv-loop μ-loop
 place-requires c κs = omega arith
@@ -79,8 +79,8 @@ loop-again c =
         (
           put .kept .1 .0 ∙ wipe .kept .1 .1 .0 ∙ l .inv .1 .1 .0,
           λ k e. linking-next (l .inv .1 .1 .1 k e) (c .before .before .before .before .before .before .before .before .before .before .before .before .before .before .before .before .before .loop-test .taken) (c .before .before .before .before .before .before .before .before .before .before .before .before .before .before .before .before .place .ensures) (c .before .before .before .before .before .before .before .before .before .before .before .before .before .before .before .entry-place .ensures)
-          (λ m. link-word (areaAt (a .base) (a .tables) (a .base2) m) _ (p .0 .0) (p .0 .1) (c .before .before .before .before .before .before .before .before .before .before .before .before .before .before .table-word .ensures m))
-          (wipe .ensures k (l .inv .1 .0 ∙ e)) (put .ensures),
+              (λ m. link-word (areaAt (a .base) (a .tables) (a .base2) m) _ (p .0 .0) (p .0 .1) (c .before .before .before .before .before .before .before .before .before .before .before .before .before .before .table-word .ensures m))
+              (wipe .ensures k (l .inv .1 .0 ∙ e)) (put .ensures),
         ),
       ),
     )
@@ -118,8 +118,8 @@ map-writes-spec =
     Inv-loop
     μ-loop
     loop-holds
-    sub-place
-    sub-place-2
+    sub-last
+    sub-last-2
     place-requires
     add-at
     sub-at

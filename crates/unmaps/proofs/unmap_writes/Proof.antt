@@ -12,11 +12,11 @@ use Rattle.unmaps.proofs.unmap_writes.Statement.{statement}
 use Rattle.unmaps.proofs.unmap_writes.Tie as tie
 
 abbrev Inv-loop : tie.InvT-loop
-Inv-loop granule words₀ second₀ list₀ left free given way path at place k₀ words second list k =
+Inv-loop granule words₀ second₀ list₀ left free given way path at own k₀ words second list k =
     (length words ≡ length words₀) × ((length second ≡ length second₀) × ((length list ≡ length list₀) × Pruning (granuleOf granule) way path left free given (memory (words₀ ++ second₀) list₀) (memory (words ++ second) list) k))
 
 abbrev μ-loop : tie.MeasureT-loop
-μ-loop granule words₀ second₀ list₀ left free given way path at place k₀ words second list k = given - k
+μ-loop granule words₀ second₀ list₀ left free given way path at own k₀ words second list k = given - k
 
 sub-at : tie.Need-sub-at Inv-loop μ-loop
 sub-at c = omega arith
