@@ -1,4 +1,4 @@
--- The writes of a map, in their order, and the plan that they fill.
+-- The writes of a map, in their order, and the words as they are carried out.
 use Prim.Native.Nat.{ℕ, zero, suc, _+_, _-_, _*_, _≤_, _<_}
 use mathlib.Core.Path.{_≡_, refl, sym, ap, _∙_}
 use mathlib.Core.Bool.{Bool, true, false, cond}
@@ -9,15 +9,12 @@ use native.Mathlib.Omega.{arith}
 use lib.Dec.{ltb, leb}
 use lib.ListN.{getD, set}
 use borrow.Author.Tests.{le-leb}
-use Rattle.path.specs.Geometry.{Granule, physical}
+use Rattle.laws.specs.Lists.{zeroed}
+use Rattle.path.specs.Geometry.{Granule, entries, physical}
 use Rattle.path.specs.Areas.{Area, areaAt}
 use Rattle.entry.specs.Words.{tableWord}
 use Rattle.model.specs.Walk.{slot, atHeight}
-use Rattle.model.specs.Writes.{store, wipe, Memory, performAll, mapWrites}
-use Rattle.plans.specs.Plan.{planned}
-use Rattle.plans.specs.Fills.{Filling, nothing, filling-start, filling-next, filling-all, one-less}
-use Rattle.plans.specs.declared.Step.{Step}
-use Rattle.plans.specs.declared.Step.the-variants as S
+use Rattle.model.specs.Writes.{Write, store, wipe, Memory, memory, performAll, mapWrites}
 
 module _ (G : Granule) (area : Area) (path list : List ℕ) (g word : ℕ) where
   -- the next table is wiped, then linked
@@ -42,6 +39,9 @@ module _ (G : Granule) (area : Area) (path list : List ℕ) (g word : ℕ) where
 end-first : (n i : ℕ) → n - i - 1 ≡ n - 1 - i
 end-first n i = omega arith
 
+one-less : (n i : ℕ) → n - i - 1 ≡ n - (i + 1)
+one-less n i = omega arith
+
 height-left : (g : ℕ) {i need : ℕ} → i < need → need - i + g ≡ g + need - i
 height-left g h = omega arith
 
@@ -54,33 +54,35 @@ link-word area c {w} {x} l m e = go (ltb c (area .tables)) e
     go true e = rw (le-leb (area .base) physical l) at e
     go false e = rw (le-leb (area .base₂) physical m) at e
 
--- the loop: i tables are in the plan, and t is the last of them
-pub record Linking (G : Granule) (P N Q : ℕ) (path list : List ℕ) (g word table free need : ℕ) (plan : List Step) (t i : ℕ) : Type 0 where
-  pub few : i ≤ need
-  -- whatever the second region's table count
-  pub steps :
-      (m : ℕ)
-      → Filling plan (2 * i) (mapWrites G (areaAt P N Q m) path list g word t (free - i) (need - i)) (mapWrites G (areaAt P N Q m) path list g word table free need)
+-- the loop: i tables are linked, t is the last of them, and what is still to come makes of the words w what all writes make of w₀
+pub record Linking (G : Granule) (P N Q : ℕ) (path list : List ℕ) (g word table free need : ℕ) (w₀ w : List ℕ) (t i : ℕ) : Type 0 where
+  -- whatever the second region's table count, and whatever the free list becomes
+  pub same :
+      (m : ℕ) (l : List ℕ)
+      → performAll G (mapWrites G (areaAt P N Q m) path list g word t (free - i) (need - i)) (memory w l) .words
+      ≡ performAll G (mapWrites G (areaAt P N Q m) path list g word table free need) (memory w₀ l) .words
 
-pub linking-start : (G : Granule) (P N Q : ℕ) (path list : List ℕ) (g word table free need : ℕ) → Linking G P N Q path list g word table free need nothing table 0
-linking-start G P N Q path list g word table free need = record { few = omega arith; steps = λ m. rw (sub-zero free, sub-zero need) (filling-start _) }
+pub linking-start : (G : Granule) (P N Q : ℕ) (path list : List ℕ) (g word table free need : ℕ) (w : List ℕ) → Linking G P N Q path list g word table free need w w table 0
+linking-start G P N Q path list g word table free need w = record { same = λ m l. rw (sub-zero free, sub-zero need) }
 
-module _ {G : Granule} {P N Q : ℕ} {path list : List ℕ} {g word table free need : ℕ} {plan : List Step} {t i : ℕ}
-    (L : Linking G P N Q path list g word table free need plan t i) (most : need ≤ 3) where
-  pub linking-next : {c place value : ℕ} → i < need → c ≡ getD list (free - 1 - i) 0
+module _ {G : Granule} {P N Q : ℕ} {path list : List ℕ} {g word table free need : ℕ} {w₀ w : List ℕ} {t i : ℕ}
+    (L : Linking G P N Q path list g word table free need w₀ w t i) where
+  pub linking-next : {c place value : ℕ} {v u : List ℕ} → i < need → c ≡ getD list (free - 1 - i) 0
       → place ≡ slot G t (getD path (3 - (g + need - i)) 0) → ((m : ℕ) → value ≡ tableWord G (areaAt P N Q m) c)
-      → Linking G P N Q path list g word table free need (set (set plan (2 * i) (S.Wipe c)) (2 * i + 1) (S.Store place value)) c (i + 1)
-  linking-next {c} {place} {value} h p q r = record {
-    few = omega arith;
-    steps = λ m. rw two (filling-next (S.Store place value) (omega arith) (filling-next (S.Wipe c) (omega arith) (rw (more m) at (L .steps m))));
+      → v ≡ zeroed w (slot G c 0) (entries G) → u ≡ set v place value
+      → Linking G P N Q path list g word table free need w₀ u c (i + 1)
+  unfolding performAll
+  linking-next {c} {place} {value} {v} {u} h p q r wiped linked = record {
+    same = λ m l.
+        ap (λ (x : List ℕ). performAll G (rest m) (memory x l) .words) (linked ∙ ap (λ (x : List ℕ). set x place value) wiped)
+        ∙ sym (ap (λ (x : List Write). performAll G x (memory w l) .words) (more m))
+        ∙ L .same m l;
   }
     where
-      two : 2 * (i + 1) ≡ 2 * i + 1 + 1
-      two = omega arith
+      rest : ℕ → List Write
+      rest m = mapWrites G (areaAt P N Q m) path list g word c (free - (i + 1)) (need - (i + 1))
 
-      more : (m : ℕ)
-          → mapWrites G (areaAt P N Q m) path list g word t (free - i) (need - i)
-          ≡ wipe c ∷ store place value ∷ mapWrites G (areaAt P N Q m) path list g word c (free - (i + 1)) (need - (i + 1))
+      more : (m : ℕ) → mapWrites G (areaAt P N Q m) path list g word t (free - i) (need - i) ≡ wipe c ∷ store place value ∷ rest m
       more m =
           let e₀ = r m in
           let some : 0 < need - i = omega arith in
@@ -90,10 +92,11 @@ module _ {G : Granule} {P N Q : ℕ} {path list : List ℕ} {g word table free n
           let e₄ = height-left g h in
           cc (map-more G (areaAt P N Q m) path list g word t (free - i) (need - i) some)
 
-  pub linking-end : {place : ℕ} → need ≤ i → place ≡ slot G t (getD path (3 - g) 0)
-      → (m : ℕ) → planned (set plan (2 * need) (S.Store place word)) ≡ mapWrites G (areaAt P N Q m) path list g word table free need
-  linking-end {place} h q m =
-      let last : mapWrites G (areaAt P N Q m) path list g word t (free - i) (need - i) ≡ store place word ∷ [] =
-      map-last G (areaAt P N Q m) path list g word t (free - i) (need - i) (omega arith) ∙ ap (λ (j : ℕ). store j word ∷ []) (sym q) in
-      let all : 2 * need ≡ 2 * i = omega (arith, L .few) in
-      rw all (filling-all (filling-next (S.Store place word) (omega arith) (rw last at (L .steps m))))
+  pub linking-end : {place : ℕ} {v : List ℕ} → need ≤ i → place ≡ slot G t (getD path (3 - g) 0) → v ≡ set w place word
+      → (m : ℕ) (l : List ℕ) → v ≡ performAll G (mapWrites G (areaAt P N Q m) path list g word table free need) (memory w₀ l) .words
+  unfolding performAll
+  linking-end {place} {v} h q stored m l =
+      stored
+      ∙ ap (λ (j : ℕ). set w j word) q
+      ∙ sym (ap (λ (x : List Write). performAll G x (memory w l) .words) (map-last G (areaAt P N Q m) path list g word t (free - i) (need - i) (omega arith)))
+      ∙ L .same m l

@@ -1,25 +1,23 @@
-// Map. It makes every test first, then plans its single writes, then carries them out.
+// Map. It makes every test first, then its single writes, in their order.
 use entry::Entry;
 use model::MapAnswer;
 use model::Mapped;
 use path::Setup;
-use plans::Step;
 ghost use mathlib.Core.Path.{_≡_};
 ghost use mathlib.Core.Bool.{true};
-ghost use mathlib.Core.List.{_++_};
-ghost use Prim.Native.Nat.{ℕ, _+_, _-_, _≤_};
+ghost use mathlib.Core.List.{List, _++_};
+ghost use Prim.Native.Nat.{ℕ, _+_, _-_, _*_, _≤_};
 ghost use lib.ListN.{length};
-ghost use Rattle.path.specs.Geometry.{granuleOf, physical, heightOf};
+ghost use Rattle.path.specs.Geometry.{granuleOf, entries, physical, heightOf};
 ghost use Rattle.path.specs.Areas.{areaAt, areaOf};
 ghost use Rattle.path.specs.Numbers.{goodSetup};
 ghost use Rattle.entry.specs.Words.{frameWord};
 ghost use Rattle.entry.specs.declared.Entry.the-variants.{Empty};
 ghost use Rattle.model.specs.Answers.{saysMap, refused, pool, mapDid};
 ghost use Rattle.model.specs.Walk.{stop};
-ghost use Rattle.model.specs.Writes.{mapWrites, mayTake};
+ghost use Rattle.model.specs.Writes.{memory, performAll, mapWrites, mayTake};
 ghost use Rattle.model.specs.Calls.{mapTests, mapHere, mapW};
 ghost use Rattle.lookup.specs.Walks.{walkBy};
-ghost use Rattle.plans.specs.Plan.{planned};
 ghost use Rattle.maps.specs.Parts.{metBy, mapFrom};
 
 // Map's tests 2 to 5 and then 11, or 0, for a size of this height.
@@ -81,39 +79,42 @@ fn may_take(list: &[u32], tables: u32, way: [u32; 4], free: usize, need: usize) 
 
 // The writes of a map: each missing table is taken from the end of the free list, top first, filled with zeros and then linked; the frame's word comes
 // last.
-fn map_plan(
+fn map_writes(
     granule: u64,
     base: u64,
     tables: u16,
     base2: u64,
-    path: [u16; 4],
+    words: &mut [u64],
+    second: &mut [u64],
     list: &[u32],
+    path: [u16; 4],
     height: usize,
     word: u64,
     table: u32,
     free: usize,
     need: usize,
-) -> [Step; plans::STEPS]
+)
     requires { ⌜ ((base ≤ physical) × (base2 ≤ physical)) × ((height + need ≤ 3) × (need ≤ free)) ⌝ }
-    ensures { λ r. ⌜ ((m : ℕ) → planned r ≡ mapWrites (granuleOf granule) (areaAt base tables base2 m) path (now (list .entry)) height word table free need) ⌝ }
+    ensures { λ _. ⌜ ((k : ℕ) → length (now (words .entry)) ≡ entries (granuleOf granule) * k → (m : ℕ) (l : List ℕ)
+        → now (words .exit) ++ now (second .exit)
+        ≡ performAll (granuleOf granule) (mapWrites (granuleOf granule) (areaAt base tables base2 m) path (now (list .entry)) height word table free need) (memory (now (words .entry) ++ now (second .entry)) l) .words) ⌝ }
 {
-    let mut plan = [Step::Nothing; plans::STEPS];
     let mut t = table;
     let mut i = 0;
     while i < need {
-        let c = pool::place(list, free - 1 - i);
+        let last = free - 1 - i;
+        let c = pool::place(list, last);
         let at = 3 - (height + need - i);
-        let place = pool::entry_place(granule, t, path[at]);
+        let link = pool::entry_place(granule, t, path[at]);
         let value = links::table_word(granule, base, tables, base2, c);
-        plan[2 * i] = Step::Wipe { table: c };
-        plan[2 * i + 1] = Step::Store { place, value };
+        pool::wipe(granule, words, second, c);
+        pool::put(words, second, link, value);
         t = c;
         i += 1;
     }
     let at = 3 - height;
-    let place = pool::entry_place(granule, t, path[at]);
-    plan[2 * need] = Step::Store { place, value: word };
-    plan
+    let own = pool::entry_place(granule, t, path[at]);
+    pool::put(words, second, own, word);
 }
 
 // A refused map.
@@ -153,20 +154,21 @@ fn map_empty(
     }
     let path = indices::path_of(s.granule, address);
     let at = 3 - left;
-    let plan = map_plan(
+    map_writes(
         s.granule,
         s.base,
         s.tables as u16,
         s.base2,
-        path,
+        words,
+        second,
         list,
+        path,
         height,
         word,
         way[at],
         free,
         need,
     );
-    plans::write_words(s.granule, words, second, plan);
     let rest = (free - need) as u64;
     Mapped {
         answer: MapAnswer::Taken(need as u64),

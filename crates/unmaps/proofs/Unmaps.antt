@@ -28,8 +28,6 @@ use Rattle.model.specs.Calls.{goodPool, walkTo, unmapTests, unmapHere, unmapAt,
 use Rattle.model.specs.Refusing.{passed}
 use Rattle.lookup.specs.WalkLaws.{walk-within}
 use Rattle.lookup.specs.Reaches.{Came, came-again, came-word}
-use Rattle.plans.specs.Plan.{planned}
-use Rattle.plans.specs.declared.Step.{Step}
 use Rattle.unmaps.proofs.Frees.{freed-stop, freed-more, freed-end}
 
 module _ (G : Granule) (p : Pool) (a : ℕ) {r : Bool} (e : r ≡ goodPool G p) where
@@ -137,15 +135,14 @@ module _ (G : Granule) (s : Setup) (ws : List ℕ) (cut : ℕ) (list : List ℕ)
 
       pub there-done :
           s .free + given ≤ total (areaOf s) - 1
-          → (plan : List Step) {w x : List ℕ} {own : ℕ} {t : Setup}
-          → planned plan ≡ unmapWrites G way path left (s .free) given
-          → memory w x ≡ performAll G (planned plan) (memory ws list)
+          → {w x : List ℕ} {own : ℕ} {t : Setup}
+          → memory w x ≡ performAll G (unmapWrites G way path left (s .free) given) (memory ws list)
           → own ≡ cut → t ≡ withFree s (s .free + given)
           → done (gave b size k given) (pool t w own x) ≡ there
       unfolding unmapAt unmapHere
-      there-done l plan {w} {x} {own} {t} d v o u =
+      there-done l {w} {x} {own} {t} v o u =
           let new : memory w x ≡ performAll G (unmapWrites G way (pathOf G a) left (s .free) given) (memory ws list) =
-          v ∙ ap (λ (y : List Write). performAll G y (memory ws list)) (d ∙ ap (λ (y : List ℕ). unmapWrites G way y left (s .free) given) q) in
+          v ∙ ap (λ (y : List ℕ). performAll G (unmapWrites G way y left (s .free) given) (memory ws list)) q in
           rw (eq-eqb _ _ m, ← f, le-ltb _ _ l) (λ i. done (gave b (z i) k given) (pool (u i) (new i .words) (o i) (new i .list)))
 
 -- the count of the tables that come free, where the first does

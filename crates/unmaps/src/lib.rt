@@ -1,9 +1,8 @@
-// Unmap. It makes every test first, then plans its single writes, then carries them out.
+// Unmap. It makes every test first, then its single writes, in their order.
 use entry::Entry;
 use model::UnmapAnswer;
 use model::Unmapped;
 use path::Setup;
-use plans::Step;
 ghost use mathlib.Core.Path.{_≡_};
 ghost use mathlib.Core.Bool.{true, not, _||_};
 ghost use mathlib.Core.List.{_++_};
@@ -16,9 +15,8 @@ ghost use Rattle.path.specs.Numbers.{mostTables, goodSetup};
 ghost use Rattle.entry.specs.declared.Entry.the-variants.{Frame};
 ghost use Rattle.model.specs.Answers.{saysUnmap, refused, hole, pool, unmapDid};
 ghost use Rattle.model.specs.Walk.{slot, atHeight, stop};
-ghost use Rattle.model.specs.Writes.{onlyEntry, freed, unmapWrites};
+ghost use Rattle.model.specs.Writes.{memory, performAll, onlyEntry, freed, unmapWrites};
 ghost use Rattle.model.specs.Calls.{unmapTests, unmapAt, unmapW};
-ghost use Rattle.plans.specs.Plan.{planned};
 
 // Unmap's tests 4 and 5, or 0.
 fn unmap_tests(granule: u64, levels: u64, address: u64) -> u64
@@ -63,33 +61,34 @@ fn count_freed<'a>(
 
 // The writes of an unmap: the frame's word becomes 0; then, for each table that comes free, its parent's entry becomes 0, and after that the table goes
 // on the free list.
-fn unmap_plan(
+fn unmap_writes(
     granule: u64,
+    words: &mut [u64],
+    second: &mut [u64],
+    list: &mut [u32],
     way: [u32; 4],
     path: [u16; 4],
     left: usize,
     free: usize,
     given: usize,
-) -> [Step; plans::STEPS]
+)
     requires { ⌜ (left + given ≤ 3) × (free ≤ mostTables) ⌝ }
-    ensures { λ r. ⌜ planned r ≡ unmapWrites (granuleOf granule) way path left free given ⌝ }
+    ensures { λ _. ⌜ memory (now (words .exit) ++ now (second .exit)) (now (list .exit))
+        ≡ performAll (granuleOf granule) (unmapWrites (granuleOf granule) way path left free given) (memory (now (words .entry) ++ now (second .entry)) (now (list .entry))) ⌝ }
 {
-    let mut plan = [Step::Nothing; plans::STEPS];
     let at = 3 - left;
-    let place = pool::entry_place(granule, way[at], path[at]);
-    plan[0] = Step::Store { place, value: 0 };
+    let own = pool::entry_place(granule, way[at], path[at]);
+    pool::put(words, second, own, 0);
     let mut k = 0;
     while k < given {
         let at = 3 - (left + k);
         let table = way[at];
         let up = at - 1;
-        let place = pool::entry_place(granule, way[up], path[up]);
-        let next = free + k;
-        plan[2 * k + 1] = Step::Store { place, value: 0 };
-        plan[2 * k + 2] = Step::Give { place: next, table };
+        let link = pool::entry_place(granule, way[up], path[up]);
+        pool::put(words, second, link, 0);
+        pool::give(list, free + k, table);
         k += 1;
     }
-    plan
 }
 
 // A refused unmap.
@@ -140,8 +139,17 @@ fn unmap_more(
     if free > most {
         return unmap_refused(8, s);
     }
-    let plan = unmap_plan(s.granule, way, path, left, s.free as usize, given);
-    plans::write_all(s.granule, words, second, list, plan);
+    unmap_writes(
+        s.granule,
+        words,
+        second,
+        list,
+        way,
+        path,
+        left,
+        s.free as usize,
+        given,
+    );
     Unmapped {
         answer: UnmapAnswer::Given {
             frame,

@@ -1,4 +1,4 @@
--- `maps::map_empty`: the tests of the free list, then the plan and its writes.
+-- `maps::map_empty`: the tests of the free list, then the writes.
 use mathlib.Core.Path.{_∙_}
 use mathlib.Core.List.{_++_}
 use lib.ListN.{length}
@@ -47,20 +47,17 @@ path-of-requires c κs = search needs
 sub-at : tie.Need-sub-at
 sub-at c = omega arith
 
-cast-map-plan : tie.Need-cast-map-plan
-cast-map-plan c = omega (arith, good-setup (c .before .before .before .before .before .before .before .before .before .pre .0))
+cast-map-writes : tie.Need-cast-map-writes
+cast-map-writes c = omega (arith, good-setup (c .before .before .before .before .before .before .before .before .before .pre .0))
 
-mul-map-plan : tie.Need-mul-map-plan
-mul-map-plan c = omega arith
+mul-map-writes : tie.Need-mul-map-writes
+mul-map-writes c = omega arith
 
-array-read-map-plan : tie.Need-array-read-map-plan
-array-read-map-plan c = omega arith
+array-read-map-writes : tie.Need-array-read-map-writes
+array-read-map-writes c = omega arith
 
-map-plan-requires : tie.Need-map-plan-requires
-map-plan-requires c κs = omega (arith, good-setup (c .before .before .before .before .before .before .before .before .before .pre .0))
-
-write-words-requires : tie.Need-write-words-requires
-write-words-requires c κs = search needs
+map-writes-requires : tie.Need-map-writes-requires
+map-writes-requires c κs = omega (arith, good-setup (c .before .before .before .before .before .before .before .before .before .before .before .pre .0))
 
 with-free-requires : tie.Need-with-free-requires
 with-free-requires c κs = search needs
@@ -73,17 +70,16 @@ same-length-2 c = search needs
 
 returns-3 : tie.Need-returns-3
 returns-3 c b k e =
-    let a = c .before .before .before .before .before .before .before .before .before .before .before .before .before .before .before .before .before .before .args in
+    let a = c .before .before .before .before .before .before .before .before .before .before .before .before .before .before .before .before .before .args in
+    let writes = c .before .before .before .before .before .map-writes in
     here-done (granuleOf (a .s .granule)) (a .s) (a .words .now ++ a .second .now) (length (a .words .now)) (a .list .now) (a .address) b (a .height) k (a .left) (a .t8)
-    (c .before .before .before .before .before .before .before .before .before .before .before .before .before .before .if1 .left)
-    (c .before .before .before .before .before .before .before .before .before .before .before .before .may-take .ensures)
-    (c .before .before .before .before .before .before .before .before .before .before .before .if2 .left)
-    (c .before .before .before .before .before .before .before .before .map-plan .result)
-    (c .before .before .before .before .before .before .before .before .before .before .path-of .ensures)
+    (c .before .before .before .before .before .before .before .before .before .before .before .before .before .if1 .left)
+    (c .before .before .before .before .before .before .before .before .before .before .before .may-take .ensures)
+    (c .before .before .before .before .before .before .before .before .before .before .if2 .left)
+    (c .before .before .before .before .before .before .before .before .before .path-of .ensures)
     e
-    (c .before .before .before .before .before .before .before .before .map-plan .ensures _)
-    (c .before .before .before .before .before .write-words .ensures (a .s .tables) (good-setup (c .before .before .before .before .before .before .before .before .before .before .before .before .before .before .before .before .before .before .pre .0) .numbers .cut-is))
-    (c .before .before .before .before .before .write-words .kept .1 .0)
+    (writes .ensures (a .s .tables) (good-setup (c .before .before .before .before .before .before .before .before .before .before .before .before .before .before .before .before .before .pre .0) .numbers .cut-is) _)
+    (writes .kept .1 .1 .1 .1 .0)
     (c .with-free .ensures)
 
 pub map-empty-spec : {M : Type 1} → statement M
@@ -100,11 +96,10 @@ map-empty-spec =
     returns-2
     path-of-requires
     sub-at
-    cast-map-plan
-    mul-map-plan
-    array-read-map-plan
-    map-plan-requires
-    write-words-requires
+    cast-map-writes
+    mul-map-writes
+    array-read-map-writes
+    map-writes-requires
     with-free-requires
     same-length
     same-length-2

@@ -1,4 +1,4 @@
--- `unmaps::unmap_more`: the count of the tables that come free, then the plan and its writes.
+-- `unmaps::unmap_more`: the count of the tables that come free, then the writes.
 use Prim.Native.Nat.{_+_, _-_}
 use mathlib.Core.Path.{_∙_}
 use mathlib.Core.List.{_++_}
@@ -70,14 +70,11 @@ returns c =
     refusing (a .words .now ++ a .second .now) (length (a .words .now)) (a .list .now) (c .unmap-refused .ensures)
     ∙ there-full (granuleOf (a .s .granule)) (a .s) (a .words .now ++ a .second .now) (length (a .words .now)) (a .list .now) (a .address) (a .frame) (a .attributes) (a .left) (a .way) (c .before .before .before .before .before .before .before .before .before .before .before .before .before .pre .1 .1 .0) (size-known (granule-sane (a .s .granule)) g (omega (arith, c .before .before .before .before .before .before .before .before .before .before .before .before .before .pre .1 .0)) (c .before .before .before .before .before .before .before .before .before .size-at .ensures)) (c .before .before .before .before .before .before .before .before .path-of .ensures) (freed-first (granuleOf (a .s .granule)) (a .words .now ++ a .second .now) (a .way) (a .address) (a .left) (a .s .levels - 1) (c .before .before .before .before .before .before .before .before .path-of .ensures) (c .before .before .before .before .before .before .before .before .before .before .before .before .before .pre .1 .0) (c .before .before .before .before .before .before .before .before .before .before .before .before .before .pre .1 .1 .1) (c .before .before .before .before .count-freed .ensures (a .s .tables) (g .numbers .cut-is))) (c .before .if1 .taken)
 
-unmap-plan-requires : tie.Need-unmap-plan-requires
-unmap-plan-requires c κs =
-    let a = c .before .before .before .before .before .before .before .before .before .before .before .before .args in
-    let g = good-setup (c .before .before .before .before .before .before .before .before .before .before .before .before .pre .0) in
-    omega (arith, granule-sane (a .s .granule), g, c .before .before .before .before .before .before .before .before .before .before .before .before .pre .1 .0, c .before .before .before .count-freed .ensures (a .s .tables) (g .numbers .cut-is), freed-most (granuleOf (a .s .granule)) (a .words .now ++ a .second .now) (a .way) (c .before .before .before .before .before .before .before .path-of .result) (a .left + 1) (a .s .levels - 1 - (a .left + 1)))
-
-write-all-requires : tie.Need-write-all-requires
-write-all-requires c κs = search needs
+unmap-writes-requires : tie.Need-unmap-writes-requires
+unmap-writes-requires c κs =
+    let a = c .before .before .before .before .before .before .before .before .before .before .before .before .before .before .before .args in
+    let g = good-setup (c .before .before .before .before .before .before .before .before .before .before .before .before .before .before .before .pre .0) in
+    omega (arith, granule-sane (a .s .granule), g, c .before .before .before .before .before .before .before .before .before .before .before .before .before .before .before .pre .1 .0, c .before .before .before .before .before .before .count-freed .ensures (a .s .tables) (g .numbers .cut-is), freed-most (granuleOf (a .s .granule)) (a .words .now ++ a .second .now) (a .way) (c .before .before .before .before .before .before .before .before .before .before .path-of .result) (a .left + 1) (a .s .levels - 1 - (a .left + 1)))
 
 with-free-requires : tie.Need-with-free-requires
 with-free-requires c κs = search needs
@@ -93,14 +90,19 @@ same-length-5 c = search needs
 
 returns-2 : tie.Need-returns-2
 returns-2 c =
-    let a = c .before .before .before .before .before .before .before .before .before .before .before .before .before .before .before .before .before .before .before .before .before .before .before .before .args in
-    let g = good-setup (c .before .before .before .before .before .before .before .before .before .before .before .before .before .before .before .before .before .before .before .before .before .before .before .before .pre .0) in
-    there-done (granuleOf (a .s .granule)) (a .s) (a .words .now ++ a .second .now) (length (a .words .now)) (a .list .now) (a .address) (a .frame) (a .attributes) (a .left) (a .way) (c .before .before .before .before .before .before .before .before .before .before .before .before .before .before .before .before .before .before .before .before .before .before .before .before .pre .1 .1 .0) (size-known (granule-sane (a .s .granule)) g (omega (arith, c .before .before .before .before .before .before .before .before .before .before .before .before .before .before .before .before .before .before .before .before .before .before .before .before .pre .1 .0)) (c .before .before .before .before .before .before .before .before .before .before .before .before .before .before .before .before .before .before .before .before .size-at .ensures)) (c .before .before .before .before .before .before .before .before .before .before .before .before .before .before .before .before .before .before .before .path-of .ensures) (freed-first (granuleOf (a .s .granule)) (a .words .now ++ a .second .now) (a .way) (a .address) (a .left) (a .s .levels - 1) (c .before .before .before .before .before .before .before .before .before .before .before .before .before .before .before .before .before .before .before .path-of .ensures) (c .before .before .before .before .before .before .before .before .before .before .before .before .before .before .before .before .before .before .before .before .before .before .before .before .pre .1 .0) (c .before .before .before .before .before .before .before .before .before .before .before .before .before .before .before .before .before .before .before .before .before .before .before .before .pre .1 .1 .1) (c .before .before .before .before .before .before .before .before .before .before .before .before .before .before .before .count-freed .ensures (a .s .tables) (g .numbers .cut-is)))
-    (c .before .before .before .before .before .before .before .before .before .before .before .before .if1 .left)
-    (c .before .before .before .before .before .before .before .before .before .before .before .unmap-plan .result)
-    (c .before .before .before .before .before .before .before .before .before .before .before .unmap-plan .ensures)
-    (c .before .before .before .before .before .before .before .write-all .ensures (a .s .tables) (g .numbers .cut-is))
-    (c .before .before .before .before .before .before .before .write-all .kept .1 .0)
+    let a = c .before .before .before .before .before .before .before .before .before .before .before .before .before .before .before .before .before .before .before .before .before .before .before .args in
+    let p = c .before .before .before .before .before .before .before .before .before .before .before .before .before .before .before .before .before .before .before .before .before .before .before .pre in
+    let g = good-setup (p .0) in
+    let path = c .before .before .before .before .before .before .before .before .before .before .before .before .before .before .before .before .before .before .path-of in
+    let count = c .before .before .before .before .before .before .before .before .before .before .before .before .before .before .count-freed in
+    let writes = c .before .before .before .before .before .before .before .unmap-writes in
+    there-done (granuleOf (a .s .granule)) (a .s) (a .words .now ++ a .second .now) (length (a .words .now)) (a .list .now) (a .address) (a .frame) (a .attributes) (a .left) (a .way) (p .1 .1 .0)
+    (size-known (granule-sane (a .s .granule)) g (omega (arith, p .1 .0)) (c .before .before .before .before .before .before .before .before .before .before .before .before .before .before .before .before .before .before .before .size-at .ensures))
+    (path .ensures)
+    (freed-first (granuleOf (a .s .granule)) (a .words .now ++ a .second .now) (a .way) (a .address) (a .left) (a .s .levels - 1) (path .ensures) (p .1 .0) (p .1 .1 .1) (count .ensures (a .s .tables) (g .numbers .cut-is)))
+    (c .before .before .before .before .before .before .before .before .before .before .before .if1 .left)
+    (writes .ensures)
+    (writes .kept .1 .0)
     (c .with-free .ensures)
 
 pub unmap-more-spec : {M : Type 1} → statement M
@@ -120,8 +122,7 @@ unmap-more-spec =
     same-length
     same-length-2
     returns
-    unmap-plan-requires
-    write-all-requires
+    unmap-writes-requires
     with-free-requires
     same-length-3
     same-length-4
