@@ -89,24 +89,22 @@ static void unmap(uint64_t address) {
     setup = answer.setup;
 }
 
-static void first_cases(void) {
-    format(3, OAK_4_KIB);
-    lines("case 1, a fresh format:", THREE);
-    map(0, FRAME, OAK_4_KIB, 3);
-    map(0x1000, FRAME + 0x1000, OAK_4_KIB, 5);
-    map(OAK_2_MIB, FRAME + OAK_2_MIB, OAK_2_MIB, 3);
-    map(0x3000, 0x9000000, OAK_4_KIB, 11);
-    lines("case 4, two pages and a block, with a device page:", THREE);
-}
-
-static void later_cases(void) {
+/* the cases with pages of one size, a block of another, and the last page of the space */
+static void cases(uint64_t page, uint64_t block, uint64_t last, const uint64_t *addresses, size_t count) {
+    format(3, page);
+    lines("case 1, a fresh format:", addresses, count);
+    map(0, FRAME, page, 3);
+    map(page, FRAME + page, page, 5);
+    map(block, FRAME + block, block, 3);
+    map(3 * page, 0x9000000, page, 11);
+    lines("case 4, two pages and a block, with a device page:", addresses, count);
     unmap(0);
-    unmap(0x1000);
-    unmap(0x3000);
-    lines("case 9, the block alone:", THREE);
-    unmap(OAK_2_MIB);
-    map(0x7FFFFFF000, FRAME, OAK_4_KIB, 3);
-    lines("case 11, the last page of the space:", THREE);
+    unmap(page);
+    unmap(3 * page);
+    lines("case 9, the block alone:", addresses, count);
+    unmap(block);
+    map(last, FRAME, page, 3);
+    lines("case 11, the last page of the space:", addresses, count);
 }
 
 static void four_levels(void) {
@@ -116,23 +114,6 @@ static void four_levels(void) {
     lines("four levels, a block of 1 GiB and the last of 2 MiB:", FOUR);
     small[513] = BLOCK - ACCESS_FLAG;
     lines("the first without its access flag:", FOUR);
-}
-
-/* the cases in large: pages of 16 KiB and a block of 32 MiB */
-static void larger_granule(void) {
-    format(3, OAK_16_KIB);
-    map(0, FRAME, OAK_16_KIB, 3);
-    map(0x4000, FRAME + 0x4000, OAK_16_KIB, 5);
-    map(OAK_32_MIB, FRAME + OAK_32_MIB, OAK_32_MIB, 3);
-    map(0xC000, 0x9000000, OAK_16_KIB, 11);
-    lines("16 KiB, two pages and a block, with a device page:", SIXTEEN);
-    unmap(0);
-    unmap(0x4000);
-    unmap(0xC000);
-    lines("16 KiB, the block alone:", SIXTEEN);
-    unmap(OAK_32_MIB);
-    map(0x7FFFFFFFC000, FRAME, OAK_16_KIB, 3);
-    lines("16 KiB, the last page of the space:", SIXTEEN);
 }
 
 /* words that the library never writes, in the last two pools */
@@ -146,10 +127,10 @@ static void blocks_in_the_root(void) {
 }
 
 int main(void) {
-    first_cases();
-    later_cases();
+    cases(OAK_4_KIB, OAK_2_MIB, 0x7FFFFFF000, THREE);
     four_levels();
-    larger_granule();
+    say("with pages of 16 KiB:\n");
+    cases(OAK_16_KIB, OAK_32_MIB, 0x7FFFFFFFC000, SIXTEEN);
     blocks_in_the_root();
     if (wrong != 0) say("%u calls were refused\n", wrong);
     return 0;

@@ -121,54 +121,78 @@ fn fresh(granule: u64, words: &mut [u64], list: &mut List, levels: u64) -> Setup
     d.setup
 }
 
-// Document 01's cases 10 and 11.
-fn last_page(s: Setup, words: &mut [u64], list: &mut List) {
-    let s = unmap(s, words, list, MIB2);
-    map(s, words, list, 0x7F_FFFF_F000, FRAME, KIB4, 3);
-    lines(
-        b"case 11, the last page of the space:",
-        &THREE,
-        KIB4,
-        words,
-        3,
-    );
+// The numbers of document 01's cases with one granule: where the second page stands and to which frame it goes, where a device page, a block and its frame, and the last
+// page of the space.
+struct Numbers {
+    granule: u64,
+    second: u64,
+    second_frame: u64,
+    device: u64,
+    block: u64,
+    block_frame: u64,
+    last: u64,
+}
+
+// With 4 KiB, and in large, with 16 KiB.
+const SMALL: Numbers = Numbers {
+    granule: KIB4,
+    second: 0x1000,
+    second_frame: 0x8000_1000,
+    device: 0x3000,
+    block: MIB2,
+    block_frame: 0x8020_0000,
+    last: 0x7F_FFFF_F000,
+};
+
+const LARGE: Numbers = Numbers {
+    granule: KIB16,
+    second: 0x4000,
+    second_frame: 0x8000_4000,
+    device: 0xC000,
+    block: MIB32,
+    block_frame: 0x8200_0000,
+    last: 0x7FFF_FFFF_C000,
+};
+
+// Cases 10 and 11.
+fn last_page(n: Numbers, addresses: &[u64], s: Setup, words: &mut [u64], list: &mut List) {
+    let s = unmap(s, words, list, n.block);
+    map(s, words, list, n.last, FRAME, n.granule, 3);
+    let title = b"case 11, the last page of the space:";
+    lines(title, addresses, n.granule, words, 3);
 }
 
 // Case 9, after which the device page goes too.
-fn pages_go(s: Setup, words: &mut [u64], list: &mut List) {
+fn pages_go(n: Numbers, addresses: &[u64], s: Setup, words: &mut [u64], list: &mut List) {
     let s = unmap(s, words, list, 0);
-    let s = unmap(s, words, list, 0x1000);
-    let s = unmap(s, words, list, 0x3000);
-    lines(b"case 9, the block alone:", &THREE, KIB4, words, 3);
-    last_page(s, words, list);
+    let s = unmap(s, words, list, n.second);
+    let s = unmap(s, words, list, n.device);
+    let title = b"case 9, the block alone:";
+    lines(title, addresses, n.granule, words, 3);
+    last_page(n, addresses, s, words, list);
 }
 
 // Case 4, and a device page.
-fn block(s: Setup, words: &mut [u64], list: &mut List) {
-    let s = map(s, words, list, MIB2, FRAME + MIB2, MIB2, 3);
-    let s = map(s, words, list, 0x3000, 0x900_0000, KIB4, 11);
-    lines(
-        b"case 4, two pages and a block, with a device page:",
-        &THREE,
-        KIB4,
-        words,
-        3,
-    );
-    pages_go(s, words, list);
+fn block(n: Numbers, addresses: &[u64], s: Setup, words: &mut [u64], list: &mut List) {
+    let s = map(s, words, list, n.block, n.block_frame, n.block, 3);
+    let s = map(s, words, list, n.device, 0x900_0000, n.granule, 11);
+    let title = b"case 4, two pages and a block, with a device page:";
+    lines(title, addresses, n.granule, words, 3);
+    pages_go(n, addresses, s, words, list);
 }
 
 // Cases 2 and 3.
-fn two_pages(s: Setup, words: &mut [u64], list: &mut List) {
-    let s = map(s, words, list, 0, FRAME, KIB4, 3);
-    let s = map(s, words, list, 0x1000, FRAME + 0x1000, KIB4, 5);
-    block(s, words, list);
+fn two_pages(n: Numbers, addresses: &[u64], s: Setup, words: &mut [u64], list: &mut List) {
+    let s = map(s, words, list, 0, FRAME, n.granule, 3);
+    let s = map(s, words, list, n.second, n.second_frame, n.granule, 5);
+    block(n, addresses, s, words, list);
 }
 
 // Case 1, and those after it.
-fn first_cases(words: &mut [u64], list: &mut List) {
-    let s = fresh(KIB4, words, list, 3);
-    lines(b"case 1, a fresh format:", &THREE, KIB4, words, 3);
-    two_pages(s, words, list);
+fn cases(n: Numbers, addresses: &[u64], words: &mut [u64], list: &mut List) {
+    let s = fresh(n.granule, words, list, 3);
+    lines(b"case 1, a fresh format:", addresses, n.granule, words, 3);
+    two_pages(n, addresses, s, words, list);
 }
 
 // Four levels with a block of 1 GiB, and with the last block of 2 MiB.
@@ -183,50 +207,6 @@ fn four_levels(words: &mut [u64], list: &mut List) {
         words,
         4,
     );
-}
-
-// With 16 KiB the last page of the space.
-fn large_last(s: Setup, words: &mut [u64], list: &mut List) {
-    let s = unmap(s, words, list, MIB32);
-    map(s, words, list, 0x7FFF_FFFF_C000, FRAME, KIB16, 3);
-    lines(
-        b"16 KiB, the last page of the space:",
-        &SIXTEEN,
-        KIB16,
-        words,
-        3,
-    );
-}
-
-// With 16 KiB the block of 32 MiB alone.
-fn large_block(s: Setup, words: &mut [u64], list: &mut List) {
-    let s = unmap(s, words, list, 0);
-    let s = unmap(s, words, list, 0x4000);
-    let s = unmap(s, words, list, 0xC000);
-    lines(b"16 KiB, the block alone:", &SIXTEEN, KIB16, words, 3);
-    large_last(s, words, list);
-}
-
-// With 16 KiB a block of 32 MiB beside the pages, and a device page.
-fn large_pages(s: Setup, words: &mut [u64], list: &mut List) {
-    let s = map(s, words, list, MIB32, FRAME + MIB32, MIB32, 3);
-    let s = map(s, words, list, 0xC000, 0x900_0000, KIB16, 11);
-    lines(
-        b"16 KiB, two pages and a block, with a device page:",
-        &SIXTEEN,
-        KIB16,
-        words,
-        3,
-    );
-    large_block(s, words, list);
-}
-
-// The cases in large: pages of 16 KiB.
-fn larger_granule(words: &mut [u64], list: &mut List) {
-    let s = fresh(KIB16, words, list, 3);
-    let s = map(s, words, list, 0, FRAME, KIB16, 3);
-    let s = map(s, words, list, 0x4000, FRAME + 0x4000, KIB16, 5);
-    large_pages(s, words, list);
 }
 
 // With one word that the page table never writes.
@@ -248,12 +228,13 @@ fn main() {
     let mut words = [0u64; 2048];
     let mut large = [0u64; 8192];
     let mut list = [0u32; 4];
-    first_cases(&mut words, &mut list);
+    cases(SMALL, &THREE, &mut words, &mut list);
     four_levels(&mut words, &mut list);
     let flag = b"the first without its access flag:";
     let word = BLOCK - ACCESS_FLAG;
     strange(flag, &FOUR, KIB4, &mut words, 4, 513, word);
-    larger_granule(&mut large, &mut list);
+    show::title(b"with pages of 16 KiB:");
+    cases(LARGE, &SIXTEEN, &mut large, &mut list);
     let small_root = b"a block of 512 GiB, which there is not:";
     strange(small_root, &FOUR, KIB4, &mut words, 4, 0, BLOCK);
     let large_root = b"a block of 64 GiB, which there is not:";
