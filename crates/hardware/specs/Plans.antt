@@ -17,7 +17,7 @@ use Rattle.path.specs.Areas.{Area, areaOf, total, tableAt, GoodArea}
 use Rattle.model.specs.Walk.{slot}
 use Rattle.model.specs.Writes.{Write, store, wipe, give, Memory, memory, perform, performAll, mapWrites, mayTake, pruneWrites}
 use Rattle.model.specs.Adds.{appended}
-use Rattle.model.specs.LeftLaws.{perform-length}
+use Rattle.model.specs.LeftLaws.{perform-append, perform-length}
 use Rattle.model.specs.LedgerLaws.{and-true}
 use Rattle.demand.specs.Memories.{table-ends}
 use Rattle.hardware.specs.Machine.{zerosFrom, placesFrom, placesAbove, single, singles, visible}
@@ -137,6 +137,12 @@ unfolding placesFrom
 places-clear zero i = tt
 places-clear (suc k) i = (tt, places-clear k (suc i))
 
+-- of places that were 0
+abbrev pub FromZero : List ℕ → Write → Type 0
+FromZero old (store i x) = getD old i 0 ≡ 0
+FromZero old (wipe t) = ⊥
+FromZero old (give i t) = Unit {0}
+
 -- of words from place c on alone
 abbrev pub Beyond : ℕ → Write → Type 0
 Beyond c (store i x) = c ≤ i
@@ -157,11 +163,6 @@ places-beyond c n (suc k) i = (tt, places-beyond c n k (suc i))
 -- ---- carried out
 
 module _ (G : Granule) where
-  pub perform-append : (xs ys : List Write) (m : Memory) → performAll G (xs ++ ys) m ≡ performAll G ys (performAll G xs m)
-  unfolding performAll
-  perform-append [] ys m = refl
-  perform-append (x ∷ xs) ys m = perform-append xs ys (perform G x m)
-
   pub zeros-carried : (k i : ℕ) (ws l : List ℕ) → i + k ≤ length ws → performAll G (zerosFrom i k) (memory ws l) ≡ memory (zeroed ws i k) l
   unfolding performAll zerosFrom
   zeros-carried zero i ws l b = ap (λ (x : List ℕ). memory x l) (sym (zeroed-none ws i))
@@ -221,7 +222,7 @@ module _ (G : Granule) where
   unfolding performAll singles
   singles-carried [] m e = refl
   singles-carried (w ∷ ws) m e =
-      perform-append (single G w) (singles G ws) m
+      perform-append G (single G w) (singles G ws) m
       ∙ ap (performAll G (singles G ws)) (one w (e .0))
       ∙ singles-carried ws (perform G w m) (subst (λ (n : ℕ). Each (InRange n) ws) (sym (perform-length G w m)) (e .1))
     where
@@ -278,3 +279,39 @@ module _ (G : Granule) where
   unfolding singles pruneWrites
   prune-clears way path zero h f = tt
   prune-clears way path (suc k) h f = (refl, (tt, prune-clears way path k (suc h) (suc f)))
+
+-- ---- words that only come
+
+-- what is not 0 stays
+abbrev pub Grew : List ℕ → List ℕ → Type 0
+Grew old new = (i : ℕ) → (getD new i 0 ≡ getD old i 0) ⊎ (getD old i 0 ≡ 0)
+
+pub grew-on : (a b c : List ℕ) → Grew a b → Grew b c → Grew a c
+grew-on a b c f g i = ⊎-elim (λ e. ⊎-elim (λ d. inl (d ∙ e)) (λ d. inr (sym e ∙ d)) (g i)) (λ e. inr e) (f i)
+
+-- a word in between is the first or the last
+grew-between : (a b c : List ℕ) → Grew a b → Grew b c → Between a c b
+grew-between a b c f g i = ⊎-elim (λ e. inl e) (λ e. ⊎-elim (λ d. inr (sym d)) (λ d. inl (d ∙ sym e)) (g i)) (f i)
+
+-- so a write of a word as it was or as it will be is one over more calls too
+pub sound-among : (a b c d : List ℕ) → Grew a b → Grew b c → Grew c d → (xs : List Write) → Each (Sound b c) xs → Each (Sound a d) xs
+sound-among a b c d f g h [] e = tt
+sound-among a b c d f g h (store i x ∷ xs) e = (
+  ⊎-elim
+      (λ q. ⊎-elim (λ z. inl (q ∙ z)) (λ z. inr (q ∙ z)) (grew-between a b d f (grew-on b c d g h) i))
+      (λ q. ⊎-elim (λ z. inl (q ∙ z)) (λ z. inr (q ∙ z)) (grew-between a c d (grew-on a b c f g) h i))
+      (e .0),
+  sound-among a b c d f g h xs (e .1),
+)
+sound-among a b c d f g h (wipe t ∷ xs) e = absurd (e .0)
+sound-among a b c d f g h (give i t ∷ xs) e = (tt, sound-among a b c d f g h xs (e .1))
+
+-- writes of places that were 0 leave what was not 0
+pub zero-grew : (G : Granule) (old : List ℕ) (xs : List Write) → Each (FromZero old) xs → (m : Memory) → Grew old (m .words) → Grew old (performAll G xs m .words)
+unfolding performAll
+zero-grew G old [] e m f = f
+zero-grew G old (store i x ∷ xs) e m f =
+    zero-grew G old xs (e .1) (memory (set (m .words) i x) (m .list))
+    (λ j. ⊎-elim (λ z. inr (ap (λ (k : ℕ). getD old k 0) (z .0) ∙ e .0)) (λ z. ⊎-elim (λ d. inl (z ∙ d)) (λ d. inr d) (f j)) (set-cases (m .words) i x j))
+zero-grew G old (wipe t ∷ xs) e m f = absurd (e .0)
+zero-grew G old (give i t ∷ xs) e m f = zero-grew G old xs (e .1) (memory (m .words) (set (m .list) i t)) f

@@ -1,0 +1,173 @@
+use mathlib.Core.Path.{_≡_, refl, sym, ap, _∙_}
+use native.Mathlib.Omega.{arith}
+use borrow.Author.Needs.{needs}
+use borrow.Author.Tests.{not-true, not-false}
+use Prim.Native.Nat.{ℕ, _+_, _-_, _%_, _<_, _≤_}
+use mathlib.Core.Bool.{Bool}
+use mathlib.Core.List.{[], _++_}
+use lib.ListN.{length, length-replicate}
+use Rattle.path.specs.Geometry.{granuleOf, sizeAt, physical}
+use Rattle.path.specs.Laws.{granule-sane, level-some, size-fits}
+use Rattle.path.specs.RegionLaws.{base-le}
+use Rattle.model.specs.Answers.{pool}
+use Rattle.marks.specs.Marks.{noted}
+use Rattle.sweeps.specs.Checking.{Checked, checked-none, checked-like, says-like, checked-all, turn-damaged, turn-clash, turn-on}
+use Rattle.rangeunmaps.proofs.Steps.{met-low}
+use Rattle.rangeunmaps.proofs.check_walks.Statement.{statement}
+use Rattle.rangeunmaps.proofs.check_walks.Tie as tie
+use Rattle.rangeunmaps.proofs.check_walks.Reads as reads
+use Rattle.rangeunmaps.proofs.check_walks.Lts as lts
+use Rattle.marks.proofs.note_way.Reads as note-way-reads
+use Rattle.indices.proofs.base_at.Reads as base-at-reads
+use Rattle.indices.proofs.size_at.Reads as size-at-reads
+use Rattle.rangeunmaps.proofs.cut_by.Reads as cut-by-reads
+use Rattle.rangeunmaps.proofs.least.Reads as least-reads
+use Rattle.rangeunmaps.proofs.look.Reads as look-reads
+
+abbrev Inv-loop : tie.InvT-loop
+Inv-loop s words second address bytes end stands₀ way₀ no₀ x₀ stands way no' x =
+    (x ≤ address + bytes) × Checked (granuleOf (s .granule)) (pool s (words ++ second) (length words) []) address bytes x stands no'
+
+abbrev μ-loop : tie.MeasureT-loop
+μ-loop s words second address bytes end stands₀ way₀ no₀ x₀ stands way no' x = address + bytes - x
+
+add-end : tie.Need-add-end Inv-loop μ-loop
+add-end c = omega (arith, c .before .before .pre .1 .in-space)
+
+loop-holds : tie.Need-loop-holds Inv-loop μ-loop
+loop-holds c = (omega arith, checked-none _ _ _ _ _ refl (length-replicate {A = ℕ} 512 0) (c .before .before .pre .1 .starts))
+
+look-requires : tie.Need-look-requires Inv-loop μ-loop
+look-requires c κs = (c .before .before .before .before .before .pre .0, c .before .before .before .before .before .pre .1 .good)
+
+returns : tie.Need-returns Inv-loop μ-loop
+returns c =
+    let a = c .before .before .before .before .before .before .before .args in
+    let l = c .before .before .before .before .loop in
+    let G = granuleOf (a .s .granule) in
+    let Z = granule-sane (a .s .granule) in
+    let ws = a .words .now ++ a .second .now in
+    let cut = length (a .words .now) in
+    let list = c .before .before .before .before .before .before .before .pre .0 in
+    let p = pool (a .s) ws cut list in
+    let R = c .before .before .before .before .before .before .before .pre .1 in
+    let C = checked-like G (a .s) ws cut [] list (l .inv .1) in
+    let back = says-like G (a .s) ws cut list [] (a .address) (a .bytes) in
+    turn-damaged G Z p (a .address) (a .bytes) R C (omega arith) (c .before .look .ensures) (c .if1 .taken) ∙ back
+
+slice-aggregate-note-way : tie.Need-slice-aggregate-note-way Inv-loop μ-loop
+slice-aggregate-note-way c = search needs
+
+note-way-requires : tie.Need-note-way-requires Inv-loop μ-loop
+note-way-requires c κs = search needs
+
+returns-2 : tie.Need-returns-2 Inv-loop μ-loop
+returns-2 c =
+    let a = c .before .before .before .before .before .before .before .before .before .before .before .args in
+    let l = c .before .before .before .before .before .before .before .before .loop in
+    let G = granuleOf (a .s .granule) in
+    let Z = granule-sane (a .s .granule) in
+    let ws = a .words .now ++ a .second .now in
+    let cut = length (a .words .now) in
+    let list = c .before .before .before .before .before .before .before .before .before .before .before .pre .0 in
+    let p = pool (a .s) ws cut list in
+    let R = c .before .before .before .before .before .before .before .before .before .before .before .pre .1 in
+    let C = checked-like G (a .s) ws cut [] list (l .inv .1) in
+    let back = says-like G (a .s) ws cut list [] (a .address) (a .bytes) in
+    let N = c .before .before .note-way in
+    turn-clash G Z p (a .address) (a .bytes) R C (omega arith) (c .before .before .before .before .before .look .ensures) (c .before .before .before .before .if1 .left) (ap (λ (f : Bool). noted f (N .last .1 .0)) (sym (not-true _ (c .if2 .taken))) ∙ N .ensures) ∙ back
+
+base-at-requires : tie.Need-base-at-requires Inv-loop μ-loop
+base-at-requires c κs = search needs
+
+size-at-requires : tie.Need-size-at-requires Inv-loop μ-loop
+size-at-requires c κs = search needs
+
+cut-by-requires : tie.Need-cut-by-requires Inv-loop μ-loop
+cut-by-requires c κs =
+    let a = c .before .before .before .before .before .before .before .before .before .before .before .before .before .args in
+    let G = granuleOf (a .s .granule) in
+    let Z = granule-sane (a .s .granule) in
+    let m = met-low (granuleOf (c .before .before .before .before .before .before .before .before .before .before .before .before .before .args .s .granule)) (granule-sane (c .before .before .before .before .before .before .before .before .before .before .before .before .before .args .s .granule)) (pool (c .before .before .before .before .before .before .before .before .before .before .before .before .before .args .s) (c .before .before .before .before .before .before .before .before .before .before .before .before .before .args .words .now ++ c .before .before .before .before .before .before .before .before .before .before .before .before .before .args .second .now) (length (c .before .before .before .before .before .before .before .before .before .before .before .before .before .args .words .now)) (c .before .before .before .before .before .before .before .before .before .before .before .before .before .pre .0)) (c .before .before .before .before .before .before .before .before .before .before .before .before .before .pre .1 .good) _ (c .before .before .before .before .before .before .before .look .ensures) (c .before .before .before .before .before .before .if1 .left) in
+    let h = c .before .before .before .before .before .before .before .look .result % 4 in
+    let s : sizeAt G h ≤ physical = size-fits G Z (omega arith) in
+    omega (arith, c .before .base-at .ensures ∙ level-some G m _, c .size-at .ensures ∙ level-some G m _, base-le G (c .before .before .before .before .before .before .before .before .before .before .loop .x) h, c .before .before .before .before .before .before .before .before .before .before .before .before .before .pre .1 .in-space)
+
+add-least : tie.Need-add-least Inv-loop μ-loop
+add-least c =
+    let a = c .before .before .before .before .before .before .before .before .before .before .before .before .before .before .args in
+    let G = granuleOf (a .s .granule) in
+    let Z = granule-sane (a .s .granule) in
+    let m = met-low (granuleOf (c .before .before .before .before .before .before .before .before .before .before .before .before .before .before .args .s .granule)) (granule-sane (c .before .before .before .before .before .before .before .before .before .before .before .before .before .before .args .s .granule)) (pool (c .before .before .before .before .before .before .before .before .before .before .before .before .before .before .args .s) (c .before .before .before .before .before .before .before .before .before .before .before .before .before .before .args .words .now ++ c .before .before .before .before .before .before .before .before .before .before .before .before .before .before .args .second .now) (length (c .before .before .before .before .before .before .before .before .before .before .before .before .before .before .args .words .now)) (c .before .before .before .before .before .before .before .before .before .before .before .before .before .before .pre .0)) (c .before .before .before .before .before .before .before .before .before .before .before .before .before .before .pre .1 .good) _ (c .before .before .before .before .before .before .before .before .look .ensures) (c .before .before .before .before .before .before .before .if1 .left) in
+    let h = c .before .before .before .before .before .before .before .before .look .result % 4 in
+    let s : sizeAt G h ≤ physical = size-fits G Z (omega arith) in
+    omega (arith, c .before .before .base-at .ensures ∙ level-some G m _, c .before .size-at .ensures ∙ level-some G m _, base-le G (c .before .before .before .before .before .before .before .before .before .before .before .loop .x) h, c .before .before .before .before .before .before .before .before .before .before .before .before .before .before .pre .1 .in-space)
+
+least-requires : tie.Need-least-requires Inv-loop μ-loop
+least-requires c κs = search needs
+
+on : (c : tie.After-least Inv-loop μ-loop)
+    → let a = c .before .before .before .before .before .before .before .before .before .before .before .before .before .before .before .args in
+    let p = pool (a .s) (a .words .now ++ a .second .now) (length (a .words .now)) (c .before .before .before .before .before .before .before .before .before .before .before .before .before .before .before .pre .0) in
+    Checked (granuleOf (a .s .granule)) p (a .address) (a .bytes) (c .least .result) (c .before .before .before .before .before .before .note-way .last .1 .0) (c .before .cut-by .result) × (c .before .before .before .before .before .before .before .before .before .before .before .before .loop .x < c .least .result) × (c .least .result ≤ a .address + a .bytes)
+on c =
+    let a = c .before .before .before .before .before .before .before .before .before .before .before .before .before .before .before .args in
+    let l = c .before .before .before .before .before .before .before .before .before .before .before .before .loop in
+    let G = granuleOf (a .s .granule) in
+    let Z = granule-sane (a .s .granule) in
+    let ws = a .words .now ++ a .second .now in
+    let cut = length (a .words .now) in
+    let list = c .before .before .before .before .before .before .before .before .before .before .before .before .before .before .before .pre .0 in
+    let p = pool (a .s) ws cut list in
+    let R = c .before .before .before .before .before .before .before .before .before .before .before .before .before .before .before .pre .1 in
+    let C = checked-like G (a .s) ws cut [] list (l .inv .1) in
+    let back = says-like G (a .s) ws cut list [] (a .address) (a .bytes) in
+    let N = c .before .before .before .before .before .before .note-way in
+    let m = met-low (granuleOf (c .before .before .before .before .before .before .before .before .before .before .before .before .before .before .before .args .s .granule)) (granule-sane (c .before .before .before .before .before .before .before .before .before .before .before .before .before .before .before .args .s .granule)) (pool (c .before .before .before .before .before .before .before .before .before .before .before .before .before .before .before .args .s) (c .before .before .before .before .before .before .before .before .before .before .before .before .before .before .before .args .words .now ++ c .before .before .before .before .before .before .before .before .before .before .before .before .before .before .before .args .second .now) (length (c .before .before .before .before .before .before .before .before .before .before .before .before .before .before .before .args .words .now)) (c .before .before .before .before .before .before .before .before .before .before .before .before .before .before .before .pre .0)) (c .before .before .before .before .before .before .before .before .before .before .before .before .before .before .before .pre .1 .good) _ (c .before .before .before .before .before .before .before .before .before .look .ensures) (c .before .before .before .before .before .before .before .before .if1 .left) in
+    turn-on G Z p (a .address) (a .bytes) R C (omega arith) (c .before .before .before .before .before .before .before .before .before .look .ensures) (c .before .before .before .before .before .before .before .before .if1 .left) (N .kept .1 .0) (ap (λ (f : Bool). noted f (N .last .1 .0)) (sym (not-false _ (c .before .before .before .before .if2 .left))) ∙ N .ensures)
+    (c .before .before .before .base-at .ensures ∙ level-some G m _) (c .before .before .size-at .ensures ∙ level-some G m _) (c .before .cut-by .ensures) (c .least .ensures)
+
+loop-less : tie.Need-loop-less Inv-loop μ-loop
+loop-less c = omega (arith, on c .1, on c .2)
+
+loop-again : tie.Need-loop-again Inv-loop μ-loop
+loop-again c =
+    let a = c .before .before .before .before .before .before .before .before .before .before .before .before .before .before .before .args in
+    (on c .2, checked-like (granuleOf (a .s .granule)) (a .s) (a .words .now ++ a .second .now) (length (a .words .now)) (c .before .before .before .before .before .before .before .before .before .before .before .before .before .before .before .pre .0) [] (on c .0))
+
+returns-3 : tie.Need-returns-3 Inv-loop μ-loop
+returns-3 c =
+    let a = c .before .before .before .before .args in
+    let l = c .before .loop in
+    let G = granuleOf (a .s .granule) in
+    let Z = granule-sane (a .s .granule) in
+    let ws = a .words .now ++ a .second .now in
+    let cut = length (a .words .now) in
+    let list = c .before .before .before .before .pre .0 in
+    let p = pool (a .s) ws cut list in
+    let R = c .before .before .before .before .pre .1 in
+    let C = checked-like G (a .s) ws cut [] list (l .inv .1) in
+    let back = says-like G (a .s) ws cut list [] (a .address) (a .bytes) in
+    checked-all G Z p (a .address) (a .bytes) R C (omega (arith, l .inv .0)) ∙ back
+
+pub check-walks-spec : {M : Type 1} → statement M
+check-walks-spec =
+    tie.close
+    (tie.spec
+    Inv-loop
+    μ-loop
+    add-end
+    loop-holds
+    look-requires
+    returns
+    slice-aggregate-note-way
+    note-way-requires
+    returns-2
+    base-at-requires
+    size-at-requires
+    cut-by-requires
+    add-least
+    least-requires
+    loop-less
+    loop-again
+    returns-3)

@@ -1,0 +1,28 @@
+-- What the parts of unmapping a range ask and answer, over the lent memory.
+use Prim.Native.Nat.{ℕ, _+_}
+use mathlib.Core.Path.{_≡_}
+use mathlib.Core.Bool.{true}
+use mathlib.Core.List.{List, _++_}
+use lib.ListN.{length}
+use Rattle.path.specs.Geometry.{Granule}
+use Rattle.path.specs.declared.Setup.{Setup}
+use Rattle.model.specs.Answers.{Pool, pool}
+use Rattle.model.specs.Calls.{goodPool}
+use Rattle.sweeps.specs.Parts.{Rest, Removes, walksSay}
+use Rattle.rangeunmaps.specs.declared.Gone.{Gone}
+
+-- with some free list these numbers and words are a good pool
+abbrev pub SomePool : Granule → Setup → List ℕ → ℕ → Type 0
+SomePool G s ws cut = (list : List ℕ) × (goodPool G (pool s ws cut list) ≡ true)
+
+-- and the range is one that is left of it
+abbrev pub SomeRest : Granule → Setup → List ℕ → ℕ → ℕ → ℕ → Type 0
+SomeRest G s ws cut a end = (list : List ℕ) × Rest G (pool s ws cut list) a end
+
+-- and its walks say nothing against it
+abbrev pub SomeSound : Granule → Setup → List ℕ → ℕ → ℕ → ℕ → Type 0
+SomeSound G s ws cut a len = (list : List ℕ) × Rest G (pool s ws cut list) a (a + len) × (walksSay G (pool s ws cut list) a len ≡ 0)
+
+-- what a part of a range that is done comes to, with the memory then
+abbrev pub Did : Granule → Pool → ℕ → Gone → List ℕ → List ℕ → List ℕ → Type 0
+Did G p a g first second list = Removes G p a (g .next) (g .removed) (g .given) (pool (g .setup) (first ++ second) (length first) list)
