@@ -18,8 +18,7 @@ use Rattle.model.specs.Walk.{noWay}
 use Rattle.model.specs.Calls.{goodPool, walkTo, unmapW}
 use Rattle.model.specs.DescentLaws.{clash}
 use Rattle.model.specs.RangeWalks.{left-low}
-use Rattle.model.specs.RangeRefusals.{givenAt}
-use Rattle.model.specs.RangeUnmapped.{removedAt}
+use Rattle.model.specs.RangeUnmapped.{givenAt, removedAt}
 use Rattle.sweeps.specs.Parts.{lesser, untilEnd, Rest, Removes, Meets, usedIn}
 use Rattle.sweeps.specs.Removing.{Unmaps, removes-one, passes-hole, refuses, unmap-comes, hole-step, frame-step, page-step}
 

@@ -305,7 +305,10 @@ pub fn unmap_range(
     list: &mut [u32],
     address: u64,
     bytes: u64,
-) -> RangeUnmapped {
+) -> RangeUnmapped
+    ensures { λ r. ⌜ unmapRangeDid r (now (words .exit)) (now (second .exit)) (now (list .exit))
+        ≡ unmapRangeW (granuleOf (s .granule)) (pool s (now (words .entry) ++ now (second .entry)) (length (now (words .entry))) (now (list .entry))) address bytes ⌝ }
+{
     if !setups::good_setup(s, words.len(), second.len(), list.len()) {
         return range_refused(1, s);
     }

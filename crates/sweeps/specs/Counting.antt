@@ -30,9 +30,8 @@ use Rattle.model.specs.Writes.{memory, performAll, onlyEntry, freed, pruneWrite
 use Rattle.model.specs.Calls.{goodPool, walkTo}
 use Rattle.model.specs.Sound.{wordAt}
 use Rattle.model.specs.DescentLaws.{clash}
-use Rattle.model.specs.RangeRefusals.{givenAt}
 use Rattle.model.specs.RangeWalks.{readBy, Stopped, left-low, walk-stopped, stopped-apart, stopped-in, stopped-last, stopped-through, through-table, came-low}
-use Rattle.model.specs.RangeUnmapped.{few-levels, removedAt, high, word-stays}
+use Rattle.model.specs.RangeUnmapped.{givenAt, few-levels, removedAt, high, word-stays}
 use Rattle.sweeps.specs.Parts.{inUse, usedIn, Lowered, lowered, lowerFrom}
 
 -- ---- numbers in use

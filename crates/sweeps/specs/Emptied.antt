@@ -29,9 +29,8 @@ use Rattle.model.specs.Calls.{goodPool, walkTo}
 use Rattle.model.specs.Sound.{wordAt}
 use Rattle.model.specs.DescentLaws.{clash}
 use Rattle.model.specs.LeftLaws.{performed-length}
-use Rattle.model.specs.RangeRefusals.{givenAt}
 use Rattle.model.specs.RangeWalks.{readBy, Came, there, further, came-low, came-moved, came-long, Through, Stopped, left-low, same-index, walk-stopped, stopped-walk, stopped-apart, stopped-in, stopped-last, stopped-through, through-table}
-use Rattle.model.specs.RangeUnmapped.{few-levels, removedAt, high, word-stays, hole-there, hole-region, walk-kept}
+use Rattle.model.specs.RangeUnmapped.{givenAt, few-levels, removedAt, high, word-stays, hole-there, hole-region, walk-kept}
 use Rattle.sweeps.specs.Parts.{inUse, usedIn, Lowered, lowered, lowerFrom}
 use Rattle.sweeps.specs.Counting.{used-same, used-less, lower-freed, lower-hit, lower-miss, lower-long}
 

@@ -22,11 +22,10 @@ use Rattle.model.specs.Calls.{goodPool, walkTo, unmapTests, unmapHere, unmapAt,
 use Rattle.model.specs.DescentLaws.{clash}
 use Rattle.model.specs.LeftLaws.{unmap-leaves, leaves-good, leaves-kept, Kept}
 use Rattle.model.specs.Ranges.{pagesFrom, answersOf, leftBy, sumOf, acceptedIn}
-use Rattle.model.specs.RangeRefusals.{givenAt}
 use Rattle.model.specs.RangeLaws.{pages-from, page-next}
 use Rattle.model.specs.RangeLeft.{left-leaves}
 use Rattle.model.specs.RangeMapped.{chosen}
-use Rattle.model.specs.RangeUnmapped.{removedAt, few-levels, high}
+use Rattle.model.specs.RangeUnmapped.{givenAt, removedAt, few-levels, high}
 use Rattle.model.specs.RangeSkips.{left-append, answers-append, sum-append, pages-append, Passed, hole-skip, frame-skip}
 use Rattle.sweeps.specs.Parts.{Rest, Removes, untilEnd, lesser}
 use Rattle.sweeps.specs.Pages.{lesser-is, pages-between, pages-some, Ends, ends-at}

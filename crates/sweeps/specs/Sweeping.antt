@@ -25,10 +25,9 @@ use Rattle.model.specs.DescentLaws.{clash}
 use Rattle.model.specs.LeftLaws.{Kept, leaves-kept}
 use Rattle.model.specs.LedgerLaws.{true-or}
 use Rattle.model.specs.Ranges.{pagesFrom, pagesOf, pageWalks, anyEnds, isDamaged, onWays, oneRegionEach, spoiled, anyCutBy, answersOf, leftBy, refusesWith, anyRefused}
-use Rattle.model.specs.RangeRefusals.{givenAt, Full}
 use Rattle.model.specs.RangeLaws.{FineUnmap, pages-from, pages-has, page-next, false-or}
 use Rattle.model.specs.RangeWalks.{walk-region}
-use Rattle.model.specs.RangeUnmapped.{few-levels, removedAt, Goes, gives, passes, fills, goes, unmap-tests, Ok, Next, removes, holes, full, next, start}
+use Rattle.model.specs.RangeUnmapped.{givenAt, Full, few-levels, removedAt, Goes, gives, passes, fills, goes, unmap-tests, Ok, Next, removes, holes, full, next, start}
 use Rattle.model.specs.RangeSkips.{left-append, answers-append, any-append, pages-append, Passed, holes-pass}
 use Rattle.model.specs.RangeLeft.{left-leaves}
 use Rattle.model.specs.LeftLaws.{unmap-leaves}
