@@ -184,14 +184,7 @@ fn map_range(line: &Line, words: &mut [u64], second: &mut [u64], list: &[u32]) -
 }
 
 fn unmap_range(line: &Line, words: &mut [u64], second: &mut [u64], list: &mut [u32]) -> Told {
-    range_unmapped(pagetable::unmap_range(
-        setup(line),
-        words,
-        second,
-        list,
-        line[11],
-        line[12],
-    ))
+    range_unmapped(pagetable::unmap_range(setup(line), words, second, list, line[11], line[12]))
 }
 
 fn range_unmapped(r: RangeUnmapped) -> Told {

@@ -83,9 +83,11 @@ count-words-requires c κs =
 loop-holds : tie.Need-loop-holds Inv-loop μ-loop
 loop-holds c =
     let s = c .before .before .before .before .before .before .before in
-    let a = s .args in
-    ((omega arith, c .before .count-words .ensures .0 ∙ length-replicate {A = ℕ} 512 0), λ list g. sweep-none (granuleOf (a .s .granule)) (granule-sane (a .s .granule)) (allowed s list g) (c .before .count-words .ensures .0 ∙ length-replicate {A = ℕ} 512 0)
-    (λ t l. c .before .count-words .ensures .1 t (omega (arith, good-setup (s .pre .1 .good)))))
+    let a = s .args in (
+      (omega arith, c .before .count-words .ensures .0 ∙ length-replicate {A = ℕ} 512 0),
+      λ list g. sweep-none (granuleOf (a .s .granule)) (granule-sane (a .s .granule)) (allowed s list g) (c .before .count-words .ensures .0 ∙ length-replicate {A = ℕ} 512 0)
+          (λ t l. c .before .count-words .ensures .1 t (omega (arith, good-setup (s .pre .1 .good)))),
+    )
 
 look-requires : tie.Need-look-requires Inv-loop μ-loop
 look-requires c κs = (c .before .before .before .before .before .before .before .before .before .before .pre .0, c .before .before .before .before .before .before .before .before .before .before .pre .1 .good)
