@@ -1,2 +1,3 @@
 pub mod Looks
 pub mod Steps
+pub mod Calls

@@ -8,7 +8,7 @@ use Rattle.path.specs.Geometry.{Granule}
 use Rattle.path.specs.declared.Setup.{Setup}
 use Rattle.model.specs.Answers.{Pool, pool}
 use Rattle.model.specs.Calls.{goodPool}
-use Rattle.sweeps.specs.Parts.{Rest, Removes, walksSay}
+use Rattle.sweeps.specs.Parts.{Rest, Removes, Allowed}
 use Rattle.rangeunmaps.specs.declared.Gone.{Gone}
 
 -- with some free list these numbers and words are a good pool
@@ -19,9 +19,9 @@ SomePool G s ws cut = (list : List ℕ) × (goodPool G (pool s ws cut list) ≡ 
 abbrev pub SomeRest : Granule → Setup → List ℕ → ℕ → ℕ → ℕ → Type 0
 SomeRest G s ws cut a end = (list : List ℕ) × Rest G (pool s ws cut list) a end
 
--- and its walks say nothing against it
-abbrev pub SomeSound : Granule → Setup → List ℕ → ℕ → ℕ → ℕ → Type 0
-SomeSound G s ws cut a len = (list : List ℕ) × Rest G (pool s ws cut list) a (a + len) × (walksSay G (pool s ws cut list) a len ≡ 0)
+-- and neither a test nor its walks say anything against it
+abbrev pub SomeAllowed : Granule → Setup → List ℕ → ℕ → ℕ → ℕ → Type 0
+SomeAllowed G s ws cut a len = (list : List ℕ) × Allowed G (pool s ws cut list) a len
 
 -- what a part of a range that is done comes to, with the memory then
 abbrev pub Did : Granule → Pool → ℕ → Gone → List ℕ → List ℕ → List ℕ → Type 0

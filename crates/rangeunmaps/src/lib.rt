@@ -15,7 +15,7 @@ ghost use Rattle.model.specs.Answers.{saysUnmapRange, refused, pool, unmapRange
 ghost use Rattle.model.specs.Calls.{goodPool, walkTo, unmapW};
 ghost use Rattle.model.specs.Ranges.{pagesOf, answersOf, anyRefused, unmapRangeW};
 ghost use Rattle.sweeps.specs.Parts.{lesser, untilEnd, Rest, walksSay, Meets, cutOr, inUse, usedIn, lowered, lowerFrom};
-ghost use Rattle.rangeunmaps.specs.Dones.{SomePool, SomeRest, SomeSound, Did};
+ghost use Rattle.rangeunmaps.specs.Dones.{SomePool, SomeRest, SomeAllowed, Did};
 
 // A count for each table that a pool may have.
 const TABLES: usize = path::MOST_TABLES as usize;
@@ -181,7 +181,7 @@ fn lower(counts: &mut [u32], way: [u32; 4], left: usize, top: usize) -> usize
 
 // Whether the free list has room for all tables that come back.
 fn has_room<'a>(s: Setup, words: &'a [u64], second: &'a [u64], address: u64, bytes: u64) -> bool
-    requires { ⌜ SomeSound (granuleOf (s .granule)) s (now words ++ now second) (length (now words)) address bytes ⌝ }
+    requires { ⌜ SomeAllowed (granuleOf (s .granule)) s (now words ++ now second) (length (now words)) address bytes ⌝ }
     ensures { λ r. ⌜ ((list : List ℕ) → goodPool (granuleOf (s .granule)) (pool s (now (words .entry) ++ now (second .entry)) (length (now (words .entry))) list) ≡ true
         → r ≡ not (anyRefused 8 (answersOf (unmapW (granuleOf (s .granule))) (pool s (now (words .entry) ++ now (second .entry)) (length (now (words .entry))) list) (pagesOf (granuleOf (s .granule)) address bytes)))) ⌝ }
 {

@@ -125,6 +125,16 @@ module _ (way : List ℕ) where
   unfolding lowerFrom
   lower-end C h d e = rw e
 
+  pub lower-most : (d h : ℕ) (C : List ℕ) → lowerFrom C way h d .freed ≤ d
+  unfolding lowerFrom
+  lower-most zero h C = omega arith
+  lower-most (suc d) h C = go (ltb 1 (getD C (at h) 0)) (lower-most d (suc h) (set C (at h) (getD C (at h) 0 - 1)))
+    where
+      go : (y : Bool) → lowerFrom (set C (at h) (getD C (at h) 0 - 1)) way (suc h) d .freed ≤ d
+          → cond y (lowered 0 (set C (at h) (getD C (at h) 0 - 1))) (lowered (suc (lowerFrom (set C (at h) (getD C (at h) 0 - 1)) way (suc h) d .freed)) (lowerFrom (set C (at h) (getD C (at h) 0 - 1)) way (suc h) d .counts)) .freed ≤ suc d
+      go true l = omega arith
+      go false l = omega arith
+
   -- no count but those of the tables from where it starts up to the one that stays
   pub lower-miss : (d h : ℕ) (C : List ℕ) (t : ℕ) → ((j : ℕ) → h ≤ j → j ≤ h + lowerFrom C way h d .freed → j < h + d → t ≢ at j) → getD (lowerFrom C way h d .counts) t 0 ≡ getD C t 0
   unfolding lowerFrom

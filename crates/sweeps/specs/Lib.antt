@@ -5,3 +5,4 @@ pub mod Checking
 pub mod Counting
 pub mod Emptied
 pub mod Sweeping
+pub mod Rooms

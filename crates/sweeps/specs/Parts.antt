@@ -13,7 +13,7 @@ use Rattle.model.specs.declared.Walked.{Walked}
 use Rattle.model.specs.Answers.{tablesIn, Pool}
 use Rattle.model.specs.Walk.{slot, atHeight}
 use Rattle.model.specs.Calls.{goodPool, unmapW}
-use Rattle.model.specs.Ranges.{pagesFrom, pagesOf, pageWalks, spoiled, anyCutBy, leftBy, answersOf, sumOf, acceptedIn}
+use Rattle.model.specs.Ranges.{unmapRangeTests, pagesFrom, pagesOf, pageWalks, spoiled, anyCutBy, leftBy, answersOf, sumOf, acceptedIn}
 
 -- the lesser of two numbers
 abbrev pub lesser : ℕ → ℕ → ℕ
@@ -43,6 +43,12 @@ pub record Removes (G : Granule) (p : Pool) (a next removed given : ℕ) (q : Po
 unfoldable pub walksSay : Granule → Pool → ℕ → ℕ → ℕ
 walksSay G p a len =
     let ws = pageWalks G p (pagesOf G a len) in cond (spoiled G (p .numbers .levels) ws) 8 (cond (anyCutBy G a len ws) 10 0)
+
+-- a good pool and a range that no test refuses, whose walks say nothing against it
+pub record Allowed (G : Granule) (p : Pool) (a len : ℕ) : Type 0 where
+  pub good : goodPool G p ≡ true
+  pub tests : unmapRangeTests G (p .numbers .levels) a len ≡ 0
+  pub walks : walksSay G p a len ≡ 0
 
 -- what a walk met, as a number: below 4 a hole, below 8 a frame, and the height is added; else damage
 pub record Meets (o : Walked) (met : ℕ) (way : List ℕ) : Type 0 where

@@ -227,7 +227,7 @@ pub record Stepped (G : Granule) (p : Pool) (a end y m t : ℕ) (r : Pool) : Typ
   pub fewer : t ≤ 512
   pub kept : Kept p r
 
-pages-whole : (G : Granule) (i a : ℕ) → a % pageSize G ≡ 0 → (a + i * pageSize G) % pageSize G ≡ 0
+pub pages-whole : (G : Granule) (i a : ℕ) → a % pageSize G ≡ 0 → (a + i * pageSize G) % pageSize G ≡ 0
 pages-whole G zero a e = ap (λ (z : ℕ). z % pageSize G) (omega arith) ∙ e
 pages-whole G (suc i) a e = ap (λ (z : ℕ). z % pageSize G) (omega (arith, suc-mul i (pageSize G))) ∙ pages-whole G i (a + pageSize G) (page-next G a e)
 
