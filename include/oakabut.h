@@ -26,8 +26,10 @@
  * What is the host's. The calls write words: they issue no barrier, invalidate no TLB and clean no cache, and one runs at a time. By our
  * reading of the Arm manual the host, with the guest's VTTBR_EL2 in place, does this:
  *
- *   after oak_map and oak_add  dsb ishst
+ *   after oak_map, oak_map_range and oak_add
+ *                              dsb ishst
  *   after oak_unmap            dsb ishst; tlbi ipas2e1is, Xt (the address >> 12); dsb ish; tlbi vmalle1is; dsb ish; isb
+ *   after oak_unmap_range      the same with one tlbi ipas2e1is for an address in each mapping that was removed
  *   or, for the whole guest    dsb ishst; tlbi vmalls12e1is; dsb ish; isb
  *
  * - dsb after a map: before it the guest may fault on the address as if nothing were mapped. There is no tlbi to do: only entries that
@@ -87,7 +89,7 @@ static inline const char *oak_refusal_text(uint64_t number) {
     switch (number) {
     case 0: return "not refused";
     case OAK_REFUSED_SETUP: return "a setup number or a length breaks the rules";
-    case OAK_REFUSED_SIZE: return "no frame has the size, or none of the pool's granule";
+    case OAK_REFUSED_SIZE: return "no frame has the size, or none of the pool's granule; or no range has the length";
     case OAK_REFUSED_ATTRIBUTES: return "the attributes are above 15";
     case OAK_REFUSED_END: return "an address is past the space, or a frame past 2^48";
     case OAK_REFUSED_BASE: return "an address or a frame's base is not aligned";
@@ -95,7 +97,7 @@ static inline const char *oak_refusal_text(uint64_t number) {
     case OAK_REFUSED_TABLES: return "too few tables are free";
     case OAK_REFUSED_DAMAGED: return "the pool is damaged, or the word is no frame's at the size";
     case OAK_REFUSED_EMPTY: return "nothing is mapped there";
-    case OAK_REFUSED_INSIDE: return "the mapping there starts at another address";
+    case OAK_REFUSED_INSIDE: return "the mapping there starts at another address, or a range cuts it";
     case OAK_REFUSED_POOL: return "the frame, or one that is mapped, shares a byte with the pool's tables";
     default: return "no refusal has this number";
     }
@@ -128,8 +130,8 @@ uint64_t oak_word_meaning(uint64_t word, uint64_t size);
 /* ---- the calls on a pool
  *
  * Each returns 0 or the number of a refusal, and always writes the whole answer. Where it refuses, the answer is zeros, but for the
- * setup that oak_map, oak_unmap, oak_map_range, oak_unmap_range and oak_add hand back as it was, and for the hole that goes with OAK_REFUSED_EMPTY; and the words, the
- * list and the two runs of oak_list stay as they were.
+ * setup that oak_map, oak_unmap, oak_map_range, oak_unmap_range and oak_add hand back as it was, and for the hole that goes with
+ * OAK_REFUSED_EMPTY; and the words, the list and the two runs of oak_list stay as they were.
  *
  * OAK_REFUSED_SETUP is given where a setup number breaks its rule, words_len is not granule / 8 * tables, second_len is not
  * granule / 8 * second_tables, or list_len is not tables + second_tables.
@@ -440,6 +442,25 @@ static inline uint64_t oak_pool_unmap(oak_pool *pool, uint64_t address, oak_unma
                                 address, &unmapped);
     pool->setup = unmapped.setup;
     if (answer != NULL) *answer = unmapped;
+    return number;
+}
+
+static inline uint64_t oak_pool_map_range(oak_pool *pool, uint64_t address, uint64_t frame, uint64_t length, uint64_t attributes,
+                                          oak_mapped *answer) {
+    oak_mapped mapped;
+    uint64_t number = oak_map_range(&pool->setup, pool->words, pool->words_len, pool->second, pool->second_len, pool->list,
+                                    pool->list_len, address, frame, length, attributes, &mapped);
+    pool->setup = mapped.setup;
+    if (answer != NULL) *answer = mapped;
+    return number;
+}
+
+static inline uint64_t oak_pool_unmap_range(oak_pool *pool, uint64_t address, uint64_t length, oak_removed *answer) {
+    oak_removed removed;
+    uint64_t number = oak_unmap_range(&pool->setup, pool->words, pool->words_len, pool->second, pool->second_len, pool->list,
+                                      pool->list_len, address, length, &removed);
+    pool->setup = removed.setup;
+    if (answer != NULL) *answer = removed;
     return number;
 }
 
