@@ -4,12 +4,13 @@ use mathlib.Core.Path.{_≡_, refl, ap, sym, _∙_, subst}
 use mathlib.Core.Logic.{_≢_, _⊎_, inl, inr, ⊎-elim}
 use mathlib.Core.Bool.{Bool, true, false, cond, _||_, true≢false}
 use mathlib.Core.List.{List, [], _∷_, _++_}
-use native.Mathlib.Nat.{suc-mul, suc-add, zero-add, add-mul, div-mul-le-self, le-of-mul-le-mul-right, mul-le-mul-right}
+use native.Mathlib.Nat.{suc-mul, suc-add, zero-add, add-mul, div-mul-le-self, le-of-mul-le-mul-right, mul-le-mul-right, mul-le-mul-left}
 use native.Mathlib.Omega.{arith}
+use native.Mathlib.Decide.{decLt}
 use lib.Dec.{ltb}
 use lib.ListN.{length, getD}
 use borrow.Author.Tests.{ltb-true, ltb-false}
-use Rattle.laws.specs.Lists.{part}
+use Rattle.laws.specs.Lists.{part, zeroed}
 use Rattle.laws.specs.ListLaws.{getD-part, length-part}
 use Rattle.path.specs.Geometry.{Granule, Sane, entries, pageSize, sizeAt, spaceOf}
 use Rattle.path.specs.Areas.{areaOf, total}
@@ -18,8 +19,9 @@ use Rattle.path.specs.PathLaws.{index-below}
 use Rattle.path.specs.Laws.{good-setup, page-pos, size-zero, table-ends}
 use Rattle.entry.specs.Words.{entryAt}
 use Rattle.entry.specs.declared.Entry.the-variants.{Damaged}
+use Rattle.path.specs.declared.Setup.{Setup}
 use Rattle.model.specs.declared.Walked.{Walked}
-use Rattle.model.specs.Answers.{Pool, Done, done, gave, hole, refuse}
+use Rattle.model.specs.Answers.{Pool, pool, Done, done, gave, hole, refuse}
 use Rattle.model.specs.Walk.{slot, atHeight, noWay, stop}
 use Rattle.model.specs.Calls.{goodPool, walkTo, unmapW}
 use Rattle.model.specs.Ranges.{pagesFrom, pagesOf, answersOf, leftBy, refusesWith, anyRefused}
@@ -32,7 +34,7 @@ use Rattle.ranges.specs.RowWalks.{row-here}
 use Rattle.sweeps.specs.Parts.{Rest, Sure, Removes, Allowed, Clearable, inUse}
 use Rattle.sweeps.specs.Removing.{removes-good, pages-whole}
 use Rattle.sweeps.specs.Rooms.{fine-rest, whole-length, allowed-ok}
-use Rattle.sweeps.specs.Rows.{placeOf, Row}
+use Rattle.sweeps.specs.Rows.{withWords, placeOf, Row, row-removes}
 
 -- ---- from page to page
 
@@ -159,17 +161,21 @@ module _ (G : Granule) (Z : Sane G) (p : Pool) (x end : ℕ) (S : Sure G p x end
   bytes = subst (λ (s : ℕ). many * s ≤ end - x) (size-zero G) (stretch-fits G x (end - x) 0)
 
   pub row-ahead : {n : ℕ} → Clearable (part (p .words) place many) n → Row G p x n × (n ≤ many) × (x + n * W₁ ≤ end)
-  row-ahead {n} C = (record {
-    good = S .rest .good;
-    aligned = S .rest .starts;
-    in-space = omega (arith, within, S .in-space);
-    fits = omega (arith, small, stretch-room G x (end - x) 0);
-    sound = sound;
-    last-level = low;
-    undamaged = λ j m e. S .undamaged (x + j * W₁) (omega arith) (omega (arith, within, further j m)) (pages-whole G j x (S .rest .starts)) (ap (λ (w : Walked). w .entry) (at j m) ∙ e);
-    stays = ⊎-elim (λ (f, e). inl (λ j m. sym (own j (omega (arith, small))) ∙ f j (omega (arith, e))))
-        (λ (m, f). inr (omega (arith, m, size, stretch-room G x (end - x) 0), λ z. f (own n (omega (arith, m, size)) ∙ z))) C;
-  }, small, within)
+  row-ahead {n} C = (
+    record {
+      good = S .rest .good;
+      aligned = S .rest .starts;
+      in-space = omega (arith, within, S .in-space);
+      fits = omega (arith, small, stretch-room G x (end - x) 0);
+      sound = sound;
+      last-level = low;
+      undamaged = λ j m e. S .undamaged (x + j * W₁) (omega arith) (omega (arith, within, further j m)) (pages-whole G j x (S .rest .starts)) (ap (λ (w : Walked). w .entry) (at j m) ∙ e);
+      stays = ⊎-elim (λ (f, e). inl (λ j m. sym (own j (omega (arith, small))) ∙ f j (omega (arith, e))))
+          (λ (m, f). inr (omega (arith, m, size, stretch-room G x (end - x) 0), λ z. f (own n (omega (arith, m, size)) ∙ z))) C;
+    },
+    small,
+    within,
+  )
     where
       size : length (part (p .words) place many) ≡ many
       size = length-part (p .words) place many row-inside
@@ -190,3 +196,34 @@ module _ (G : Granule) (Z : Sane G) (p : Pool) (x end : ℕ) (S : Sure G p x end
       at j m =
           subst (λ (s : ℕ). walkTo G p 0 (x + j * s) ≡ stop (entryAt G (areaOf (p .numbers)) 0 (getD (p .words) (place + j) 0)) 0 (o .tables)) (size-zero G)
           (row-here G p few 0 x many (omega arith) some (stretch-room G x (end - x) 0) sound low j (omega (arith, small)))
+
+  -- so they are removed by clearing them
+  pub row-clears : {n : ℕ} → Clearable (part (p .words) place many) n
+      → (n ≤ many) × (x + n * W₁ ≤ end) × (0 < n → Removes G p x (x + n * W₁) (inUse (part (p .words) place n)) 0 (withWords p (zeroed (p .words) place n)))
+  row-clears {n} C = let (R, u, v) = row-ahead C in (u, v, go n R)
+    where
+      go : (n : ℕ) → Row G p x n → 0 < n → Removes G p x (x + n * W₁) (inUse (part (p .words) place n)) 0 (withWords p (zeroed (p .words) place n))
+      go zero R m = absurd (omega arith)
+      go (suc n) R m = row-removes G Z n p x R
+
+  -- one run holds them
+  pub row-held : {n : ℕ} → Clearable (part (p .words) place many) n → place < p .cut → place + n ≤ p .cut
+  row-held {n} C m = go (decLt t n₁)
+    where
+      t : ℕ
+      t = atHeight (o .tables) 0
+
+      n₁ : ℕ
+      n₁ = p .numbers .tables
+
+      go : Dec (t < n₁) → place + n ≤ p .cut
+      go (yes l) = omega (arith, row-clears C .0, stretch-room G x (end - x) 0, table-ends (entries G) l, good-setup (S .rest .good) .numbers .cut-is)
+      go (no l) = absurd (omega (arith, m, good-setup (S .rest .good) .numbers .cut-is, mul-le-mul-left {m = n₁} {n = t} (entries G) (omega arith)))
+
+-- no free list is read
+pub sure-like : (G : Granule) (s : Setup) (ws : List ℕ) (cut : ℕ) (k l : List ℕ) {a end : ℕ} → goodPool G (pool s ws cut l) ≡ true → Sure G (pool s ws cut k) a end → Sure G (pool s ws cut l) a end
+sure-like G s ws cut k l g S = record {
+  rest = record { good = g; starts = S .rest .starts; ends = S .rest .ends; left = S .rest .left; in-space = S .rest .in-space };
+  in-space = S .in-space;
+  undamaged = S .undamaged;
+}
