@@ -527,7 +527,7 @@ impl Lent {
     fn ranges(&self, address: u64, random: &mut Random) {
         let granule = self.setup[6];
         let large = granule * entries_with(granule);
-        for length in [granule, 3 * granule, large, large + 2 * granule, 2 * GIB] {
+        for length in [random.of(&[granule, 3 * granule]), random.of(&[large, large + 2 * granule, 2 * GIB])] {
             let from = address / granule * granule;
             let from = random.of(&[from, from, from / large * large, from.wrapping_sub(granule), address]);
             let frame = random.of(&[4 * GIB, 4 * GIB + granule, 4 * GIB + large, self.setup[1]]);
