@@ -389,6 +389,27 @@ fn ahead<'a>(s: Setup, words: &'a [u64], second: &'a [u64], address: u64, end: u
     Slots { place, count, used }
 }
 
+// The words in use of a part of a run become 0, each by one store of its own: a walker may read them meanwhile.
+fn clear_used(run: &mut [u64], start: usize, count: usize)
+    ensures { λ _. ⌜ now (run .exit) ≡ zeroed (now (run .entry)) start count ⌝ }
+{
+    let n = run.len();
+    if start > n {
+        return;
+    }
+    if n - start < count {
+        return;
+    }
+    let end = start + count;
+    let mut i = start;
+    while i < end {
+        if run[i] != 0 {
+            run[i] = 0;
+        }
+        i += 1;
+    }
+}
+
 // So many words from a place of the two runs on become 0, where one of them holds all.
 fn clear_words(words: &mut [u64], second: &mut [u64], place: usize, count: usize)
     requires { ⌜ (place < length (now words) → place + count ≤ length (now words)) ⌝ }
@@ -396,11 +417,11 @@ fn clear_words(words: &mut [u64], second: &mut [u64], place: usize, count: usize
 {
     let n = words.len();
     if place < n {
-        pool::wipe_from(words, place, count);
+        clear_used(words, place, count);
         return;
     }
     let at = place - n;
-    pool::wipe_from(second, at, count);
+    clear_used(second, at, count);
 }
 
 // Unmap at an address. What it finds there, a mapping or a hole, is done then.
