@@ -1,5 +1,5 @@
 // Unmap a range. Every test is made first, on the memory as it is: the walks of its pages, and whether the free list has room for the tables that come back. Then the
-// mappings go, one after the other.
+// mappings go, in rising order: pages side by side in one table at once, as far as no table comes free, any other mapping by unmap.
 use entry::Entry;
 use model::RangeUnmapped;
 use model::UnmapAnswer;
