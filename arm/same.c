@@ -97,7 +97,7 @@ static uint64_t some_frame(uint64_t size) {
 
 static unsigned history, call;
 static uint64_t hash;
-static unsigned long given[9][13]; /* how often a function gave a refusal; 0 counts what is none, 12 what should not be */
+static unsigned long given[11][13]; /* how often a function gave a refusal; 0 counts what is none, 12 what should not be */
 
 static void add(uint64_t number) {
     hash = (hash ^ number) * UINT64_C(0x9FB21C651E98DF25);
@@ -114,7 +114,7 @@ static void add_memory(size_t words_len, size_t second_len, size_t list_len) {
 static void answered(unsigned function, const char *name, uint64_t refusal, const void *answer, size_t count) {
     uint64_t numbers[13];
     memcpy(numbers, answer, 8 * count);
-    given[function][refusal < 12 ? refusal : function > 6 ? 0 : 12]++;
+    given[function][refusal < 12 ? refusal : function > 8 ? 0 : 12]++;
     add(refusal);
     for (size_t i = 0; i < count; i++) add(numbers[i]);
     if (call % SHOW != 0) return;
@@ -272,14 +272,53 @@ static void call_list(void) {
     next = answer.next;
 }
 
+/* a length of few pages, of what some size takes, up to the end of a region, of 4 GiB, or beside a limit */
+static uint64_t some_length(uint64_t address) {
+    uint64_t block = table() * (table() / 8), large = block * (table() / 8), blocks = 1 + below(4);
+    switch (below(12)) {
+    case 0: return anything();
+    case 1: return (UINT64_C(1) << 32) + table() * below(2);
+    case 2: return (UINT64_C(1) << 32) - table() * below(3);
+    case 3: return block - address % block + table() * below(3);
+    case 4: return large - address % large + table() * below(3);
+    case 5: return block * blocks + table() * below(2);
+    case 6: return OAK_4_KIB * below(6);
+    case 7: return UINT64_C(1) << below(64);
+    default: return table() * (1 + below(8));
+    }
+}
+
+static void call_map_range(void) {
+    oak_mapped answer;
+    struct lent l = lent();
+    uint64_t size = some_size();
+    memset(&answer, 0x5A, sizeof answer);
+    uint64_t address = some_address(once_in(2) ? size : table()), length = some_length(address), attributes = some_attributes();
+    uint64_t block = table() * (table() / 8), frame = some_frame(once_in(3) ? table() : block);
+    if (!once_in(3)) frame += address % block;
+    uint64_t refusal = oak_map_range(&l.setup, LENT(l), address, frame, length, attributes, &answer);
+    answered(7, "map_range", refusal, &answer, 8);
+    if (refusal == 0) setup = answer.setup, mapped[below(MAPPED)] = address;
+}
+
+static void call_unmap_range(void) {
+    oak_removed answer;
+    struct lent l = lent();
+    memset(&answer, 0x5A, sizeof answer);
+    uint64_t address = once_in(2) ? mapped[below(MAPPED)] : some_address(table()), length = some_length(address);
+    uint64_t refusal = oak_unmap_range(&l.setup, LENT(l), address, length, &answer);
+    answered(8, "unmap_range", refusal, &answer, 9);
+    if (refusal == 0) setup = answer.setup;
+}
+
 static void call_words(void) {
     uint64_t size = some_size(), frame = some_frame(size), attributes = some_attributes();
     uint64_t word = oak_frame_word(frame, size, attributes);
-    answered(7, "frame_word", word, &word, 1);
+    answered(9, "frame_word", word, &word, 1);
     if (once_in(3)) word ^= UINT64_C(1) << below(64);
     if (once_in(3)) size = some_size();
     uint64_t meaning = oak_word_meaning(word, size);
-    answered(8, "word_meaning", meaning, &meaning, 1);
+    answered(10, "word_meaning", meaning, &meaning, 1);
 }
 
 /* one change that no call makes: of a word, mostly one in use, or of the list; the setup's free count may lag behind too */
@@ -323,8 +362,10 @@ static void one_history(void) {
         uint64_t kind = below(64);
         if (history % 2 == 1 && once_in(16)) damage();
         if (kind == 0) call_format();
-        else if (kind < 30) call_map();
-        else if (kind < 44) call_unmap();
+        else if (kind < 24) call_map();
+        else if (kind < 30) call_map_range();
+        else if (kind < 40) call_unmap();
+        else if (kind < 44) call_unmap_range();
         else if (kind < 54) call_query();
         else if (kind < 57) call_list();
         else if (kind < 60) call_audit();
@@ -344,14 +385,15 @@ static void one_history(void) {
 static const struct {
     const char *name;
     unsigned can;
-} functions[9] = {{"format", 0x003}, {"map", 0x9FF},  {"unmap", 0x733},      {"query", 0x313},       {"audit", 0x103},
-                  {"add", 0x903},    {"list", 0x113}, {"frame_word", 0x03D}, {"word_meaning", 0x105}};
+} functions[11] = {{"format", 0x003}, {"map", 0x9FF},  {"unmap", 0x733},      {"query", 0x313},       {"audit", 0x103},
+                  {"add", 0x903},    {"list", 0x113}, {"map_range", 0x9FF},   {"unmap_range", 0x537},  {"frame_word", 0x03D},
+                   {"word_meaning", 0x105}};
 
 int main(void) {
     bool all = true;
     for (history = 0; history < HISTORIES; history++) one_history();
     printf("answers:");
-    for (unsigned f = 0; f < 9; f++) {
+    for (unsigned f = 0; f < 11; f++) {
         printf("%s %s", f == 0 ? "" : ";", functions[f].name);
         for (unsigned r = 0; r < 13; r++) {
             if (given[f][r] != 0) printf(" %u:%lu", r, given[f][r]);

@@ -607,3 +607,265 @@ uint64_t plain_list(const oak_setup *s, const uint64_t *words, size_t words_len,
     *answer = (oak_listed){l.written, !all, l.next};
     return 0;
 }
+
+/* ---- ranges
+ *
+ * Neighbours in one table are looked at and written together. First the whole range is looked at, then it is written. */
+
+#define LONGEST (UINT64_C(1) << 32)
+#define TAKEN UINT32_MAX
+
+static inline bool is_length(unsigned bits, uint64_t length) {
+    return length != 0 && length <= LONGEST && length % page_of(bits) == 0;
+}
+
+/* Pieces of one size, whose entries are neighbours in one table with so many levels left. */
+typedef struct {
+    uint64_t address, frame, size;
+    unsigned target;
+    size_t count;
+} stretch;
+
+/* The first pieces of a range that is not empty. No later one in that table can be larger. */
+ALWAYS_INLINE stretch first_stretch(unsigned bits, uint64_t address, uint64_t frame, uint64_t length) {
+    unsigned target = frame_levels(bits), zeros = (unsigned)__builtin_ctzll(address | frame | LIMIT);
+    while (target > 1 && (shift_of(bits, target) > zeros || region_of(bits, target) > length))
+        target--;
+    uint64_t room = entries_of(bits) - place_of(bits, 0, address, target), count = length >> shift_of(bits, target);
+    return (stretch){address, frame, region_of(bits, target), target, count < room ? count : room};
+}
+
+/* What the walks of a range have come to: for each table 0 or the region it stands for, and by the levels left the last region that lacks
+ * a table. As addresses rise, no region comes again after another. */
+typedef struct {
+    uint32_t stands[MAX_TABLES];
+    uint64_t missing[MAX_LEVELS + 1], needed;
+    bool in_use;
+} ways;
+
+/* Makes the walks of a stretch, which all come to the same tables; false where they find damage. */
+ALWAYS_INLINE bool look_at(unsigned bits, const oak_setup *s, runs r, stretch p, ways *all) {
+    way w;
+    ending e = walk(bits, s, r, p.address, p.target, &w);
+    if (e.damaged)
+        return false;
+    for (unsigned left = (unsigned)s->levels; left >= e.left; left--) {
+        uint32_t *stands = &all->stands[w.at[left]], region = (uint32_t)(p.address >> shift_of(bits, left + 1) << 3 | left);
+        if (*stands != 0 && *stands != region)
+            return false;
+        *stands = region;
+    }
+    if (e.left > p.target) {
+        if (e.word != 0) {
+            all->in_use = true;
+            return true;
+        }
+        for (unsigned left = p.target; left < e.left; left++) {
+            uint64_t region = p.address >> shift_of(bits, left + 1);
+            all->needed += all->missing[left] != region;
+            all->missing[left] = region;
+        }
+        return true;
+    }
+    const uint64_t *words = word_at(r, e.place);
+    if (are_zero(words, p.count))
+        return true;
+    all->in_use = true;
+    for (size_t i = 0; i < p.count; i++)
+        if (words[i] != 0 && !is_frame(bits, words[i], p.target) && (p.target == 1 || child_in(bits, s, words[i]) == 0))
+            return false;
+    return true;
+}
+
+/* Takes the tables that a stretch lacks, top first, and writes its words. Answers how many it took. */
+ALWAYS_INLINE unsigned write_stretch(unsigned bits, const oak_setup *s, runs r, const uint32_t *end, stretch p, uint64_t attributes) {
+    way w;
+    ending e = walk(bits, s, r, p.address, p.target, &w);
+    size_t place = e.place;
+    for (unsigned left = e.left; left-- > p.target;) {
+        size_t table = *--end;
+        memset(table_at(bits, r, table), 0, entries_of(bits) * sizeof(uint64_t));
+        *word_at(r, place) = address_of(bits, s, table) + TABLE;
+        place = place_of(bits, table, p.address, left);
+    }
+    uint64_t *words = word_at(r, place), word = frame_at(p.frame, type_of(p.target), attributes);
+    for (size_t i = 0; i < p.count; i++, word += p.size)
+        words[i] = word;
+    return e.left - p.target;
+}
+
+ALWAYS_INLINE uint64_t map_range(unsigned bits, const oak_setup *s, uint64_t *words, size_t words_len, uint64_t *second,
+                                 size_t second_len, const uint32_t *list, size_t list_len, uint64_t address, uint64_t frame,
+                                 uint64_t length, uint64_t attributes, oak_mapped *answer) {
+    if (!good(bits, s, words_len, second_len, list_len))
+        return refuse_map(s, OAK_REFUSED_SETUP, answer);
+    if (!is_length(bits, length))
+        return refuse_map(s, OAK_REFUSED_SIZE, answer);
+    if (attributes > 15)
+        return refuse_map(s, OAK_REFUSED_ATTRIBUTES, answer);
+    if (address > space_of(bits, s->levels) - length || frame > LIMIT - length)
+        return refuse_map(s, OAK_REFUSED_END, answer);
+    if ((address | frame) % page_of(bits))
+        return refuse_map(s, OAK_REFUSED_BASE, answer);
+    if (in_pool(bits, s, frame, length))
+        return refuse_map(s, OAK_REFUSED_POOL, answer);
+
+    runs r = {words, second, words_len};
+    ways all = {.missing = {UINT64_MAX, UINT64_MAX, UINT64_MAX, UINT64_MAX, UINT64_MAX}};
+    for (uint64_t done = 0; done < length;) {
+        stretch p = first_stretch(bits, address + done, frame + done, length - done);
+        if (!look_at(bits, s, r, p, &all))
+            return refuse_map(s, OAK_REFUSED_DAMAGED, answer);
+        done += p.size * p.count;
+    }
+    if (all.in_use)
+        return refuse_map(s, OAK_REFUSED_MAPPED, answer);
+    if (all.needed > s->free)
+        return refuse_map(s, OAK_REFUSED_TABLES, answer);
+    for (uint64_t i = s->free - all.needed; i < s->free; i++) {
+        if (!is_child(s, list[i]) || all.stands[list[i]] != 0)
+            return refuse_map(s, OAK_REFUSED_DAMAGED, answer);
+        all.stands[list[i]] = TAKEN;
+    }
+
+    /* nothing was written so far, and nothing is refused from here */
+    const uint32_t *end = list + s->free;
+    for (uint64_t done = 0; done < length;) {
+        stretch p = first_stretch(bits, address + done, frame + done, length - done);
+        end -= write_stretch(bits, s, r, end, p, attributes);
+        done += p.size * p.count;
+    }
+    *answer = (oak_mapped){*s, all.needed};
+    answer->setup.free -= all.needed;
+    return 0;
+}
+
+uint64_t plain_map_range(const oak_setup *s, uint64_t *words, size_t words_len, uint64_t *second, size_t second_len,
+                         const uint32_t *list, size_t list_len, uint64_t address, uint64_t frame, uint64_t length, uint64_t attributes,
+                         oak_mapped *answer) {
+    return OF_GRANULE(s->granule, map_range, s, words, words_len, second, second_len, list, list_len, address, frame, length, attributes,
+                      answer);
+}
+
+/* A range that is to be unmapped, what is found in it, and its clearing. */
+typedef struct {
+    const oak_setup *s;
+    runs r;
+    uint64_t from, to, removed, given;
+    bool cut, seen[MAX_TABLES];
+    uint32_t *end; /* of the list */
+} clearing;
+
+/* The entries of a table that a range meets, where the first one stands for the addresses from first on. */
+static inline size_t met_from(unsigned bits, const clearing *c, unsigned left, uint64_t first) {
+    return c->from > first ? (c->from - first) >> shift_of(bits, left) : 0;
+}
+
+static inline size_t met_to(unsigned bits, const clearing *c, unsigned left, uint64_t first) {
+    uint64_t to = (c->to - first + region_of(bits, left) - 1) >> shift_of(bits, left);
+    return to < entries_of(bits) ? to : entries_of(bits);
+}
+
+/* How many of these words are pages; false where one is damaged. No branch in the loop. */
+ALWAYS_INLINE bool count_pages(unsigned bits, const uint64_t *words, size_t count, uint64_t *pages) {
+    uint64_t in_use = 0, frames = 0;
+    for (size_t i = 0; i < count; i++) {
+        in_use += words[i] != 0;
+        frames += is_frame(bits, words[i], 1);
+    }
+    *pages = frames;
+    return frames == in_use;
+}
+
+/* What becomes of a table: it is damaged, it stays, or it is given back. */
+enum fate { DAMAGED, STAYS, GOES };
+
+/* Looks at what the range meets in a table. */
+static enum fate look_in(unsigned bits, clearing *c, size_t table, unsigned left, uint64_t first) {
+    const uint64_t *t = table_at(bits, c->r, table);
+    size_t from = met_from(bits, c, left, first), to = met_to(bits, c, left, first);
+    uint64_t size = region_of(bits, left), lost = 0, stays = 0;
+    if (c->seen[table])
+        return DAMAGED;
+    c->seen[table] = true;
+    if (left == 1) {
+        if (bits == FOUR ? !count_pages(FOUR, t + from, to - from, &lost) : !count_pages(SIXTEEN, t + from, to - from, &lost))
+            return DAMAGED;
+        c->removed += lost;
+    } else {
+        for (size_t i = from; i < to; i++) {
+            uint64_t base = first + size * i, child;
+            if (t[i] == 0)
+                continue;
+            if ((child = child_in(bits, c->s, t[i])) != 0) {
+                enum fate fate = look_in(bits, c, child, left - 1, base);
+                if (fate == DAMAGED)
+                    return DAMAGED;
+                lost += fate == GOES, stays += fate == STAYS;
+                continue;
+            }
+            if (!is_frame(bits, t[i], left))
+                return DAMAGED;
+            c->cut |= base < c->from || c->to - base < size;
+            c->removed++, lost++;
+        }
+    }
+    if (table == 0 || lost == 0 || stays != 0 || !are_zero(t, from) || !are_zero(t + to, entries_of(bits) - to))
+        return STAYS;
+    c->given++;
+    return GOES;
+}
+
+/* Clears what the range meets in a table, and gives the table back where that leaves it empty. */
+static bool clear_in(unsigned bits, clearing *c, size_t table, unsigned left, uint64_t first) {
+    uint64_t *t = table_at(bits, c->r, table);
+    size_t from = met_from(bits, c, left, first), to = met_to(bits, c, left, first);
+    bool lost = false;
+    if (left == 1) {
+        lost = !are_zero(t + from, to - from);
+        memset(t + from, 0, (to - from) * sizeof *t);
+    } else {
+        for (size_t i = from; i < to; i++) {
+            uint64_t child = t[i] == 0 ? 0 : child_in(bits, c->s, t[i]);
+            if (t[i] != 0 && (child == 0 || clear_in(bits, c, child, left - 1, first + region_of(bits, left) * i)))
+                t[i] = 0, lost = true;
+        }
+    }
+    if (table == 0 || !lost || !are_zero(t, entries_of(bits)))
+        return false;
+    *c->end++ = (uint32_t)table;
+    return true;
+}
+
+static inline uint64_t refuse_removed(const oak_setup *s, uint64_t refusal, oak_removed *answer) {
+    *answer = (oak_removed){.setup = *s};
+    return refusal;
+}
+
+uint64_t plain_unmap_range(const oak_setup *s, uint64_t *words, size_t words_len, uint64_t *second, size_t second_len, uint32_t *list,
+                           size_t list_len, uint64_t address, uint64_t length, oak_removed *answer) {
+    if (!OF_GRANULE(s->granule, good, s, words_len, second_len, list_len))
+        return refuse_removed(s, OAK_REFUSED_SETUP, answer);
+    unsigned bits = s->granule == OAK_16_KIB ? SIXTEEN : FOUR;
+    if (!is_length(bits, length))
+        return refuse_removed(s, OAK_REFUSED_SIZE, answer);
+    if (address > space_of(bits, s->levels) - length)
+        return refuse_removed(s, OAK_REFUSED_END, answer);
+    if (address % page_of(bits))
+        return refuse_removed(s, OAK_REFUSED_BASE, answer);
+
+    clearing c = {.s = s, .r = {words, second, words_len}, .from = address, .to = address + length, .end = list + s->free};
+    if (look_in(bits, &c, 0, (unsigned)s->levels, 0) == DAMAGED)
+        return refuse_removed(s, OAK_REFUSED_DAMAGED, answer);
+    if (c.cut)
+        return refuse_removed(s, OAK_REFUSED_INSIDE, answer);
+    if (s->free + c.given > total(s) - 1)
+        return refuse_removed(s, OAK_REFUSED_DAMAGED, answer);
+
+    /* nothing was written so far, and nothing is refused from here */
+    if (c.removed != 0)
+        clear_in(bits, &c, 0, (unsigned)s->levels, 0);
+    *answer = (oak_removed){*s, c.removed, c.given};
+    answer->setup.free += c.given;
+    return 0;
+}

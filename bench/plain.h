@@ -21,6 +21,13 @@ uint64_t plain_map(const oak_setup *s, uint64_t *words, size_t words_len, uint64
 uint64_t plain_unmap(const oak_setup *s, uint64_t *words, size_t words_len, uint64_t *second, size_t second_len, uint32_t *list,
                      size_t list_len, uint64_t address, oak_unmapped *answer);
 
+uint64_t plain_map_range(const oak_setup *s, uint64_t *words, size_t words_len, uint64_t *second, size_t second_len,
+                         const uint32_t *list, size_t list_len, uint64_t address, uint64_t frame, uint64_t length, uint64_t attributes,
+                         oak_mapped *answer);
+
+uint64_t plain_unmap_range(const oak_setup *s, uint64_t *words, size_t words_len, uint64_t *second, size_t second_len, uint32_t *list,
+                           size_t list_len, uint64_t address, uint64_t length, oak_removed *answer);
+
 uint64_t plain_query(const oak_setup *s, const uint64_t *words, size_t words_len, const uint64_t *second, size_t second_len,
                      const uint32_t *list, size_t list_len, uint64_t address, oak_found *answer);
 

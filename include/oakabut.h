@@ -9,8 +9,8 @@
  * 512 or 2048. With n tables in the first region, table t below n starts at word e * t of the run `words` and stands at the address
  * base + granule * t; table t from n on starts at word e * (t - n) of the run `second` and stands at second_base + granule * (t - n).
  * Table 0 is the root. The free list has a place for each table of both regions, and its first `free` places are the numbers of free
- * tables. The host gives both runs of words and the list with every call, and the setup that the last oak_format, oak_map, oak_unmap or
- * oak_add handed back. Without a second region the second run is OAK_NO_WORDS, 0.
+ * tables. The host gives both runs of words and the list with every call, and the setup that the last oak_format, oak_map, oak_unmap,
+ * oak_map_range, oak_unmap_range or oak_add handed back. Without a second region the second run is OAK_NO_WORDS, 0.
  *
  * Pointers. Each must be valid and aligned, also where a length is 0; a null pointer never is. The answer, the setup, the two runs of
  * words, the list and the two runs of oak_list must not overlap: oak_map(&m.setup, ..., &m) is wrong, a copy of the setup is right.
@@ -19,14 +19,17 @@
  * The machine. Tables are little-endian (SCTLR_EL2.EE 0). Stage 2 is set up with HCR_EL2.FWB 0, VTCR_EL2.HA and HD 0, without stage 2
  * permission indirection; and with a granule of 4096 with TG0 4 KiB, and T0SZ 25 with SL0 1 for three levels or T0SZ 16 with SL0 2 for
  * four; with one of 16384 with TG0 16 KiB, T0SZ 17 and SL0 2. A walker may read the pool while oak_map or oak_unmap runs, and sees the
- * mappings from before the call or from after it, in whatever order it sees the words written; of what oak_add writes it sees nothing. It
- * may not read the pool while oak_format runs, which fills it by memset.
+ * mappings from before the call or from after it, in whatever order it sees the words written; of what oak_add writes it sees nothing.
+ * While oak_map_range or oak_unmap_range runs it sees each mapping of the range whole or not at all, as from before the call or from after
+ * it, and outside the range nothing changes. It may not read the pool while oak_format runs, which fills it by memset.
  *
  * What is the host's. The calls write words: they issue no barrier, invalidate no TLB and clean no cache, and one runs at a time. By our
  * reading of the Arm manual the host, with the guest's VTTBR_EL2 in place, does this:
  *
- *   after oak_map and oak_add  dsb ishst
+ *   after oak_map, oak_map_range and oak_add
+ *                              dsb ishst
  *   after oak_unmap            dsb ishst; tlbi ipas2e1is, Xt (the address >> 12); dsb ish; tlbi vmalle1is; dsb ish; isb
+ *   after oak_unmap_range      the same with one tlbi ipas2e1is for an address in each mapping that was removed
  *   or, for the whole guest    dsb ishst; tlbi vmalls12e1is; dsb ish; isb
  *
  * - dsb after a map: before it the guest may fault on the address as if nothing were mapped. There is no tlbi to do: only entries that
@@ -70,7 +73,7 @@ extern "C" {
 /* The refusals. */
 #define OAK_REFUSALS UINT64_C(16)
 #define OAK_REFUSED_SETUP UINT64_C(1)      /* a setup number or a length breaks the rules */
-#define OAK_REFUSED_SIZE UINT64_C(2)       /* no frame has the size, or none of the pool's granule */
+#define OAK_REFUSED_SIZE UINT64_C(2)       /* no frame has the size, or none of the pool's granule; or no range has the length */
 #define OAK_REFUSED_ATTRIBUTES UINT64_C(3) /* the attributes are above 15 */
 #define OAK_REFUSED_END UINT64_C(4)        /* an address is past the space, or a frame past 2^48 */
 #define OAK_REFUSED_BASE UINT64_C(5)       /* an address or a frame's base is not aligned */
@@ -78,7 +81,7 @@ extern "C" {
 #define OAK_REFUSED_TABLES UINT64_C(7)     /* too few tables are free */
 #define OAK_REFUSED_DAMAGED UINT64_C(8)    /* the pool is damaged, or the word is no frame's at the size */
 #define OAK_REFUSED_EMPTY UINT64_C(9)      /* nothing is mapped there */
-#define OAK_REFUSED_INSIDE UINT64_C(10)    /* the mapping there starts at another address */
+#define OAK_REFUSED_INSIDE UINT64_C(10)    /* the mapping there starts at another address, or a range cuts it */
 #define OAK_REFUSED_POOL UINT64_C(11)      /* the frame, or one that is mapped, shares a byte with the pool's tables */
 
 /* A refusal's number in words, for people; 0 is no refusal. */
@@ -86,7 +89,7 @@ static inline const char *oak_refusal_text(uint64_t number) {
     switch (number) {
     case 0: return "not refused";
     case OAK_REFUSED_SETUP: return "a setup number or a length breaks the rules";
-    case OAK_REFUSED_SIZE: return "no frame has the size, or none of the pool's granule";
+    case OAK_REFUSED_SIZE: return "no frame has the size, or none of the pool's granule; or no range has the length";
     case OAK_REFUSED_ATTRIBUTES: return "the attributes are above 15";
     case OAK_REFUSED_END: return "an address is past the space, or a frame past 2^48";
     case OAK_REFUSED_BASE: return "an address or a frame's base is not aligned";
@@ -94,7 +97,7 @@ static inline const char *oak_refusal_text(uint64_t number) {
     case OAK_REFUSED_TABLES: return "too few tables are free";
     case OAK_REFUSED_DAMAGED: return "the pool is damaged, or the word is no frame's at the size";
     case OAK_REFUSED_EMPTY: return "nothing is mapped there";
-    case OAK_REFUSED_INSIDE: return "the mapping there starts at another address";
+    case OAK_REFUSED_INSIDE: return "the mapping there starts at another address, or a range cuts it";
     case OAK_REFUSED_POOL: return "the frame, or one that is mapped, shares a byte with the pool's tables";
     default: return "no refusal has this number";
     }
@@ -127,8 +130,8 @@ uint64_t oak_word_meaning(uint64_t word, uint64_t size);
 /* ---- the calls on a pool
  *
  * Each returns 0 or the number of a refusal, and always writes the whole answer. Where it refuses, the answer is zeros, but for the
- * setup that oak_map, oak_unmap and oak_add hand back as it was, and for the hole that goes with OAK_REFUSED_EMPTY; and the words, the
- * list and the two runs of oak_list stay as they were.
+ * setup that oak_map, oak_unmap, oak_map_range, oak_unmap_range and oak_add hand back as it was, and for the hole that goes with
+ * OAK_REFUSED_EMPTY; and the words, the list and the two runs of oak_list stay as they were.
  *
  * OAK_REFUSED_SETUP is given where a setup number breaks its rule, words_len is not granule / 8 * tables, second_len is not
  * granule / 8 * second_tables, or list_len is not tables + second_tables.
@@ -155,7 +158,7 @@ typedef struct {
 
 typedef struct {
     oak_setup setup;
-    uint64_t taken; /* how many tables the mapping took */
+    uint64_t taken; /* how many tables the mapping took, or the range */
 } oak_mapped;
 
 typedef struct {
@@ -167,6 +170,12 @@ typedef struct {
     uint64_t hole_base;  /* with OAK_REFUSED_EMPTY the base of the hole, else 0 */
     uint64_t hole_size;  /* and its size, else 0 */
 } oak_unmapped;
+
+typedef struct {
+    oak_setup setup;
+    uint64_t removed; /* how many mappings were removed */
+    uint64_t given;   /* how many tables came back */
+} oak_removed;
 
 typedef struct {
     uint64_t base;  /* where the mapping starts */
@@ -244,6 +253,39 @@ uint64_t oak_map(const oak_setup *s, uint64_t *words, size_t words_len, uint64_t
 uint64_t oak_unmap(const oak_setup *s, uint64_t *words, size_t words_len, uint64_t *second, size_t second_len, uint32_t *list,
                    size_t list_len, uint64_t address, oak_unmapped *answer);
 
+/* Maps length bytes of frames from frame on at address, in pieces: at each point the largest size of the granule that fits what is left
+ * and divides both addresses. All or nothing; done, everything is as if the pieces had been mapped one by one, in rising order.
+ *
+ * Answers the new setup and the tables taken, or the first of these that applies:
+ *   OAK_REFUSED_SETUP       a setup number or a length breaks its rule
+ *   OAK_REFUSED_SIZE        length is 0, not a multiple of granule, or above 4 GiB
+ *   OAK_REFUSED_ATTRIBUTES  attributes is above 15
+ *   OAK_REFUSED_END         address + length is above the space, or frame + length above 2^48
+ *   OAK_REFUSED_BASE        address or frame is not a multiple of granule
+ *   OAK_REFUSED_POOL        one of the frames shares a byte with the tables of either region
+ *   OAK_REFUSED_DAMAGED     the walk of a piece meets a damaged word, or comes to the same table twice; or together the walks come to one
+ *                           table for two regions
+ *   OAK_REFUSED_MAPPED      the walk of a piece meets a frame, or the entry it comes to is a table or a frame
+ *   OAK_REFUSED_TABLES      all pieces together need more new tables than are free
+ *   OAK_REFUSED_DAMAGED     a table to be taken is not 1 to tables + second_tables - 1, is taken twice, or stands on the path of a piece */
+uint64_t oak_map_range(const oak_setup *s, uint64_t *words, size_t words_len, uint64_t *second, size_t second_len, const uint32_t *list,
+                       size_t list_len, uint64_t address, uint64_t frame, uint64_t length, uint64_t attributes, oak_mapped *answer);
+
+/* Removes every mapping that lies wholly in the length bytes from address on, in rising order, and passes over holes. All or nothing; done,
+ * everything is as if the mappings had been unmapped one by one. That there is none is no refusal.
+ *
+ * Answers the new setup, how many mappings were removed and how many tables came back, or the first of these that applies:
+ *   OAK_REFUSED_SETUP    a setup number or a length breaks its rule
+ *   OAK_REFUSED_SIZE     length is 0, not a multiple of granule, or above 4 GiB
+ *   OAK_REFUSED_END      address + length is above the space
+ *   OAK_REFUSED_BASE     address is not a multiple of granule
+ *   OAK_REFUSED_DAMAGED  the walk for a page of the range meets a damaged word, or comes to the same table twice; or together the walks
+ *                        come to one table for two regions
+ *   OAK_REFUSED_INSIDE   a mapping lies partly in the range
+ *   OAK_REFUSED_DAMAGED  giving back would make more than tables + second_tables - 1 free */
+uint64_t oak_unmap_range(const oak_setup *s, uint64_t *words, size_t words_len, uint64_t *second, size_t second_len, uint32_t *list,
+                         size_t list_len, uint64_t address, uint64_t length, oak_removed *answer);
+
 /* The mapping that holds an address.
  *
  * Answers it, or the first of these that applies:
@@ -312,6 +354,10 @@ OAK_HOLDS(offsetof(oak_unmapped, attributes) == 72);
 OAK_HOLDS(offsetof(oak_unmapped, given) == 80);
 OAK_HOLDS(offsetof(oak_unmapped, hole_base) == 88);
 OAK_HOLDS(offsetof(oak_unmapped, hole_size) == 96);
+OAK_HOLDS(sizeof(oak_removed) == 72);
+OAK_HOLDS(offsetof(oak_removed, setup) == 0);
+OAK_HOLDS(offsetof(oak_removed, removed) == 56);
+OAK_HOLDS(offsetof(oak_removed, given) == 64);
 OAK_HOLDS(sizeof(oak_found) == 48);
 OAK_HOLDS(offsetof(oak_found, base) == 0);
 OAK_HOLDS(offsetof(oak_found, frame) == 8);
@@ -396,6 +442,25 @@ static inline uint64_t oak_pool_unmap(oak_pool *pool, uint64_t address, oak_unma
                                 address, &unmapped);
     pool->setup = unmapped.setup;
     if (answer != NULL) *answer = unmapped;
+    return number;
+}
+
+static inline uint64_t oak_pool_map_range(oak_pool *pool, uint64_t address, uint64_t frame, uint64_t length, uint64_t attributes,
+                                          oak_mapped *answer) {
+    oak_mapped mapped;
+    uint64_t number = oak_map_range(&pool->setup, pool->words, pool->words_len, pool->second, pool->second_len, pool->list,
+                                    pool->list_len, address, frame, length, attributes, &mapped);
+    pool->setup = mapped.setup;
+    if (answer != NULL) *answer = mapped;
+    return number;
+}
+
+static inline uint64_t oak_pool_unmap_range(oak_pool *pool, uint64_t address, uint64_t length, oak_removed *answer) {
+    oak_removed removed;
+    uint64_t number = oak_unmap_range(&pool->setup, pool->words, pool->words_len, pool->second, pool->second_len, pool->list,
+                                      pool->list_len, address, length, &removed);
+    pool->setup = removed.setup;
+    if (answer != NULL) *answer = removed;
     return number;
 }
 

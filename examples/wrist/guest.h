@@ -15,6 +15,10 @@
 #define REGION UINT64_C(0x40000000)
 #endif
 
+/* what the sync guest sends to the depot: 40 MiB, given and taken back in one call each */
+#define OUTBOX_AT (REGION + 8 * BLOCK)
+#define OUTBOX_SIZE (UINT64_C(40) << 20)
+
 enum { TELL, GIVE, WAIT, END };
 
 /* the guest's first instruction: guests.ld puts it at the start of the guest's page */

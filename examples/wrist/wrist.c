@@ -8,7 +8,9 @@
  *           0x00002000  its data     rw-                      0x40002000  its data         rw-
  *           0x00200000  its store    rw-, on demand           0x40003000  the scan's data  r--
  *           0x00400000  its picture  rw-, on demand           0x40200000  its buffer       rw-, on demand
- *           0x00600000  its archive  rw-, on demand
+ *           0x00600000  its archive  rw-, on demand           0x41000000  its outbox       rw-, 40 MiB
+ *
+ * The outbox comes in one call and goes in one call, when its guest is done: twenty blocks, for which there is a table already.
  *
  * Each guest needs a table for its GiB and one for its first 2 MiB, and one more for each page that comes on demand. With the root that
  * makes eight, and the pool has six. Memory for one more was found after boot: when a map gets 7 for the first time, it is added to the
@@ -18,14 +20,14 @@
  * may have, so the picture comes by one fault and one map, and that needs no table.
  *
  * With SIXTEEN_KIB the granule is 16 KiB: pages, blocks of 32 MiB and regions of 64 GiB stand in the place of those above, and the story is
- * the same (guest.h). */
+ * the same (guest.h). The 40 MiB are a block and pages then, which need a table of their own, and the pool has one more. */
 #include "board.h"
 #include "guest.h"
 #include "oakabut.h"
 
 /* ---- the pool: lent memory, and the setup that every call takes and hands back */
 
-enum { LEVELS = 3, TABLES = 6, MORE = 1, ENTRIES = PAGE / 8 };
+enum { LEVELS = 3, TABLES = OUTBOX_SIZE % BLOCK == 0 ? 6 : 7, MORE = 1, ENTRIES = PAGE / 8 };
 #define POOL UINT64_C(0x44000000)
 #define SPARE UINT64_C(0x44800000)
 
@@ -71,6 +73,28 @@ static uint64_t map(uint64_t address, uint64_t frame, uint64_t size, uint64_t at
     return refusal;
 }
 
+/* Maps so many bytes of frames in one call. */
+static void map_range(uint64_t address, uint64_t frame, uint64_t length, uint64_t attributes) {
+    oak_mapped answer;
+    uint64_t refusal = oak_map_range(&setup, LENT, address, frame, length, attributes, &answer);
+    say("   map the range %x to %x, length %x, %s: ", address, frame, length, letters(attributes));
+    if (refusal == 0) say("takes %u\n", answer.taken);
+    else say("refused with %u\n", refusal);
+    setup = answer.setup;
+    after_call();
+}
+
+/* Unmaps all that is in a range. */
+static void unmap_range(uint64_t address, uint64_t length) {
+    oak_removed answer;
+    uint64_t refusal = oak_unmap_range(&setup, LENT, address, length, &answer);
+    say("   unmap the range %x, length %x: ", address, length);
+    if (refusal == 0) say("removes %u, gives %u\n", answer.removed, answer.given);
+    else say("refused with %u\n", refusal);
+    setup = answer.setup;
+    after_call();
+}
+
 /* Unmaps what starts at the address, and answers how many tables came back. */
 static uint64_t unmap(uint64_t address) {
     oak_unmapped answer;
@@ -104,16 +128,18 @@ struct guest {
     enum { READY, SHORT_OF_A_TABLE, DONE } state;
     uint64_t first, last;     /* its part of the space */
     struct area on_demand[3]; /* what it gets when it first uses it, and from where */
+    struct area range;        /* what it has from the start to its end */
     struct registers registers;
 };
 #define SCAN UINT64_C(0x45000000) /* the frames of each; guests.ld has the programs loaded into the first */
 #define SYNC UINT64_C(0x46000000)
+#define OUTBOX UINT64_C(0x50000000)
 #define PICTURE ((SCAN + 2 * BLOCK - 1) / BLOCK * BLOCK) /* at the next multiple of a block's size past the first block */
 static struct guest scan = {"scan", READY, 0, REGION - 1,
     {{BLOCK, PAGE, SCAN + 2 * PAGE}, {2 * BLOCK, BLOCK, PICTURE}, {3 * BLOCK, PAGE, SCAN + 3 * PAGE}},
-    {.pc = PAGE, .sp = 3 * PAGE, .pstate = AT_EL1}};
+    {0, 0, 0}, {.pc = PAGE, .sp = 3 * PAGE, .pstate = AT_EL1}};
 static struct guest sync = {"sync", READY, REGION, 2 * REGION - 1,
-    {{REGION + BLOCK, PAGE, SYNC + 2 * PAGE}}, {.pc = REGION + PAGE, .sp = REGION + 3 * PAGE, .pstate = AT_EL1}};
+    {{REGION + BLOCK, PAGE, SYNC + 2 * PAGE}}, {OUTBOX_AT, OUTBOX_SIZE, OUTBOX}, {.pc = REGION + PAGE, .sp = REGION + 3 * PAGE, .pstate = AT_EL1}};
 
 /* Copies a guest's text. The guest names it by an address in its own space: query says where that is, and whether it may be read. */
 static void copy_text(uint64_t address, char *text, uint64_t room) {
@@ -127,22 +153,39 @@ static void copy_text(uint64_t address, char *text, uint64_t room) {
     text[length] = 0;
 }
 
+/* Mappings that follow each other in both spaces, of one size and with the same attributes. */
+struct run {
+    uint64_t count, base, size, frame, attributes;
+};
+
+static void say_run(struct run r) {
+    uint64_t number = r.size >= OAK_2_MIB ? r.size >> 20 : r.size >> 10;
+    const char *unit = r.size >= OAK_2_MIB ? "MiB" : "KiB", *kind = r.attributes & OAK_DEVICE ? "device" : "normal";
+    if (r.count == 1) say("   %a  %u %s  -> %a  %s  %s\n", r.base, number, unit, r.frame, letters(r.attributes), kind);
+    if (r.count > 1) say("   %a  %u x %u %s  -> %a  %s  %s\n", r.base, r.count, number, unit, r.frame, letters(r.attributes), kind);
+}
+
 /* What a guest sees, in lines for a person: its part of the space is listed, a few mappings at a time. The frame and the attributes are in the entry word. */
 static void view(const struct guest *guest) {
     enum { ROOM = 3 };
     uint64_t places[ROOM], entries[ROOM], start = guest->first, count = 0, bytes = 0, refusal;
     oak_listed listed;
+    struct run run = {0, 0, 0, 0, 0};
     say("%s sees\n", guest->name);
     do {
         refusal = oak_list(&setup, LENT, start, places, ROOM, entries, ROOM, &listed);
         for (uint64_t i = 0; i < listed.written && OAK_PLACE_BASE(places[i]) <= guest->last; i++) {
             uint64_t size = OAK_PLACE_SIZE(places[i]), meaning = oak_word_meaning(entries[i], size), attributes = OAK_MEANING_ATTRIBUTES(meaning);
-            say("   %a  %u %s  -> %a  %s  %s\n", OAK_PLACE_BASE(places[i]), size >= OAK_2_MIB ? size >> 20 : size >> 10, size >= OAK_2_MIB ? "MiB" : "KiB",
-                OAK_MEANING_BASE(meaning), letters(attributes), attributes & OAK_DEVICE ? "device" : "normal");
-            count++, bytes += size;
+            uint64_t base = OAK_PLACE_BASE(places[i]), frame = OAK_MEANING_BASE(meaning), past = run.count * run.size;
+            if (run.count == 0 || base != run.base + past || frame != run.frame + past || size != run.size || attributes != run.attributes) {
+                say_run(run);
+                run = (struct run){0, base, size, frame, attributes};
+            }
+            run.count++, count++, bytes += size;
         }
         start = listed.next;
     } while (refusal == 0 && listed.more && start <= guest->last);
+    say_run(run);
     if (refusal == 0) say("   mappings %u, %u KiB\n", count, bytes >> 10);
     else say("   LIST: %u\n", refusal);
 }
@@ -166,6 +209,7 @@ static int called(struct guest *guest) {
     default:
         say("%s is done\n", guest->name);
         guest->state = DONE;
+        if (guest->range.size != 0) unmap_range(guest->range.first, guest->range.size);
         return 0;
     }
 }
@@ -237,6 +281,7 @@ int main(void) {
     map(REGION + PAGE, SYNC, PAGE, OAK_READ | OAK_EXECUTE);
     map(REGION + 2 * PAGE, SYNC + PAGE, PAGE, OAK_READ | OAK_WRITE);
     map(REGION + 3 * PAGE, SCAN + PAGE, PAGE, OAK_READ);
+    map_range(sync.range.first, sync.range.frame, sync.range.size, OAK_READ | OAK_WRITE);
     stage2_on(LEVELS, setup.granule, POOL);
     view(&scan);
     view(&sync);

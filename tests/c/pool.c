@@ -99,6 +99,22 @@ static bool unmap_both(uint64_t address, bool wanted) {
     return number == got && (!wanted || memcmp(&a, &b, sizeof a) == 0);
 }
 
+static bool map_range_both(uint64_t address, uint64_t frame, uint64_t length, uint64_t attributes, bool wanted) {
+    oak_mapped a, b;
+    uint64_t number = oak_map_range(&setup, PLAIN, address, frame, length, attributes, &a);
+    setup = a.setup;
+    uint64_t got = oak_pool_map_range(&pool, address, frame, length, attributes, wanted ? &b : NULL);
+    return number == got && (!wanted || memcmp(&a, &b, sizeof a) == 0);
+}
+
+static bool unmap_range_both(uint64_t address, uint64_t length, bool wanted) {
+    oak_removed a, b;
+    uint64_t number = oak_unmap_range(&setup, PLAIN, address, length, &a);
+    setup = a.setup;
+    uint64_t got = oak_pool_unmap_range(&pool, address, length, wanted ? &b : NULL);
+    return number == got && (!wanted || memcmp(&a, &b, sizeof a) == 0);
+}
+
 static bool query_both(uint64_t address, bool wanted) {
     oak_found a, b;
     uint64_t number = oak_query(&setup, PLAIN, address, &a), got = oak_pool_query(&pool, address, wanted ? &b : NULL);
@@ -138,7 +154,7 @@ static bool one_call(void) {
     uint64_t address = below(3) * block + below(4) * granule + below(2) * (UINT64_C(1) << 37), frame = FRAME + below(8) * block;
     bool wanted = below(2) == 0;
     if (size == block && below(8) != 0) address -= address % block;
-    switch (below(12)) {
+    switch (below(14)) {
     case 0: return below(8) != 0 || format_both(3 + below(3));
     case 1: return below(4) != 0 || add_both(below(4) == 0 ? BASE : SECOND_BASE, below(4) == 0 ? 0 : MORE, below(2) == 0);
     case 2: return audit_both(wanted);
@@ -147,6 +163,8 @@ static bool one_call(void) {
     case 5:
     case 6:
     case 7: return unmap_both(address, wanted);
+    case 8: return map_range_both(address, frame, below(5) * granule + below(2) * block, below(17), wanted);
+    case 9: return unmap_range_both(address, below(5) * granule + below(2) * block, wanted);
     default: return map_both(address, frame, size, below(17), wanted);
     }
 }

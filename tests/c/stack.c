@@ -18,7 +18,7 @@ static uint64_t words[FIRST * MOST_ENTRIES], second[SECOND * MOST_ENTRIES];
 static uint32_t list[TABLES];
 #define LENT words, FIRST * entries, second, SECOND * entries, list, TABLES
 static oak_setup setup;
-static uint64_t result, address, frame, size, attributes, levels, granule, entries;
+static uint64_t result, address, frame, size, length, attributes, levels, granule, entries;
 static unsigned char stack[STACK] __attribute__((aligned(64)));
 static ucontext_t here, there;
 
@@ -42,6 +42,16 @@ static void do_unmap(void) {
     oak_unmapped u;
     result = oak_unmap(&setup, LENT, address, &u);
     setup = u.setup;
+}
+static void do_map_range(void) {
+    oak_mapped m;
+    result = oak_map_range(&setup, LENT, address, frame, length, attributes, &m);
+    setup = m.setup;
+}
+static void do_unmap_range(void) {
+    oak_removed r;
+    result = oak_unmap_range(&setup, LENT, address, length, &r);
+    setup = r.setup;
 }
 static void do_query(void) {
     oak_found f;
@@ -71,10 +81,10 @@ static size_t used(void (*call)(void)) {
     return STACK - clean;
 }
 
-enum { FORMAT, MAP, UNMAP, QUERY, AUDIT, ADD, LIST, SWITCH, MEASURE, CALLS };
-static size_t worst[CALLS]; /* of the seven calls, of the switch alone and of `known` */
-static const char *const names[SWITCH] = {"format", "map", "unmap", "query", "audit", "add", "list"};
-static void (*const calls[CALLS])(void) = {do_format, do_map, do_unmap, do_query, do_audit, do_add, do_list, nothing, known};
+enum { FORMAT, MAP, UNMAP, QUERY, AUDIT, ADD, LIST, MAP_RANGE, UNMAP_RANGE, SWITCH, MEASURE, CALLS };
+static size_t worst[CALLS]; /* of the nine calls, of the switch alone and of `known` */
+static const char *const names[SWITCH] = {"format", "map", "unmap", "query", "audit", "add", "list", "map_range", "unmap_range"};
+static void (*const calls[CALLS])(void) = {do_format, do_map, do_unmap, do_query, do_audit, do_add, do_list, do_map_range, do_unmap_range, nothing, known};
 
 static void make(int call) {
     size_t n = used(calls[call]);
@@ -115,13 +125,26 @@ static int pools(uint64_t of_levels, uint64_t of_granule, unsigned block) {
     }
     make(ADD);
     if (result != 0) wrong++, printf("add: %u\n", (unsigned)result);
+    make(FORMAT);
+    for (int i = 0; i < 24; i++) { /* ranges that take many tables, that find none, and that end in a mapping; then back again */
+        address = ((uint64_t)i * 40 << block) - granule * (i > 0), frame = (UINT64_C(1) << 40) + granule * (uint64_t)(i % 3), attributes = 3;
+        length = i % 8 == 7 ? UINT64_C(1) << 32 : (UINT64_C(25) << block) + granule * (uint64_t)(i % 2);
+        make(MAP_RANGE), make(MAP_RANGE);
+        if (i % 6 == 5) make(AUDIT), make(UNMAP_RANGE);
+    }
+    for (int i = 0; i < 24; i++) {
+        address = ((uint64_t)i * 40 << block) - granule * (i > 0), length = UINT64_C(1) << 32;
+        make(UNMAP_RANGE), make(UNMAP_RANGE);
+    }
+    make(FORMAT);
     for (int i = 0; i < 40; i++) { /* nonsense, and tables that name each other */
         for (uint64_t j = 0; j < FIRST * entries; j++) words[j] = i % 2 ? next() : BASE + 3 + granule * (next() % FIRST);
         for (uint64_t j = 0; j < SECOND * entries; j++) second[j] = i % 2 ? next() : SECOND_BASE + 3 + granule * (next() % SECOND);
         for (int j = 0; j < TABLES; j++) list[j] = (uint32_t)next();
         setup.free = (uint64_t)i;
         address = next() % (granule == OAK_16_KIB ? UINT64_C(1) << 47 : levels == 3 ? UINT64_C(1) << 39 : UINT64_C(1) << 48) / granule * granule;
-        make(MAP), make(UNMAP), make(QUERY), make(AUDIT), make(ADD), make(LIST);
+        length = granule * (1 + next() % 4000);
+        make(MAP), make(UNMAP), make(QUERY), make(AUDIT), make(ADD), make(LIST), make(MAP_RANGE), make(UNMAP_RANGE);
     }
     return wrong;
 }

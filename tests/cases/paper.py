@@ -267,3 +267,84 @@ def list_(s, lent, start, places, entries):
     written, left = seen[:len(places)], seen[len(places):]
     for i, (base, size, w) in enumerate(written): places[i], entries[i] = base + POWERS[size], w
     return ('lists', len(written), left[0][0] if left else None)
+
+
+LONGEST = 2 ** 32
+
+
+def bad_length(s, length):
+    """Refusal 2 of a range: a nonzero multiple of the page, at most 4 GiB."""
+    return length == 0 or length % s.granule != 0 or length > LONGEST
+
+
+def pieces(s, address, frame, length):
+    """At each point the largest size that fits what is left and divides both addresses: addresses, frames and sizes, in rising order."""
+    while length:
+        size = max(z for z in s.g().sizes if z <= length and address % z == 0 and frame % z == 0)
+        yield address, frame, size
+        address, frame, length = address + size, frame + size, length - size
+
+
+def spoiled(s, walks):
+    """Refusal 8 of several walks, each an address with the tables met, the height and the entry: one finds damage, or together they come to one table for
+    two regions. A table is met at a height, and its region is what an entry one higher stands for."""
+    stands = {}
+    for address, (met, h, e) in walks:
+        if e[0] == 'damaged': return True
+        for depth, t in enumerate(met):
+            region = (depth, address // s.g().region(s.levels - depth) if depth else 0)
+            if stands.setdefault(t, region) != region: return True
+    return False
+
+
+def map_range_(s, lent, address, frame, length, attributes):
+    """Request 7. All walks are of the memory at entry. An accepted range is its pieces, mapped one by one."""
+    if s.bad(lent): return ('refused', 1), s
+    if bad_length(s, length): return ('refused', 2), s
+    if attributes > 15: return ('refused', 3), s
+    if address >= s.space() or address + length > s.space() or frame + length > LIMIT: return ('refused', 4), s
+    if address % s.granule or frame % s.granule: return ('refused', 5), s
+    if in_pool(s, frame, length): return ('refused', 11), s
+    parts = list(pieces(s, address, frame, length))
+    walks = [(a, walk(s, lent, a, s.g().sizes.index(size))) for a, _, size in parts]
+    if spoiled(s, walks): return ('refused', 8), s
+    if any(e[0] != 'empty' for _, (_, _, e) in walks): return ('refused', 6), s
+    missing = {(k, a // s.g().region(k + 1)) for (a, _, size), (_, (_, h, _)) in zip(parts, walks) for k in range(s.g().sizes.index(size), h)}
+    need = len(missing)
+    if need > s.free: return ('refused', 7), s
+    met = {t for _, (tables, _, _) in walks for t in tables}
+    taken = [lent.list[s.free - 1 - i] for i in range(need)]
+    if any(not 1 <= t <= s.total() - 1 or t in met for t in taken) or len(set(taken)) != need: return ('refused', 8), s
+    free = s.free
+    for a, f, size in parts:
+        answer, s = map_(s, lent, a, f, size, attributes)
+        assert answer[0] == 'takes'
+    assert free - s.free == need
+    return ('takes', need), s
+
+
+def unmap_range_(s, lent, address, length):
+    """Request 7. The walks are those of the pages; all pages of one entry have the same one."""
+    if s.bad(lent): return ('refused', 1), s
+    if bad_length(s, length): return ('refused', 2), s
+    if address >= s.space() or address + length > s.space(): return ('refused', 4), s
+    if address % s.granule: return ('refused', 5), s
+    walks, at, end = [], address, address + length
+    while at < end:
+        walks.append((at, walk(s, lent, at, 0)))
+        size = s.g().region(walks[-1][1][1])
+        at = (at // size + 1) * size
+    if spoiled(s, walks): return ('refused', 8), s
+    inside = []
+    for at, (_, h, e) in walks:
+        size = s.g().region(h)
+        if e[0] == 'frame': inside.append((at // size * size, size))
+    if any(base < address or base + size > end for base, size in inside): return ('refused', 10), s
+    trial, after = lent.copy(), s
+    for base, _ in inside:
+        answer, after = unmap_(after, trial, base)
+        if answer[0] == 'refused':
+            assert answer[1] == 8
+            return ('refused', 8), s
+    lent.first[:], lent.second[:], lent.list[:] = trial.key()
+    return ('clears', len(inside), after.free - s.free), after

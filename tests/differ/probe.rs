@@ -369,6 +369,46 @@ fn tables(granule: u64, k: usize) {
     }
 }
 
+// The arguments of ranges, their pieces and stretches, and the marks of the ways of their walks.
+fn ranges(granule: u64) {
+    let large = granule * entries_with(granule);
+    let lengths = [0, 1, granule / 2, granule, 2 * granule, 3 * granule, large - granule, large, large + granule, GIB, 5 * GIB / 2, 4 * GIB - granule, 4 * GIB, 4 * GIB + 1, 4 * GIB + granule, u64::MAX];
+    let space = if granule == KIB16 { 1 << 47 } else { 1 << 39 };
+    let bases = [0, 1, PAGE, granule, 3 * granule, MIB2, large - granule, large, large + granule, GIB, GIB + large, space - GIB, space - granule, space, TOP - GIB, TOP - granule, TOP, u64::MAX - granule + 1];
+    for address in bases {
+        for length in lengths {
+            for levels in [2, 3, 4, 5] {
+                ask!(ranges::unmap_tests, granule, levels, address, length);
+            }
+            for height in [0, 1, 2, 3, 4, usize::MAX] {
+                ask!(ranges::stretch, granule, address, length, height);
+            }
+            for frame in bases {
+                ask!(ranges::piece_at, granule, address, frame, length);
+                for attributes in [0, 15, 16] {
+                    ask!(ranges::map_tests, one_region(granule, 3, BASE, 4, 1), address, frame, length, attributes);
+                }
+            }
+            for frame in [BASE - granule, BASE, BASE + 4 * granule, MORE, MORE + granule, MORE + 2 * granule] {
+                let two = path::Setup { levels: 4, base: BASE, tables: 4, free: 1, base2: MORE, tables2: 2, granule };
+                ask!(ranges::map_tests, two, address, frame, length, 3);
+            }
+        }
+    }
+    for address in bases {
+        for (left, levels) in [(0, 3), (1, 3), (2, 3), (3, 4), (0, 4), (2, 4), (4, 4), (0, 5), (7, 3), (0, 0)] {
+            for way in [[0, 0, 1, 2], [0, 1, 2, 3], [3, 2, 1, 0], [9, 9, 9, 9], [0, 0, 0, 0]] {
+                for other in [address, address.wrapping_add(granule), address.wrapping_add(large), address ^ GIB, 3 * large] {
+                    let mut stands = [0u32; 6];
+                    let first = tried(|| marks::note_way(granule, &mut stands, way, address, left, levels));
+                    let r = tried(|| marks::note_way(granule, &mut stands, way, other, left, levels));
+                    told(&format!("marks::note_way {granule} {way:?} {address:#x} {other:#x} {left} {levels}"), format!("{first} {r}"), &[], &stands);
+                }
+            }
+        }
+    }
+}
+
 // The audit, and the tests of an add, of a pool with one page and one block: each stands at a multiple of its size or of 4096 alone, elsewhere or in a region.
 fn audits(granule: u64) {
     let k = entries_with(granule) as usize;
@@ -456,6 +496,40 @@ impl Lent {
         self.told(&format!("unmap {address:#x}"), format!("{r} {answer:?}"));
         if r == "0" {
             self.setup.copy_from_slice(&answer[..7]);
+        }
+    }
+
+    fn map_range(&mut self, address: u64, frame: u64, length: u64, attributes: u64) {
+        let mut answer = [55; 8];
+        let r = tried(|| oakabut::oak_map_range(&self.setup, &mut self.words, &mut self.second, &self.list, address, frame, length, attributes, &mut answer));
+        self.told(&format!("map_range {address:#x} {frame:#x} {length:#x} {attributes}"), format!("{r} {answer:?}"));
+        if r == "0" {
+            self.setup.copy_from_slice(&answer[..7]);
+            self.used.push(address);
+        }
+    }
+
+    fn unmap_range(&mut self, address: u64, length: u64) {
+        let mut answer = [55; 9];
+        let r = tried(|| oakabut::oak_unmap_range(&self.setup, &mut self.words, &mut self.second, &mut self.list, address, length, &mut answer));
+        self.told(&format!("unmap_range {address:#x} {length:#x}"), format!("{r} {answer:?}"));
+        if r == "0" {
+            self.setup.copy_from_slice(&answer[..7]);
+        }
+    }
+
+    // Ranges around an address, each on a copy: mapped, and what is there unmapped.
+    fn ranges(&self, address: u64, random: &mut Random) {
+        let granule = self.setup[6];
+        let large = granule * entries_with(granule);
+        for length in [random.of(&[granule, 3 * granule]), random.of(&[large, large + 2 * granule, 2 * GIB])] {
+            let from = address / granule * granule;
+            let from = random.of(&[from, from, from / large * large, from.wrapping_sub(granule), address]);
+            let frame = random.of(&[4 * GIB, 4 * GIB + granule, 4 * GIB + large, self.setup[1]]);
+            let mut copy = self.clone();
+            copy.map_range(from, frame, length, 5);
+            copy.unmap_range(from, length);
+            self.clone().unmap_range(from, length);
         }
     }
 
@@ -586,6 +660,10 @@ fn of_16_kib(tables: u64, tables2: u64) {
         lent.audit();
         lent.pages(address);
     }
+    let mut random = Random(tables);
+    for address in lent.used.clone() {
+        lent.ranges(address, &mut random);
+    }
     lent.clone().add(MORE, 1, 1);
     lent.clone().add(MORE + PAGE, 1, 1);
     for bit in [1, 2, 1 << 10, 1 << 12, 1 << 13, 1 << 14] {
@@ -655,6 +733,9 @@ fn go_on(mut lent: Lent, mut random: Random, steps: u64) {
             lent.audit();
             lent.pages(address);
         }
+        if step % 8 == 1 {
+            lent.ranges(address, &mut random);
+        }
         if step % 4 == 3 {
             for kind in 0..10 {
                 let mut copy = lent.clone();
@@ -665,6 +746,9 @@ fn go_on(mut lent: Lent, mut random: Random, steps: u64) {
                 for address in [copy.address(&mut random), random.of(&copy.used.iter().copied().chain([0]).collect::<Vec<_>>())] {
                     copy.asked(address);
                     copy.clone().unmap(address);
+                }
+                if step % 8 == 3 {
+                    copy.ranges(address, &mut random);
                 }
                 copy.random_map(&mut random);
                 copy.audit();
@@ -769,6 +853,7 @@ fn histories() {
         history(levels, BASE, 64, 1, 60);
         full(levels);
         rounds(levels);
+        long_ranges(levels);
     }
 }
 
@@ -783,6 +868,46 @@ fn full(levels: u64) {
         lent.unmap(i * MIB2);
     }
     lent.audit();
+}
+
+// Ranges of many pieces, of one table and of several, all or nothing: what stands in the way at their end, too few tables, a table of the list that stands on a
+// path, a mapping that is cut, and more tables given back than there are.
+fn long_ranges(levels: u64) {
+    let mut lent = Lent::format(&format!("ranges {levels}"), levels, BASE, 12, 12);
+    lent.map(4 * MIB2 + 7 * PAGE, 2 * GIB, PAGE, 1);
+    for (address, frame, length) in [
+        (0, 4 * GIB, 2 * MIB2), (0, 4 * GIB + PAGE, MIB2 + PAGE), (PAGE, 4 * GIB + PAGE, 2 * MIB2), (3 * MIB2, 4 * GIB + PAGE, 2 * MIB2), (GIB - PAGE, 4 * GIB - PAGE, GIB + 2 * PAGE), (0, 4 * GIB, 4 * GIB),
+        (0, 4 * GIB + PAGE, 40 * MIB2), (GIB - MIB2, 3 * GIB - MIB2, 2 * MIB2), ((1 << 39) - MIB2, 4 * GIB + PAGE, MIB2), (4 * MIB2, 4 * GIB, MIB2), (2 * MIB2, 4 * GIB + MIB2, 2 * MIB2 + 7 * PAGE),
+    ] {
+        let mut copy = lent.clone();
+        copy.map_range(address, frame, length, 3);
+        copy.audit();
+        for (from, part) in [(address, length), (address, PAGE), (address + PAGE, length - PAGE), (address, length - PAGE), (0, GIB), (0, 4 * GIB), (MIB2, MIB2), (20 * GIB, GIB)] {
+            let mut other = copy.clone();
+            other.unmap_range(from, part);
+            other.audit();
+            other.setup[3] = 11;
+            copy.clone().unmap_range(from, part);
+            let mut full = copy.clone();
+            full.setup[3] = 10;
+            full.unmap_range(from, part);
+        }
+    }
+    // an entry that is damaged, and before it one that is taken; and one table for two regions
+    lent.map(PAGE, 2 * GIB, PAGE, 1);
+    for (at, word) in [(512 * lent.list[10] as usize + 9, 8), (512 * lent.list[10] as usize + 2, BASE + PAGE * lent.list[9] as u64 + 3), (1, BASE + PAGE * lent.list[10] as u64 + 3)] {
+        for (table, place) in [(0, 0), (lent.list[10], 7), (lent.list[9], 7), (lent.list[9], 6), (3, 6), (3, 5)] {
+            let mut copy = lent.clone();
+            copy.words[at] = word;
+            if place > 0 {
+                copy.list[place] = table;
+            }
+            for (address, frame, length) in [(0, 4 * GIB + PAGE, 16 * MIB2), (0, 4 * GIB, 16 * MIB2), (2 * PAGE, 4 * GIB, 3 * MIB2), (GIB - MIB2, 4 * GIB + PAGE, 2 * MIB2), (2 * MIB2, 4 * GIB + PAGE, MIB2)] {
+                copy.clone().map_range(address, frame, length, 3);
+                copy.clone().unmap_range(address, length);
+            }
+        }
+    }
 }
 
 // Tables that name each other, or themselves.
@@ -806,6 +931,8 @@ fn main() {
     pools();
     audits(PAGE);
     audits(KIB16);
+    ranges(PAGE);
+    ranges(KIB16);
     planned();
     histories();
     of_16_kib(9, 0);

@@ -12,7 +12,9 @@ use model::Formatted;
 use model::MapAnswer;
 use model::Mapped;
 use model::QueryAnswer;
+use model::RangeUnmapped;
 use model::UnmapAnswer;
+use model::UnmapRangeAnswer;
 use model::Unmapped;
 use path::Setup;
 
@@ -52,6 +54,8 @@ fn run(call: u8, line: &Line, words: &mut [u64], second: &mut [u64], list: &mut 
         b'g' | b'G' => add(line, words, second, list),
         b'm' | b'M' => map(line, words, second, list),
         b'u' | b'U' => unmap(line, words, second, list),
+        b'r' | b'R' => map_range(line, words, second, list),
+        b'c' | b'C' => unmap_range(line, words, second, list),
         _ => asked(call, line, words, second, list),
     }
 }
@@ -163,6 +167,31 @@ fn unmapped(r: Unmapped) -> Told {
         } => told(0, r.setup, frame, size, attributes, tables),
         UnmapAnswer::Hole { base, size } => told(9, r.setup, base, size, 0, 0),
         UnmapAnswer::Refused(k) => told(k, r.setup, 0, 0, 0, 0),
+    }
+}
+
+fn map_range(line: &Line, words: &mut [u64], second: &mut [u64], list: &[u32]) -> Told {
+    mapped(pagetable::map_range(
+        setup(line),
+        words,
+        second,
+        list,
+        line[11],
+        line[12],
+        line[13],
+        line[14],
+    ))
+}
+
+fn unmap_range(line: &Line, words: &mut [u64], second: &mut [u64], list: &mut [u32]) -> Told {
+    range_unmapped(pagetable::unmap_range(setup(line), words, second, list, line[11], line[12]))
+}
+
+fn range_unmapped(r: RangeUnmapped) -> Told {
+    let answer = r.answer;
+    match answer {
+        UnmapRangeAnswer::Removed { mappings, tables } => told(0, r.setup, mappings, tables, 0, 0),
+        UnmapRangeAnswer::Refused(k) => told(k, r.setup, 0, 0, 0, 0),
     }
 }
 

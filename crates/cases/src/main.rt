@@ -17,7 +17,7 @@ use view::BLANK;
 use view::ROOM;
 
 // All bytes that are read.
-const TEXT: usize = 262144;
+const TEXT: usize = 524288;
 
 // Lends so many words of both runs and so many places, each sort alike. All other words are 0.
 fn lend(line: &mut Line, words: &mut Words, more: &mut More, list: &mut Places) {
@@ -118,7 +118,13 @@ fn host_agrees(call: u8, line: &Line) -> bool {
 // A line that is said: what it says, and what follows from it.
 fn said(call: u8, line: &mut Line, words: &mut Words, more: &mut More, list: &mut Places) {
     match call {
-        b'f' | b'g' | b'm' | b'u' | b'q' | b'a' => say_call(call, line, words, more, list),
+        b'f' | b'g' | b'm' | b'u' | b'r' | b'c' | b'q' | b'a' => say_call(
+            call,
+            line,
+            words,
+            more,
+            list,
+        ),
         b'v' => say_view(line, words, more, list),
         _ => lay(call, line, words, more, list),
     }
@@ -133,7 +139,13 @@ fn compared(
     list: &mut Places,
 ) -> bool {
     match call {
-        b'F' | b'G' | b'M' | b'U' | b'Q' | b'A' => agrees(call, line, words, more, list),
+        b'F' | b'G' | b'M' | b'U' | b'R' | b'C' | b'Q' | b'A' => agrees(
+            call,
+            line,
+            words,
+            more,
+            list,
+        ),
         b'V' => view_agrees(line, words, more, list),
         b'E' | b'D' => host_agrees(call, line),
         _ => {

@@ -57,7 +57,7 @@ pub(crate) fn is_compared(call: u8) -> bool {
 // The place of a call's first number.
 fn first_place(call: u8) -> usize {
     match call {
-        b'F' | b'M' | b'U' | b'Q' | b'A' | b'G' | b'V' => 1,
+        b'F' | b'M' | b'U' | b'R' | b'C' | b'Q' | b'A' | b'G' | b'V' => 1,
         b'f' | b's' => 4,
         _ => 11,
     }

@@ -61,8 +61,9 @@ fn done(call: u8, told: Told) {
     match call {
         b'f' => text(b" -> done, all words 0"),
         b'g' => text(b" -> done, all more words 0"),
-        b'm' => number(b" -> takes ", told[8]),
+        b'm' | b'r' => number(b" -> takes ", told[8]),
         b'u' => gives(told),
+        b'c' => clears(told),
         b'q' => found(told),
         b'v' => lists(told),
         _ => sound(told),
@@ -88,6 +89,11 @@ fn setup(told: Told) {
 fn gives(told: Told) {
     number(b" -> gives ", told[11]);
     frame(told[8], told[9], told[10]);
+}
+
+fn clears(told: Told) {
+    number(b" -> removes ", told[8]);
+    number(b", gives ", told[9]);
 }
 
 fn found(told: Told) {

@@ -91,7 +91,7 @@ fn zeros_in_step(w: &[u64], i: usize, but: usize) -> bool
 }
 
 // Whether all words are 0 but for the one to leave out. It goes by steps, and ends at the first that has a word in use.
-fn zeros_but(w: &[u64], but: usize) -> bool
+pub fn zeros_but(w: &[u64], but: usize) -> bool
     ensures { λ r. ⌜ r ≡ allZero (set (now (w .entry)) but 0) ⌝ }
 {
     let n = w.len();

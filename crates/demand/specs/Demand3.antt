@@ -2,19 +2,20 @@
 -- a fresh format's, or one that the audit accepts. Every answer is the ledger's.
 use mathlib.Core.Path.{_≡_}
 use mathlib.Core.Logic.{_≢_, _⊎_, _↔_}
-use mathlib.Core.List.{List, [], _∷_, _++_, List·Memᴰ}
+use mathlib.Core.List.{List, [], _∷_, _++_, map, List·Memᴰ}
 use Prim.Native.Nat.{ℕ, _+_, _-_, _<_}
 use lib.ListN.{length, take}
 use Rattle.path.specs.Geometry.{Granule, sizeAt}
 use Rattle.path.specs.Areas.{Area, total}
 use Rattle.entry.specs.declared.Entry.the-variants.{Table}
-use Rattle.model.specs.Answers.{Answer, answered, refusal, refused, hole, Pool, pool, Done, done}
+use Rattle.model.specs.Answers.{Mapping, Answer, answered, refusal, refused, hole, Pool, pool, Done, done}
 use Rattle.model.specs.Calls.{walkTo, formatW, queryW, mapW, unmapW}
 use Rattle.model.specs.Audit.{auditW, freeOf}
 use Rattle.model.specs.Adds.{lent, addW}
 use Rattle.model.specs.Sound.{reachedOf}
 use Rattle.model.specs.Listing.{listW}
 use Rattle.model.specs.Ledger.{Ledger, region, regionsNeeded, freeTables, Entered, entered, formatL, addL, queryL, mapL, unmapL, auditL, listL}
+use Rattle.model.specs.Ranges.{pieces, pagesOf, mapRangeW, unmapRangeW, mapRangeL, unmapRangeL}
 use Rattle.model.specs.Holes.{IsHole}
 use Rattle.laws.specs.Lists.{Distinct}
 use Rattle.demand.specs.Holds.{Holds}
@@ -38,6 +39,10 @@ pub data Call : Type 0 where
   mapC : ℕ → ℕ → ℕ → ℕ → Call
   -- address
   unmapC : ℕ → Call
+  -- address, frame base, length, attributes
+  mapRangeC : ℕ → ℕ → ℕ → ℕ → Call
+  -- address, length
+  unmapRangeC : ℕ → ℕ → Call
   askC : Ask → Call
 
 abbrev pub queryC : ℕ → Call
@@ -45,6 +50,19 @@ queryC a = askC (query a)
 
 abbrev pub auditC : Call
 auditC = askC audit
+
+-- the calls that a call is made of, one after the other: a range's are its pieces, or its pages, in rising order; any other is one by itself
+abbrev pub mapOf : Mapping → Call
+mapOf m = mapC (m .at) (m .frame) (m .size) (m .attributes)
+
+abbrev pub parts : Granule → Call → List Call
+parts G (formatC l r) = formatC l r ∷ []
+parts G (addC q m second rest) = addC q m second rest ∷ []
+parts G (mapC a b s k) = mapC a b s k ∷ []
+parts G (unmapC a) = unmapC a ∷ []
+parts G (mapRangeC a b l k) = map mapOf (pieces G a b l k)
+parts G (unmapRangeC a l) = map unmapC (pagesOf G a l)
+parts G (askC q) = askC q ∷ []
 
 -- after a refused format the setup from before goes on
 abbrev pub goOn : Pool → Done → Answer → Done
@@ -73,6 +91,8 @@ stepW G p (formatC l r) = let d = formatW G l r (p .words) (p .cut) (p .list) in
 stepW G p (addC q m second rest) = let d = addW G (lent p second rest) q m in goBack p d (d .answer)
 stepW G p (mapC a b s k) = mapW G p a b s k
 stepW G p (unmapC a) = unmapW G p a
+stepW G p (mapRangeC a b l k) = mapRangeW G p a b l k
+stepW G p (unmapRangeC a l) = unmapRangeW G p a l
 stepW G p (askC q) = done (askW G p q) p
 
 -- one call on a ledger
@@ -81,6 +101,8 @@ stepL G A (formatC l r) = formatL G A l r
 stepL G A (addC q m second rest) = addL G A q m (length second) (freeTables G A + length rest)
 stepL G A (mapC a b s k) = mapL G A a b s k
 stepL G A (unmapC a) = unmapL G A a
+stepL G A (mapRangeC a b l k) = mapRangeL G A a b l k
+stepL G A (unmapRangeC a l) = unmapRangeL G A a l
 stepL G A (askC q) = entered (askL G A q) A
 
 -- a sequence of calls: the answers, and what is left

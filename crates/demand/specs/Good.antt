@@ -15,9 +15,10 @@ use Rattle.model.specs.AuditLaws.{format-audit, audit-counts}
 use Rattle.model.specs.Adds.{lent, addW}
 use Rattle.model.specs.AddLaws.{AddView, add-grows, add-refuses, add-view, may-add, grown-good}
 use Rattle.model.specs.LeftLaws.{map-leaves, unmap-leaves, leaves-good}
+use Rattle.model.specs.RangeLeft.{map-range-leaves, unmap-range-leaves}
 use Rattle.model.specs.Refusals.{Breaks}
 use Rattle.model.specs.RefusalLaws.{good-keeps, unbroken-good}
-use Rattle.demand.specs.Demand3.{Call, formatC, addC, mapC, unmapC, askC, goOn, goBack, stepW, poolAfter}
+use Rattle.demand.specs.Demand3.{Call, formatC, addC, mapC, unmapC, mapRangeC, unmapRangeC, askC, goOn, goBack, stepW, poolAfter}
 
 module _ (G : Granule) where
   -- an accepted format leaves a good pool, a refused one the pool from before
@@ -48,6 +49,8 @@ module _ (G : Granule) where
   stays-good p (addC q m second rest) g = add-good-step p q m second rest g
   stays-good p (mapC a b s k) g = leaves-good (map-leaves G p a b s k) g
   stays-good p (unmapC a) g = leaves-good (unmap-leaves G p a) g
+  stays-good p (mapRangeC a b l k) g = leaves-good (map-range-leaves G p a b l k) g
+  stays-good p (unmapRangeC a l) g = leaves-good (unmap-range-leaves G p a l) g
   stays-good p (askC q) g = g
 
   pub stays-good-all : (p : Pool) (cs : List Call) → goodPool G p ≡ true → goodPool G (poolAfter G p cs) ≡ true

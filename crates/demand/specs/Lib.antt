@@ -9,10 +9,14 @@ pub mod Sims
 pub mod Queries
 pub mod Maps
 pub mod Unmaps
-pub mod Others
 pub mod Pages
 pub mod Listings
+pub mod Steps
 pub mod Demand3
+pub mod RangeWays
+pub mod RangeMaps
+pub mod RangeUnmaps
+pub mod Others
 pub mod Adds
 pub mod Rest
 pub mod Theorem

@@ -201,7 +201,7 @@ module _ (G : Granule) (Z : Sane G) {C D : Type 0} {p : Pool} {B : Ledger} (I : 
 
     -- at an empty entry nothing is met, and so many tables are lacking as lie between it and the target
     module _ (vacant : I .S s (anc (entries G) s v) ≡ empty) where
-      none-overlap : anyOverlap a size (map (shown G Z) (I .L)) ≡ false
+      pub none-overlap : anyOverlap a size (map (shown G Z) (I .L)) ≡ false
       none-overlap = go (anyOverlap a size (map (shown G Z) (I .L))) refl
         where
           go : (z : Bool) → anyOverlap a size (map (shown G Z) (I .L)) ≡ z → z ≡ false

@@ -3,28 +3,23 @@ use mathlib.Core.Path.{_≡_, refl, ap, sym, _∙_, subst}
 use mathlib.Core.Logic.{_≢_, _⊎_, inl, inr, ⊎-elim}
 use mathlib.Core.List.{List}
 use Prim.Native.Nat.{ℕ, zero, suc, _+_, _-_, _*_, _/_, _%_, _≤_, _<_}
-use native.Mathlib.Nat.{mul-comm, mul-le-mul-left}
+use native.Mathlib.Nat.{mul-le-mul-left}
 use native.Mathlib.Omega.{arith}
-use native.Mathlib.Decide.{ℕ-discrete, decLt}
-use lib.Arith.{digits-lt, digits-div, digits-mod}
+use native.Mathlib.Decide.{ℕ-discrete}
 use lib.ListN.{length, getD, set, length-set}
 use lib.Seq.{getD-set-same, getD-set-other}
 use Rattle.laws.specs.Lists.{zeroed}
-use Rattle.laws.specs.ListLaws.{length-zeroed, getD-zeroed, getD-zeroed-before, getD-zeroed-after}
+use Rattle.laws.specs.ListLaws.{length-zeroed}
 use Rattle.path.specs.Geometry.{Granule, pageSize, entries, Sane}
 use Rattle.path.specs.Areas.{Area, total, GoodArea}
 pub use Rattle.path.specs.Laws.{table-ends, in-table}
 use Rattle.model.specs.Walk.{slot}
+pub use Rattle.model.specs.WordLaws.{one-place}
+use Rattle.model.specs.WordLaws.{word-stored, word-other, word-wiped, word-kept}
 use Rattle.tree.specs.Region.{Same, same?, upd, upd-at, upd-other, put1, put1-at, put1-other}
 use Rattle.tree.specs.Tree.{Geo}
 use Rattle.tree.specs.Inv.{Store}
 use Rattle.demand.specs.Arm.{geo}
-
--- a place of a table is that of one table and one index
-pub one-place : {K t i t′ i′ : ℕ} → i < K → i′ < K → K * t′ + i′ ≡ K * t + i → Same t i t′ i′
-one-place {K} {t} {i} {t′} {i′} a b e =
-    let p : t′ * K + i′ ≡ t * K + i = rw (mul-comm t′ K, mul-comm t K) e in
-    (sym (digits-div t′ b) ∙ ap (λ (z : ℕ). z / K) p ∙ digits-div t a, sym (digits-mod t′ b) ∙ ap (λ (z : ℕ). z % K) p ∙ digits-mod t a)
 
 -- the tables below a number end where that number's starts
 pub tables-before : (K : ℕ) {n t : ℕ} → n ≤ t → K * n ≤ K * t
@@ -46,16 +41,11 @@ module _ (G : Granule) (Z : Sane G) (area : Area) (top : ℕ) (al : GoodArea G a
   rd-wr ws t i x k a b t′ i′ c = go (same? t i t′ i′)
     where
       go : Dec (Same t i t′ i′) → readAt G (set ws (slot G t i) x) t′ i′ ≡ upd (readAt G ws) t i x t′ i′
-      go (yes s) = let p = s .0 in let q = s .1 in
-          rw (p, q) (getD-set-same ws (slot G t i) x 0 (omega (arith, in-table K a b)) ∙ sym (upd-at (readAt G ws) t i x t i (refl, refl)))
-      go (no d) = getD-set-other ws (slot G t i) (slot G t′ i′) x 0 (λ e. d (one-place b c e)) ∙ sym (upd-other (readAt G ws) t i x t′ i′ d)
+      go (yes s) = let p = s .0 in let q = s .1 in rw (p, q) (word-stored G ws (total area) t i x k a b ∙ sym (upd-at (readAt G ws) t i x t i (refl, refl)))
+      go (no d) = word-other G ws t i x t′ i′ b c d ∙ sym (upd-other (readAt G ws) t i x t′ i′ d)
 
   pub rd-kept : (ws : List ℕ) (c t i : ℕ) → i < K → t ≢ c → readAt G (zeroed ws (slot G c 0) K) t i ≡ readAt G ws t i
-  rd-kept ws c t i b d = go (decLt t c)
-    where
-      go : Dec (t < c) → readAt G (zeroed ws (slot G c 0) K) t i ≡ readAt G ws t i
-      go (yes l) = getD-zeroed-before ws (slot G c 0) K (slot G t i) (omega (arith, in-table K l b))
-      go (no l) = getD-zeroed-after ws (slot G c 0) K (slot G t i) (let g : c < t = omega arith in omega (arith, table-ends K g))
+  rd-kept ws c t i b d = word-kept G ws c t i b d
 
   pub pl-push : (q : List ℕ) (f t : ℕ) → length q ≡ total area → f < total area → (i : ℕ) → placeAt (set q f t) i ≡ put1 (placeAt q) f t i
   pl-push q f t k l i = go (ℕ-discrete i f)
@@ -74,7 +64,7 @@ module _ (G : Granule) (Z : Sane G) (area : Area) (top : ℕ) (al : GoodArea G a
     wr-ok = λ ws t i x k. length-set ws (slot G t i) x ∙ k;
     wipe-ok = λ ws c k. length-zeroed ws (slot G c 0) K ∙ k;
     rd-wr = rd-wr;
-    rd-wiped = λ ws c k l i b. getD-zeroed ws (slot G c 0) K (omega (arith, table-ends K l)) (slot G c i) (omega arith) (omega arith);
+    rd-wiped = λ ws c k l i b. word-wiped G ws (total area) c i k l b;
     rd-kept = λ ws c k l t i b d. rd-kept ws c t i b d;
     Q = List ℕ;
     Okᶠ = λ q. length q ≡ total area;

@@ -14,63 +14,31 @@ use Rattle.path.specs.Geometry.{Granule, granuleOf, entries, pageSize, sizeAt, 
 use Rattle.path.specs.Laws.{granule-sane, good-numbers}
 use Rattle.path.specs.Areas.{Area, areaOf, oneRegion, withSecond, total, GoodArea, meetsArea}
 use Rattle.path.specs.Numbers.{noSetup, setupOf, goodNumbers, goodAdding, GoodNumbers}
-use Rattle.model.specs.Answers.{Answer, formatted, added, took, gave, found, audited, refused, Mapping, mapping, Pool, pool, Done, done, refuse}
+use Rattle.model.specs.Answers.{Answer, formatted, added, took, gave, cleared, found, audited, refused, Mapping, mapping, Pool, pool, Done, done, refuse}
 use Rattle.model.specs.Calls.{walkTo, formatW, formatN, queryW, mapTests, mapAt, mapW, unmapTests, unmapAt, unmapW}
 use Rattle.model.specs.Audit.{auditW, noneInside}
 use Rattle.model.specs.GranuleLaws.{format-accepted}
 use Rattle.model.specs.Sound.{mappingsOf}
-use Rattle.model.specs.Ledger.{Ledger, ledger, withLive, anyOverlap, coverOf, dropAt, freeTables, tablesLacking, Entered, entered, formatL, addL, queryOf, queryL, mapL, unmapOf, unmapL, auditL, sorted, listL}
+use Rattle.model.specs.Ledger.{Ledger, ledger, withLive, anyOverlap, coverOf, dropAt, tablesNeeded, freeTables, tablesLacking, Entered, entered, formatL, addL, queryOf, queryL, mapL, unmapOf, unmapL, auditL, sorted, listL}
 use Rattle.model.specs.Listing.{fromOn, listedOf}
 use Rattle.model.specs.ListingLaws.{lists-not}
+use Rattle.model.specs.Ranges.{goodLength, mapRangeTests, unmapRangeTests, pieces, gain, gainOf, mapRangeL, anyCut, dropIn, clearOf, unmapRangeL}
 use Rattle.demand.specs.Holds.{ledgerOf, Holds}
 use Rattle.demand.specs.Sims.{Sim, holds-sim, sim-holds}
 use Rattle.demand.specs.Queries.{own, ledger-is, pool-good, query-own}
-use Rattle.demand.specs.Maps.{Alike, ledgerMap, own-sim, tests-fine, map-alike}
-use Rattle.demand.specs.Unmaps.{unmap-alike}
+use Rattle.demand.specs.Maps.{Alike, ledgerMap, own-sim}
+use Rattle.demand.specs.Steps.{map-step, unmap-step}
+use Rattle.demand.specs.RangeMaps.{map-range-step}
+use Rattle.demand.specs.RangeUnmaps.{unmap-range-step}
 use Rattle.demand.specs.Others.{fresh-sim, audit-own, accepted-holds}
 use Rattle.demand.specs.Adds.{add-step}
 use Rattle.demand.specs.Rest.{rests-own}
 use Rattle.demand.specs.Listings.{list-alike}
-use Rattle.demand.specs.Demand3.{Ask, query, audit, listFrom, Call, formatC, addC, mapC, unmapC, askC, askW, askL, goOn, stepW, stepL, answersW, answersL, poolAfter, ledgerAfter, Rests, Demand3}
+use Rattle.demand.specs.Demand3.{Ask, query, audit, listFrom, Call, formatC, addC, mapC, unmapC, mapRangeC, unmapRangeC, askC, askW, askL, goOn, stepW, stepL, answersW, answersL, poolAfter, ledgerAfter, Rests, Demand3}
 
 module _ (G : Granule) (Z : Sane G) where
   -- one call, by the pool's own ledger
   module _ {p : Pool} {A : Ledger} (I : Sim G Z p A) where
-    map-step : (a b size k : ℕ) → Alike G Z (mapW G p a b size k) (mapL G (own G Z I) a b size k)
-    unfolding mapW mapL
-    map-step a b size k = rw (pool-good G Z I) (go (eqb (mapTests G (p .numbers .levels) (areaOf (p .numbers)) a b size k) 0) refl)
-      where
-        no : ℕ
-        no = mapTests G (p .numbers .levels) (areaOf (p .numbers)) a b size k
-
-        go : (y : Bool) → eqb no 0 ≡ y
-            → Alike G Z (cond y (mapAt G p a b (heightOf G size) k (walkTo G p (heightOf G size) a) (walkTo G p (heightOf G size) a .entry)) (refuse no p))
-            (cond y (ledgerMap G (own G Z I) a b size k) (entered (refused no) (own G Z I)))
-        go true e = map-alike G Z I a b size k (tests-fine G (p .numbers .levels) (areaOf (p .numbers)) a b size k (eqb-true no 0 e)) tt tt (walkTo G p (heightOf G size) a .entry) refl
-        go false e = record { answer = refl; sim = own-sim G Z I }
-
-    -- unmap's tests say that the address is in the space
-    pub in-space : (a : ℕ) → unmapTests G (p .numbers .levels) a ≡ 0 → a < spaceOf G (p .numbers .levels)
-    unfolding unmapTests
-    in-space a e = go (leb (spaceOf G (p .numbers .levels)) a) refl e
-      where
-        go : (y : Bool) → leb (spaceOf G (p .numbers .levels)) a ≡ y → _≡_ {A = ℕ} (cond y 4 (cond (eqb (a % pageSize G) 0) 0 5)) 0 → a < spaceOf G (p .numbers .levels)
-        go true q e = absurd (omega arith)
-        go false q e = leb-false (spaceOf G (p .numbers .levels)) a q
-
-    unmap-step : (a : ℕ) → Alike G Z (unmapW G p a) (unmapL G (own G Z I) a)
-    unfolding unmapW unmapL
-    unmap-step a = rw (pool-good G Z I) (go (eqb (unmapTests G (p .numbers .levels) a) 0) refl)
-      where
-        no : ℕ
-        no = unmapTests G (p .numbers .levels) a
-
-        go : (y : Bool) → eqb no 0 ≡ y
-            → Alike G Z (cond y (unmapAt G p a (walkTo G p 0 a) (walkTo G p 0 a .entry)) (refuse no p))
-            (cond y (unmapOf G (own G Z I) a (coverOf a (own G Z I .live))) (entered (refused no) (own G Z I)))
-        go true e = unmap-alike G Z I a (in-space a (eqb-true no 0 e)) tt tt (walkTo G p 0 a .entry) refl
-        go false e = record { answer = refl; sim = own-sim G Z I }
-
     format-step : (levels : ℕ) (area : Area) → Alike G Z (stepW G p (formatC levels area)) (formatL G (own G Z I) levels area)
     unfolding formatW formatL
     format-step levels area = go (goodNumbers G levels area (p .cut) (length (p .words)) (length (p .list))) refl
@@ -99,15 +67,17 @@ module _ (G : Granule) (Z : Sane G) where
     step-own : (c : Call) → Alike G Z (stepW G p c) (stepL G (own G Z I) c)
     step-own (formatC l r) = format-step l r
     step-own (addC q m second rest) = add-step G Z I q m second rest
-    step-own (mapC a b s k) = map-step a b s k
-    step-own (unmapC a) = unmap-step a
+    step-own (mapC a b s k) = map-step G Z (own-sim G Z I) a b s k
+    step-own (unmapC a) = unmap-step G Z (own-sim G Z I) a
+    step-own (mapRangeC a b l k) = map-range-step G Z (own-sim G Z I) a b l k
+    step-own (unmapRangeC a l) = unmap-range-step G Z (own-sim G Z I) a l
     step-own (askC q) = record { answer = ask-own q; sim = own-sim G Z I }
 
     pub step-alike : (c : Call) → Alike G Z (stepW G p c) (stepL G A c)
     step-alike c = subst (λ (B : Ledger). Alike G Z (stepW G p c) (stepL G B c)) (sym (ledger-is G Z I)) (step-own c)
 
     pub rests : Rests G p A
-    rests = subst (λ (B : Ledger). Rests G p B) (sym (ledger-is G Z I)) (rests-own G Z I (λ a. unmap-step a .answer))
+    rests = subst (λ (B : Ledger). Rests G p B) (sym (ledger-is G Z I)) (rests-own G Z I (λ a. unmap-step G Z (own-sim G Z I) a .answer))
 
   -- any sequence
   pub after-sim : (cs : List Call) {p : Pool} {A : Ledger} → Sim G Z p A → Sim G Z (poolAfter G p cs) (ledgerAfter G A cs)
@@ -148,6 +118,33 @@ module _ (G : Granule) (Z : Sane G) where
       go false true = λ e. omega arith
       go false false = λ e. omega arith
 
+  -- those of a range 2 to 5 and 11, or 0
+  range-other : (levels : ℕ) (area : Area) (a b len k : ℕ) → mapRangeTests G levels area a b len k ≢ 8
+  unfolding mapRangeTests
+  range-other levels area a b len k = go (goodLength G len) (ltb 15 k) (leb (spaceOf G levels) a) (ltb (spaceOf G levels) (a + len)) (ltb physical (b + len)) (eqb (a % pageSize G) 0) (eqb (b % pageSize G) 0) (meetsArea G area b len)
+    where
+      go : (x₁ x₂ x₃ x₄ x₅ x₆ x₇ x₈ : Bool) → _≢_ {A = ℕ} (cond x₁ (cond x₂ 3 (cond x₃ 4 (cond x₄ 4 (cond x₅ 4 (cond x₆ (cond x₇ (cond x₈ 11 0) 5) 5))))) 2) 8
+      go false x₂ x₃ x₄ x₅ x₆ x₇ x₈ = λ e. omega arith
+      go true true x₃ x₄ x₅ x₆ x₇ x₈ = λ e. omega arith
+      go true false true x₄ x₅ x₆ x₇ x₈ = λ e. omega arith
+      go true false false true x₅ x₆ x₇ x₈ = λ e. omega arith
+      go true false false false true x₆ x₇ x₈ = λ e. omega arith
+      go true false false false false false x₇ x₈ = λ e. omega arith
+      go true false false false false true false x₈ = λ e. omega arith
+      go true false false false false true true true = λ e. omega arith
+      go true false false false false true true false = λ e. omega arith
+
+  clear-other : (levels a len : ℕ) → unmapRangeTests G levels a len ≢ 8
+  unfolding unmapRangeTests
+  clear-other levels a len = go (goodLength G len) (leb (spaceOf G levels) a) (ltb (spaceOf G levels) (a + len)) (eqb (a % pageSize G) 0)
+    where
+      go : (x₁ x₂ x₃ x₄ : Bool) → _≢_ {A = ℕ} (cond x₁ (cond x₂ 4 (cond x₃ 4 (cond x₄ 0 5))) 2) 8
+      go false x₂ x₃ x₄ = λ e. omega arith
+      go true true x₃ x₄ = λ e. omega arith
+      go true false true x₄ = λ e. omega arith
+      go true false false true = λ e. omega arith
+      go true false false false = λ e. omega arith
+
   -- what holds of both answers holds of the one that a test chooses
   either : (b : Bool) (x y : Entered) → x .answer ≢ refused 8 → y .answer ≢ refused 8 → cond b x y .answer ≢ refused 8
   either true x y p q = p
@@ -173,7 +170,7 @@ module _ (G : Granule) (Z : Sane G) where
       go false y L = another 1 (λ e. omega arith)
 
   never-eight : (A : Ledger) (c : Call) → stepL G A c .answer ≢ refused 8
-  unfolding formatL addL mapL unmapL unmapOf
+  unfolding formatL addL mapL unmapL unmapOf mapRangeL gainOf unmapRangeL clearOf
   never-eight A (formatC l r) = either (goodNumbers G l r (entries G * A .area .tables) (entries G * total (A .area)) (total (A .area))) (entered formatted (ledger l r [])) (entered (refused 1) A) (other (λ e. cc)) (another 1 (λ e. omega arith))
   never-eight A (addC q m second rest) =
       either (goodAdding G (A .levels) (A .area) q m (entries G * A .area .tables) (entries G * A .area .tables + length second) (freeTables G A + length rest))
@@ -196,6 +193,22 @@ module _ (G : Granule) (Z : Sane G) where
       on : (m : Option Mapping) → unmapOf G A a m .answer ≢ refused 8
       on none = other (λ e. cc)
       on (some m) = either (eqb (m .at) a) (entered (gave (m .frame) (m .size) (m .attributes) (freeTables G (withLive A (dropAt a (A .live))) - freeTables G A)) (withLive A (dropAt a (A .live)))) (entered (refused 10) A) (other (λ e. cc)) (other (λ e. cc))
+  never-eight A (mapRangeC a b l k) =
+      let no = mapRangeTests G (A .levels) (A .area) a b l k in
+      let L = gain (pieces G a b l k) (A .live) in
+      let need = tablesNeeded G (A .levels) L - tablesNeeded G (A .levels) (A .live) in
+      let taken = entered (took need) (withLive A L) in
+      either (eqb no 0) (gainOf G A a l L) (entered (refused no) A)
+      (either (anyOverlap a l (A .live)) (entered (refused 6) A) (cond (ltb (freeTables G A) need) (entered (refused 7) A) taken) (other (λ e. cc))
+      (either (ltb (freeTables G A) need) (entered (refused 7) A) taken (other (λ e. cc)) (other (λ e. cc))))
+      (another no (range-other (A .levels) (A .area) a b l k))
+  never-eight A (unmapRangeC a l) =
+      let no = unmapRangeTests G (A .levels) a l in
+      let L = dropIn a l (A .live) in
+      let gone = entered (cleared (length (A .live) - length L) (freeTables G (withLive A L) - freeTables G A)) (withLive A L) in
+      either (eqb no 0) (clearOf G A a l) (entered (refused no) A)
+      (either (anyCut a l (A .live)) (entered (refused 10) A) gone (other (λ e. cc)) (other (λ e. cc)))
+      (another no (clear-other (A .levels) a l))
   never-eight A (askC q) = ask-never-eight A q
 
   never : (A : Ledger) (cs : List Call) (a : Answer) → List·Memᴰ a (answersL G A cs) → a ≢ refused 8

@@ -14,20 +14,21 @@ use Rattle.path.specs.Areas.{Area, areaOf, total, InArea}
 use Rattle.path.specs.Laws.{granule-sane}
 use Rattle.path.specs.Numbers.{goodNumbers}
 use Rattle.path.specs.declared.Setup.{Setup}
-use Rattle.model.specs.Answers.{Mapping, mapping, formatted, took, gave, refused, Pool}
+use Rattle.model.specs.Answers.{Mapping, mapping, formatted, took, gave, cleared, refused, accepts, Pool}
 use Rattle.model.specs.Writes.{Write, performAll}
 use Rattle.model.specs.Calls.{mapTests, unmapTests}
 use Rattle.model.specs.Adds.{lent}
+use Rattle.model.specs.Ranges.{mapRangeTests, unmapRangeTests, pieces, gain, gainOf, mapRangeL, anyCut, dropIn, clearOf, unmapRangeL}
 use Rattle.model.specs.Sound.{OffTables}
-use Rattle.model.specs.Ledger.{Ledger, ledger, withLive, anyOverlap, holdsAddress, coverOf, dropAt, tablesLacking, freeTables, Entered, entered, formatL, mapL, unmapOf, unmapL}
+use Rattle.model.specs.Ledger.{Ledger, ledger, withLive, anyOverlap, holdsAddress, coverOf, dropAt, tablesNeeded, tablesLacking, freeTables, Entered, entered, formatL, mapL, unmapOf, unmapL}
 use Rattle.demand.specs.Holds.{Holds}
 use Rattle.demand.specs.Sims.{holds-sim, sim-holds}
 use Rattle.demand.specs.Theorem.{after-sim, step-holds}
-use Rattle.demand.specs.Demand3.{Call, formatC, addC, mapC, unmapC, askC, auditC, stepW, stepL, poolAfter, ledgerAfter}
-use Rattle.hardware.specs.Machine.{Translation, saysOf, told, stage2, Stands, writesOf, accepts, memoryOf, wordsAfter, visible, AtOnce, Machine}
+use Rattle.demand.specs.Demand3.{Call, formatC, addC, mapC, unmapC, mapRangeC, unmapRangeC, askC, auditC, stepW, stepL, poolAfter, ledgerAfter}
+use Rattle.hardware.specs.Machine.{Translation, saysOf, told, stage2, Stands, writesOf, memoryOf, wordsAfter, visible, Machine}
 use Rattle.hardware.specs.Theorem.{promise}
 use Rattle.hardware.specs.Views.{add-live}
-use Rattle.hardware.specs.Isolation.{Reaches, During, OffOwn, OffLater, Sealed, Held, InFrame, OffBoth, KeptApart, OffOther, Apart, Isolation}
+use Rattle.hardware.specs.Isolation.{KeepsTables, Reaches, During, OffOwn, OffLater, Sealed, Held, InFrame, OffBoth, KeptApart, OffOther, Apart, Isolation}
 
 -- ---- what a ledger says is a byte of a frame
 
@@ -69,6 +70,8 @@ memory-numbers G p (addC q n second rest) = go (accepts (stepW G p (addC q n sec
     go false = refl
 memory-numbers G p (mapC a b size k) = refl
 memory-numbers G p (unmapC a) = refl
+memory-numbers G p (mapRangeC a b len k) = refl
+memory-numbers G p (unmapRangeC a len) = refl
 memory-numbers G p (askC q) = refl
 
 -- ---- the ledger after a call has the same area, but for format's and an add's
@@ -102,6 +105,29 @@ module _ (G : Granule) (A : Ledger) where
           let B = withLive A (dropAt a (A .live)) in
           same-area (A .area) (eqb (m .at) a) (entered (gave (m .frame) (m .size) (m .attributes) (freeTables G B - freeTables G A)) B) (entered (refused 10) A) refl refl
 
+  map-range-area : (a b len k : ℕ) → mapRangeL G A a b len k .after .area ≡ A .area
+  unfolding mapRangeL gainOf
+  map-range-area a b len k =
+      let no = mapRangeTests G (A .levels) (A .area) a b len k in
+      let L = gain (pieces G a b len k) (A .live) in
+      let need = tablesNeeded G (A .levels) L - tablesNeeded G (A .levels) (A .live) in
+      let taken = entered (took need) (withLive A L) in
+      let rest = cond (ltb (freeTables G A) need) (entered (refused 7) A) taken in
+      same-area (A .area) (eqb no 0) (cond (anyOverlap a len (A .live)) (entered (refused 6) A) rest) (entered (refused no) A)
+      (same-area (A .area) (anyOverlap a len (A .live)) (entered (refused 6) A) rest refl
+      (same-area (A .area) (ltb (freeTables G A) need) (entered (refused 7) A) taken refl refl))
+      refl
+
+  unmap-range-area : (a len : ℕ) → unmapRangeL G A a len .after .area ≡ A .area
+  unfolding unmapRangeL clearOf
+  unmap-range-area a len =
+      let no = unmapRangeTests G (A .levels) a len in
+      let L = dropIn a len (A .live) in
+      let gone = entered (cleared (length (A .live) - length L) (freeTables G (withLive A L) - freeTables G A)) (withLive A L) in
+      same-area (A .area) (eqb no 0) (cond (anyCut a len (A .live)) (entered (refused 10) A) gone) (entered (refused no) A)
+      (same-area (A .area) (anyCut a len (A .live)) (entered (refused 10) A) gone refl refl)
+      refl
+
 module _ (G : Granule) (Z : Sane G) {p : Pool} {A : Ledger} (H : Holds G p A) where
   -- no frame of the ledger shares a byte with the tables
   off-tables : (m : Mapping) → List·Memᴰ m (A .live) → OffTables G (A .area) m
@@ -123,22 +149,26 @@ module _ (G : Granule) (Z : Sane G) {p : Pool} {A : Ledger} (H : Holds G p A) wh
       off-tables G Z H m (subst (λ (L : List Mapping). List·Memᴰ m L) (add-live G A q n (length second) (freeTables G A + length rest)) i)
   after-off (mapC a b size k) m i = next-off (mapC a b size k) (map-area G A a b size k) m i
   after-off (unmapC a) m i = next-off (unmapC a) (unmap-area G A a) m i
+  after-off (mapRangeC a b len k) m i = next-off (mapRangeC a b len k) (map-range-area G A a b len k) m i
+  after-off (unmapRangeC a len) m i = next-off (unmapRangeC a len) (unmap-range-area G A a len) m i
   after-off (askC q) m i = off-tables G Z H m i
 
   held-off : (c : Call) (m : Mapping) → Held G A c m → OffTables G (A .area) m
   held-off c m = ⊎-elim (off-tables G Z H m) (after-off c m)
 
   -- and of the tables after a call, but for format's
-  later-off : (c : Call) → AtOnce c → (m : Mapping) → List·Memᴰ m (A .live) → OffTables G (stepL G A c .after .area) m
+  later-off : (c : Call) → KeepsTables c → (m : Mapping) → List·Memᴰ m (A .live) → OffTables G (stepL G A c .after .area) m
   later-off (formatC levels area) o m i = absurd o
   later-off (addC q n second rest) o m i =
       off-tables G Z (step-holds G Z H (addC q n second rest) .1) m
       (subst (λ (L : List Mapping). List·Memᴰ m L) (sym (add-live G A q n (length second) (freeTables G A + length rest))) i)
   later-off (mapC a b size k) o m i = subst (λ (r : Area). OffTables G r m) (sym (map-area G A a b size k)) (off-tables G Z H m i)
   later-off (unmapC a) o m i = subst (λ (r : Area). OffTables G r m) (sym (unmap-area G A a)) (off-tables G Z H m i)
+  later-off (mapRangeC a b len k) o m i = subst (λ (r : Area). OffTables G r m) (sym (map-range-area G A a b len k)) (off-tables G Z H m i)
+  later-off (unmapRangeC a len) o m i = subst (λ (r : Area). OffTables G r m) (sym (unmap-range-area G A a len)) (off-tables G Z H m i)
   later-off (askC q) o m i = off-tables G Z H m i
 
-  held-later : (c : Call) → AtOnce c → (m : Mapping) → Held G A c m → OffTables G (stepL G A c .after .area) m
+  held-later : (c : Call) → KeepsTables c → (m : Mapping) → Held G A c m → OffTables G (stepL G A c .after .area) m
   held-later c o m = ⊎-elim (later-off c o m) (off-tables G Z (step-holds G Z H c .1) m)
 
   -- ---- what the guest reaches in the middle of a call
@@ -168,7 +198,7 @@ module _ (G : Granule) (Z : Sane G) {p : Pool} {A : Ledger} (H : Holds G p A) wh
     off-own : OffOwn G p mem
     off-own x R = not-inside c G x (H .area-is) (held-off c) (reached x R)
 
-    off-later : AtOnce c → OffLater G p c mem
+    off-later : KeepsTables c → OffLater G p c mem
     off-later o x R = not-inside c G x (step-holds G Z H c .1 .area-is) (held-later c o) (reached x R)
 
   seals : (c : Call) → Sealed G p c

@@ -21,8 +21,8 @@ use Rattle.model.specs.Answers.{Mapping, Pool}
 use Rattle.model.specs.Sound.{OffTables}
 use Rattle.model.specs.Ledger.{Ledger}
 use Rattle.demand.specs.Holds.{Holds}
-use Rattle.demand.specs.Demand3.{Call, stepW, stepL, poolAfter, ledgerAfter}
-use Rattle.hardware.specs.Machine.{Translation, stage2, Stands, writesOf, memoryOf, wordsAfter, visible, AtOnce}
+use Rattle.demand.specs.Demand3.{Call, formatC, addC, mapC, unmapC, mapRangeC, unmapRangeC, askC, stepW, stepL, poolAfter, ledgerAfter}
+use Rattle.hardware.specs.Machine.{Translation, stage2, Stands, writesOf, memoryOf, wordsAfter, visible}
 
 -- the guest of a pool reaches the byte x: some address is translated to it
 pub record Reaches (G : Granule) (s : Setup) (mem : ℕ → ℕ → ℕ) (x : ℕ) : Type 0 where
@@ -47,6 +47,16 @@ OffOwn G p mem = (x : ℕ) → Reaches G (p .numbers) mem x → ¬ InArea G (are
 abbrev pub OffLater : Granule → Pool → Call → (ℕ → ℕ → ℕ) → Type 0
 OffLater G p c mem = (x : ℕ) → Reaches G (p .numbers) mem x → ¬ InArea G (areaOf (stepW G p c .after .numbers)) x
 
+-- any call but format
+abbrev pub KeepsTables : Call → Type 0
+KeepsTables (formatC levels area) = ⊥
+KeepsTables (addC q m second rest) = Unit {0}
+KeepsTables (mapC a b size k) = Unit {0}
+KeepsTables (unmapC a) = Unit {0}
+KeepsTables (mapRangeC a b len k) = Unit {0}
+KeepsTables (unmapRangeC a len) = Unit {0}
+KeepsTables (askC q) = Unit {0}
+
 pub record Sealed (G : Granule) (p : Pool) (c : Call) : Type 0 where
   -- at rest
   pub rest : (mem : ℕ → ℕ) → Stands G (areaOf (p .numbers)) (p .words) mem → OffOwn G p (λ _. mem)
@@ -56,7 +66,7 @@ pub record Sealed (G : Granule) (p : Pool) (c : Call) : Type 0 where
   pub during : (mem : ℕ → ℕ → ℕ) → During G p c mem → OffOwn G p mem
   -- and so of the tables after the call, an add's new ones among them. (A format is the host's to make where no mapping is in use: it may place tables on
   -- frames of the mappings that it drops.)
-  pub later : AtOnce c → (mem : ℕ → ℕ → ℕ) → During G p c mem → OffLater G p c mem
+  pub later : KeepsTables c → (mem : ℕ → ℕ → ℕ) → During G p c mem → OffLater G p c mem
 
 -- ---- two guests
 

@@ -19,7 +19,7 @@ use Rattle.demand.specs.Memories.{one-place, in-table, rd-kept}
 use Rattle.demand.specs.Sims.{Sim}
 use Rattle.demand.specs.Queries.{area, n, al}
 use Rattle.hardware.specs.Machine.{zerosFrom, singles}
-use Rattle.hardware.specs.Plans.{Each, each-append, each-zeros, Sound, Leaves}
+use Rattle.hardware.specs.Plans.{Each, each-append, each-zeros, Sound, Leaves, FromZero}
 
 -- a pool that holds a ledger; the path of an address, the frame's height and its word; the path's indices are those of entries
 module _ (G : Granule) (Z : Sane G) {p : Pool} {A : Ledger} (I : Sim G Z p A) (path : List ℕ) (g word : ℕ)
@@ -187,3 +187,18 @@ module _ (G : Granule) (Z : Sane G) {p : Pool} {A : Ledger} (I : Sim G Z p A) (p
       at (inr (c, r, y, z)) q = absurd (d c r (ap (λ (k : ℕ). getD new k 0) (sym q) ∙ z ∙ y))
   but-last-leaves old new i d (wipe t ∷ xs) e = absurd (e .0)
   but-last-leaves old new i d (give j t ∷ xs) e = (tt, but-last-leaves old new i d xs (e .1))
+
+  -- where the entry on which it all hangs was 0, each place that is written was
+  pub from-zero : (old : List ℕ) (need t f : ℕ) → need ≤ f → need + g < 4 → Taking old t f → getD old (slot G t (at (need + g))) 0 ≡ 0
+      → Each (FromZero old) (singles G (planned t f need))
+  unfolding mapWrites singles
+  from-zero old zero t f l b T z = (ap (λ (h : ℕ). getD old (slot G t (at h)) 0) (omega arith) ∙ z, tt)
+  from-zero old (suc need) t f l b T z =
+      each-append (FromZero old) (zerosFrom (slot G c 0) K) _
+      (each-zeros (FromZero old) (slot G c 0) K (λ j p q.
+      let e : j ≡ slot G c (j - slot G c 0) = omega arith in
+      ap (λ (x : ℕ). getD old x 0) e ∙ T .bare (f - 1) (j - slot G c 0) (omega arith) (omega arith)))
+      (z, from-zero old need c (f - 1) (omega arith) (omega arith) (taking-next (omega arith) T) (T .bare (f - 1) (at (need + g)) (omega arith) (below (need + g) (omega arith))))
+    where
+      c : ℕ
+      c = free (f - 1)

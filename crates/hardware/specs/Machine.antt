@@ -22,14 +22,15 @@ use Rattle.path.specs.Areas.{Area, areaOf, total, tableAt}
 use Rattle.path.specs.Paths.{pathOf}
 use Rattle.path.specs.declared.Setup.{Setup}
 use Rattle.entry.specs.Words.{frameWord}
-use Rattle.model.specs.Answers.{Mapping, mapping, Answer, answered, refusal, Pool}
+use Rattle.model.specs.Answers.{Mapping, mapping, Answer, accepts, tablesIn, Pool, Done}
 use Rattle.model.specs.Walk.{slot, atHeight}
 use Rattle.model.specs.Writes.{Write, store, wipe, give, memory, performAll, mapWrites, unmapWrites}
-use Rattle.model.specs.Calls.{walkTo}
+use Rattle.model.specs.Calls.{walkTo, unmapW}
+use Rattle.model.specs.Ranges.{pieces, pagesOf, mapPiece}
 use Rattle.model.specs.Ledger.{Ledger, holdsAddress, coverOf}
 use Rattle.demand.specs.Holds.{Holds}
 use Rattle.model.specs.Adds.{lent}
-use Rattle.demand.specs.Demand3.{Call, formatC, addC, mapC, unmapC, askC, stepW, stepL, poolAfter, ledgerAfter}
+use Rattle.demand.specs.Demand3.{Call, formatC, addC, mapC, unmapC, mapRangeC, unmapRangeC, askC, parts, stepW, stepL, poolAfter, ledgerAfter}
 
 -- ---- the hardware
 
@@ -280,32 +281,31 @@ unfoldable pub singles : Granule → List Write → List Write
 singles G [] = []
 singles G (w ∷ ws) = single G w ++ singles G ws
 
--- whether an answer is no refusal
-abbrev pub accepts : Answer → Bool
-accepts (answered values) = true
-accepts (refusal k values) = false
+-- the single writes of a map that takes t tables, and of an unmap that gives back t
+abbrev pub mapPlan : Granule → Pool → Mapping → ℕ → List Write
+mapPlan G p m t =
+    let g = heightOf G (m .size) in
+    let o = walkTo G p g (m .at) in
+    singles G
+    (mapWrites G (areaOf (p .numbers)) (pathOf G (m .at)) (p .list) g (frameWord (m .frame) g (m .attributes)) (atHeight (o .tables) (o .left)) (p .numbers .free) t)
 
--- the tables that map or unmap says it took or gave back: the last of the values that it answers
-abbrev pub lastOf : List ℕ → ℕ
-lastOf [] = 0
-lastOf (x ∷ []) = x
-lastOf (x ∷ y ∷ l) = lastOf (y ∷ l)
+abbrev pub unmapPlan : Granule → Pool → ℕ → ℕ → List Write
+unmapPlan G p a t = let o = walkTo G p 0 a in singles G (unmapWrites G (o .tables) (pathOf G a) (o .left) (p .numbers .free) t)
 
-abbrev pub tablesIn : Answer → ℕ
-tablesIn (answered values) = lastOf values
-tablesIn (refusal k values) = 0
+-- those of calls made one after the other, each on what the last one left; one that is refused has none
+unfoldable pub planEach : {A : Type 0} → (Pool → A → Done) → (Pool → A → ℕ → List Write) → Pool → List A → List Write
+planEach call plan p [] = []
+planEach call plan p (x ∷ xs) =
+    (let answer = call p x .answer in cond (accepts answer) (plan p x (tablesIn answer)) []) ++ planEach call plan (call p x .after) xs
 
--- the single writes of an accepted call that takes or gives back t tables
+-- the single writes of an accepted call that takes or gives back t tables; a range's are those of its pieces, or of its pages
 abbrev pub plan : Granule → Pool → Call → ℕ → List Write
 plan G p (formatC levels area) t = zerosFrom 0 (length (p .words)) ++ placesFrom 0 (total area)
 plan G p (addC q m second rest) t = zerosFrom (p .cut) (entries G * m) ++ placesAbove (p .numbers .tables) (p .numbers .free) m
-plan G p (mapC a b size k) t =
-    let g = heightOf G size in
-    let o = walkTo G p g a in
-    singles G
-    (mapWrites G (areaOf (p .numbers)) (pathOf G a) (p .list) g (frameWord b g k) (atHeight (o .tables) (o .left)) (p .numbers .free) t)
-plan G p (unmapC a) t =
-    let o = walkTo G p 0 a in singles G (unmapWrites G (o .tables) (pathOf G a) (o .left) (p .numbers .free) t)
+plan G p (mapC a b size k) t = mapPlan G p (mapping a b size k) t
+plan G p (unmapC a) t = unmapPlan G p a t
+plan G p (mapRangeC a b len k) t = planEach (mapPiece G) (mapPlan G) p (pieces G a b len k)
+plan G p (unmapRangeC a len) t = planEach (unmapW G) (unmapPlan G) p (pagesOf G a len)
 plan G p (askC q) t = []
 
 -- a refused call writes nothing
@@ -318,10 +318,17 @@ writtenTo p (formatC levels area) r = p
 writtenTo p (addC q m second rest) r = cond (accepts r) (lent p second rest) p
 writtenTo p (mapC a b size k) r = p
 writtenTo p (unmapC a) r = p
+writtenTo p (mapRangeC a b len k) r = p
+writtenTo p (unmapRangeC a len) r = p
 writtenTo p (askC q) r = p
 
 abbrev pub memoryOf : Granule → Pool → Call → Pool
 memoryOf G p c = writtenTo p c (stepW G p c .answer)
+
+-- the single writes of a sequence of calls
+abbrev pub writesThrough : Granule → Pool → List Call → List Write
+writesThrough G p [] = []
+writesThrough G p (c ∷ cs) = writesOf G p c ++ writesThrough G (stepW G p c .after) cs
 
 -- the pool's words after these writes
 abbrev pub wordsAfter : Granule → Pool → List Write → List ℕ
@@ -360,26 +367,57 @@ module _ (G : Granule) (p : Pool) (L L′ : List Mapping) (ws : List Write) wher
       (seen : ℕ → List Bool) (mem : ℕ → ℕ → ℕ) → ((h : ℕ) → Shows (visible (seen h) ws) (mem h))
       → (a : ℕ) → let t = stage2 G (p .numbers .levels) (p .numbers .base) mem a in (t ≡ told L a) ⊎ (t ≡ told L′ a)
 
--- a call whose writes change what is read at once: any but format, which clears the words one after the other, so that its addresses fault in turn
+-- single writes ws to the pool p, in parts: `live i` are the mappings after the first i of them
+pub record InTurn (G : Granule) (p : Pool) (live : ℕ → List Mapping) (ws : List Write) : Type 0 where
+  -- so many parts are done after the first j writes, and no part is undone
+  pub done : ℕ → ℕ
+  pub rises : (i j : ℕ) → i ≤ j → done i ≤ done j
+  -- after each write every address reads by the parts that are done: each of them changes what is read at once
+  pub reads : (j : ℕ) (mem : ℕ → ℕ) → Stands G (areaOf (p .numbers)) (wordsAfter G p (take j ws)) mem → Reads G (p .numbers) (λ _. mem) (live (done j))
+
+-- a call whose writes change what is read at once: any but a range, whose parts do so in turn, and format, which clears the words one after the other, so
+-- that its addresses fault in turn
 abbrev pub AtOnce : Call → Type 0
 AtOnce (formatC levels area) = ⊥
 AtOnce (addC q m second rest) = Unit {0}
 AtOnce (mapC a b size k) = Unit {0}
 AtOnce (unmapC a) = Unit {0}
+AtOnce (mapRangeC a b len k) = ⊥
+AtOnce (unmapRangeC a len) = ⊥
 AtOnce (askC q) = Unit {0}
+
+-- a range
+abbrev pub Ranged : Call → Type 0
+Ranged (formatC levels area) = ⊥
+Ranged (addC q m second rest) = ⊥
+Ranged (mapC a b size k) = ⊥
+Ranged (unmapC a) = ⊥
+Ranged (mapRangeC a b len k) = Unit {0}
+Ranged (unmapRangeC a len) = Unit {0}
+Ranged (askC q) = ⊥
 
 -- whether a mapping, if there is one, holds an address
 abbrev pub heldBy : ℕ → Option Mapping → Bool
 heldBy x none = false
 heldBy x (some m) = holdsAddress x m
 
--- whether a call may change what an address reads: map those of its range, unmap those of the mapping that holds its address, format all, add none
+-- whether a call may change what an address reads: map those of its mapping, unmap those of the mapping that holds its address, a range those of the range,
+-- format all, add none
 abbrev pub concerns : Ledger → Call → ℕ → Bool
 concerns A (formatC levels area) x = true
 concerns A (addC q m second rest) x = false
 concerns A (mapC a b size k) x = holdsAddress x (mapping a b size k)
 concerns A (unmapC a) x = heldBy x (coverOf a (A .live))
+concerns A (mapRangeC a b len k) x = leb a x && ltb x (a + len)
+concerns A (unmapRangeC a len) x = leb a x && ltb x (a + len)
 concerns A (askC q) x = false
+
+-- the call c on a pool p that holds the ledger A is its parts, one after the other, each on what the last one left: so are its single writes, what it leaves of
+-- the pool, and what it leaves of the ledger. Of each part what is promised of a call holds (`Promise`), since the parts before it are calls as well.
+pub record OfParts (G : Granule) (p : Pool) (A : Ledger) (c : Call) : Type 0 where
+  pub writes : writesOf G p c ≡ writesThrough G p (parts G c)
+  pub leaves : stepW G p c .after ≡ poolAfter G p (parts G c)
+  pub enters : stepL G A c .after ≡ ledgerAfter G A (parts G c)
 
 -- the call c on a pool p that holds the ledger A
 pub record Machine (G : Granule) (p : Pool) (A : Ledger) (c : Call) : Type 0 where
@@ -391,7 +429,10 @@ pub record Machine (G : Granule) (p : Pool) (A : Ledger) (c : Call) : Type 0 whe
   pub each-write : AtOnce c → Switch G (memoryOf G p c) (A .live) (stepL G A c .after .live) (writesOf G p c)
   pub any-order : AtOnce c → AnyOrder G (memoryOf G p c) (A .live) (stepL G A c .after .live) (writesOf G p c)
   pub overtaken : Overtaken G (memoryOf G p c) (A .live) (stepL G A c .after .live) (writesOf G p c)
-  -- and outside the mapping concerned the two say the same
+  -- a range that is accepted is its pieces, or its pages; after each write what is read is the ledger after the first so many of them
+  pub by-parts : Ranged c → accepts (stepW G p c .answer) ≡ true → OfParts G p A c
+  pub in-turn : Ranged c → InTurn G p (λ i. ledgerAfter G A (take i (parts G c)) .live) (writesOf G p c)
+  -- and outside the mapping or the range concerned the two ledgers say the same
   pub outside : (x : ℕ) → concerns A c x ≡ false → told (stepL G A c .after .live) x ≡ told (A .live) x
 
 -- for a pool that holds a ledger, as that of a fresh format and every pool that the audit accepts do: after any calls, for any call next

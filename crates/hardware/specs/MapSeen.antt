@@ -1,12 +1,12 @@
 -- An accepted map on a pool that holds a ledger: what the hardware reads while its single writes are made.
 use mathlib.Core.Path.{_≡_, refl, ap, sym, _∙_, subst}
-use mathlib.Core.Logic.{_≢_, ⊎-elim}
+use mathlib.Core.Logic.{_≢_, inl, ⊎-elim}
 use mathlib.Core.List.{List, _∷_, map, List·Memᴰ·head as here}
 use Prim.Native.Nat.{ℕ, suc, _+_, _-_, _*_, _%_, _≤_, _<_}
 use native.Mathlib.Nat.{mod-lt}
 use native.Mathlib.Omega.{arith}
 use native.Mathlib.Decide.{ℕ-discrete}
-use lib.ListN.{length, take, length-append}
+use lib.ListN.{length, getD, take, length-append}
 use lib.Seq.{take-append-le, take-all}
 use Rattle.path.specs.Geometry.{Granule, Sane, entries, heightOf}
 use Rattle.path.specs.Areas.{Area, areaOf, total, tableAt, GoodArea}
@@ -38,8 +38,8 @@ use Rattle.demand.specs.Maps.{Fine, tests-fine, new-shown, region-is, good-fram
 use Rattle.hardware.specs.Machine.{told, Stands, Reads, singles, wordsAfter}
 use Rattle.hardware.specs.Trees.{Within, new-zero, Grown, grown}
 use Rattle.hardware.specs.Mixed.{place}
-use Rattle.hardware.specs.Plans.{Each, each-take, Sound, Leaves, left}
-use Rattle.hardware.specs.Links.{Taking, but-last, links, Last, last, map-sound, but-last-leaves}
+use Rattle.hardware.specs.Plans.{Each, each-take, Sound, Leaves, left, Grew, zero-grew}
+use Rattle.hardware.specs.Links.{Taking, but-last, links, Last, last, map-sound, but-last-leaves, from-zero}
 use Rattle.hardware.specs.Views.{Took, map-takes, map-carries}
 use Rattle.hardware.specs.Watch.{Seen, word-at, reads-rest, outside-map, overtaken-up, part-up, any-order-up}
 
@@ -79,13 +79,13 @@ module _ (G : Granule) (Z : Sane G) {p : Pool} {B : Ledger} (I : Sim G Z p B) (a
 
   -- ---- what the call has found
 
-  F : Fine G top (areaOf (p .numbers)) a b size k
+  pub F : Fine G top (areaOf (p .numbers)) a b size k
   F = tests-fine G top (areaOf (p .numbers)) a b size k (Y .tests)
 
   E : Ended G Z (area G Z I) top (al G Z I) (few G Z I) (p .words) (R G Z I) a g (k₀ G Z I) o
   E = walk-ended G Z I g a (low G Z I a b size k F) (F .start-in)
 
-  vacant : I .S s (anc K s v) ≡ empty
+  pub vacant : I .S s (anc K s v) ≡ empty
   vacant = entry-empty (I .S s (anc K s v)) (I .T s (anc K s v)) (ap readEntry (sym (Y .vacant)) ∙ E .ends .says-is)
 
   above : g ≤ s
@@ -96,37 +96,37 @@ module _ (G : Granule) (Z : Sane G) {p : Pool} {B : Ledger} (I : Sim G Z p B) (a
 
   -- ---- the writes, the words that they leave, and their tree
 
-  abbrev planned : List Write
+  abbrev pub planned : List Write
   planned = mapWrites G (area G Z I) (pathOf G a) (p .list) g (frameWord b g k) t f (s - g)
 
-  abbrev ws : List Write
+  abbrev pub ws : List Write
   ws = singles G planned
 
-  abbrev new : List ℕ
+  abbrev pub new : List ℕ
   new = performAll G planned m₀ .words
 
   abbrev Tables : Store (X G Z I)
   Tables = A G Z (area G Z I) top (al G Z I)
 
   -- the tables that it takes are free
-  takes : Takes G Z I a b size k F vacant (Y .room)
+  pub takes : Takes G Z I a b size k F vacant (Y .room)
   takes = free-taken (I .inv .spare tt .free)
 
-  N : Grown (X G Z I) Tables (placeAt (p .list)) g v x (ready G Z I a b size k F vacant (Y .room) takes)
+  pub N : Grown (X G Z I) Tables (placeAt (p .list)) g v x (ready G Z I a b size k F vacant (Y .room) takes)
       (grow (X G Z I) Tables (placeAt (p .list)) g v x s (p .words) t f)
   unfolding ready
   N = grown (X G Z I) Tables (placeAt (p .list)) g v x s (ready G Z I a b size k F vacant (Y .room) takes)
 
-  abbrev T′ : ℕ → ℕ → ℕ
+  abbrev pub T′ : ℕ → ℕ → ℕ
   T′ = N .mapped .T
 
-  abbrev S′ : ℕ → ℕ → Ent
+  abbrev pub S′ : ℕ → ℕ → Ent
   S′ = N .mapped .S
 
   abbrev L′ : List Mapping
   L′ = mapping g (anc K g v) x ∷ I .L
 
-  R′ : Rendered (X G Z I) (readAt G new) T′ S′
+  pub R′ : Rendered (X G Z I) (readAt G new) T′ S′
   R′ =
       subst (λ (m : Memory). Rendered (X G Z I) (readAt G (m .words)) T′ S′) (sym (carried G Z I a b size k F vacant (Y .room)))
       (N .mapped .inv .ren)
@@ -134,7 +134,7 @@ module _ (G : Granule) (Z : Sane G) {p : Pool} {B : Ledger} (I : Sim G Z p B) (a
   H′ : Holds S′ L′
   H′ = N .mapped .inv .holds
 
-  Q : Within (I .T) (I .S) T′ S′
+  pub Q : Within (I .T) (I .S) T′ S′
   unfolding ready
   Q = N .within
 
@@ -167,8 +167,22 @@ module _ (G : Granule) (Z : Sane G) {p : Pool} {B : Ledger} (I : Sim G Z p B) (a
   long : length (p .words) ≡ K * n G Z I
   long = I .good .numbers .words-are
 
-  sound : Each (Sound (p .words) new) ws
+  pub sound : Each (Sound (p .words) new) ws
   sound = map-sound G Z I (pathOf G a) g (frameWord b g k) below (p .words) (s - g) t f (Y .room) high W m₀ long
+
+  -- and of a place that was 0
+  entry-was : getD (p .words) (slot G t (atHeight (pathOf G a) (s - g + g))) 0 ≡ 0
+  entry-was =
+      let e = spot G Z (area G Z I) top (al G Z I) (few G Z I) (p .words) (R G Z I) a s (s-low G Z I a b size k F vacant) in
+      ap (λ (h : ℕ). getD (p .words) (slot G t (atHeight (pathOf G a) h)) 0) (omega (arith, above))
+      ∙ (λ j. getD (p .words) (slot G (number j) (e j)) 0)
+      ∙ R G Z I .words s (anc K s v) (E .ends .parent)
+      ∙ ap (λ (e : Ent). X G Z I .enc s e (I .T s (anc K s v))) vacant
+
+  pub grew : Grew (p .words) new
+  grew =
+      subst (Grew (p .words)) (ap (λ (m : Memory). m .words) (map-carries G p a b size k _ (map-takes Y)))
+      (zero-grew G (p .words) ws (from-zero G Z I (pathOf G a) g (frameWord b g k) below (p .words) (s - g) t f (Y .room) high W entry-was) m₀ (λ i. inl refl))
 
   -- ---- the place of the frame's word: entry i of table u
 

@@ -8,16 +8,16 @@ use native.Mathlib.Omega.{arith}
 use native.Mathlib.Decide.{ℕ-discrete, decLt}
 use lib.Dec.{ltb}
 use lib.ListN.{length, getD, set, take, drop, replicate, length-set, take-append-drop}
-use lib.Seq.{ext-getD, set-out, getD-set-same, getD-set-other, take-suc-set, take-all, drop-set-lt}
+use lib.Seq.{set-out, getD-set-same, getD-set-other, take-suc-set, take-all, drop-set-lt}
 use borrow.Author.Tests.{ltb-true}
 use Rattle.laws.specs.Lists.{zeroed, down, among}
-use Rattle.laws.specs.ListLaws.{length-zeroed, getD-zeroed, getD-zeroed-before, getD-zeroed-after, getD-past, down-suc}
+use Rattle.laws.specs.ListLaws.{zeroed-more, zeroed-zero, getD-past, down-suc}
 use Rattle.path.specs.Geometry.{Granule, entries}
 use Rattle.path.specs.Areas.{Area, areaOf, total, tableAt, GoodArea}
 use Rattle.model.specs.Walk.{slot}
 use Rattle.model.specs.Writes.{Write, store, wipe, give, Memory, memory, perform, performAll, mapWrites, mayTake, pruneWrites}
 use Rattle.model.specs.Adds.{appended}
-use Rattle.model.specs.LeftLaws.{perform-length}
+use Rattle.model.specs.LeftLaws.{perform-append, perform-length}
 use Rattle.model.specs.LedgerLaws.{and-true}
 use Rattle.demand.specs.Memories.{table-ends}
 use Rattle.hardware.specs.Machine.{zerosFrom, placesFrom, placesAbove, single, singles, visible}
@@ -58,40 +58,6 @@ visible-take (suc j) [] = refl
 visible-take (suc j) (w ∷ ws) = ap {B = List Write} (λ (l : List Write). w ∷ l) (visible-take j ws)
 
 -- ---- words
-
--- one word after another to 0
-zeroed-more : (ws : List ℕ) (i k : ℕ) → i + suc k ≤ length ws → zeroed (set ws i 0) (suc i) k ≡ zeroed ws i (suc k)
-zeroed-more ws i k l = ext-getD 0 _ _ long (λ j _. at j (decLt j i) (ℕ-discrete j i) (decLt j (i + suc k)))
-  where
-    long : length (zeroed (set ws i 0) (suc i) k) ≡ length (zeroed ws i (suc k))
-    long = length-zeroed (set ws i 0) (suc i) k ∙ length-set ws i 0 ∙ sym (length-zeroed ws i (suc k))
-
-    in-set : suc i + k ≤ length (set ws i 0)
-    in-set = omega (arith, length-set ws i 0)
-
-    at : (j : ℕ) → Dec (j < i) → Dec (j ≡ i) → Dec (j < i + suc k) → getD (zeroed (set ws i 0) (suc i) k) j 0 ≡ getD (zeroed ws i (suc k)) j 0
-    at j (yes a) b c =
-        getD-zeroed-before (set ws i 0) (suc i) k j (omega arith)
-        ∙ getD-set-other ws i j 0 0 (λ e. omega arith)
-        ∙ sym (getD-zeroed-before ws i (suc k) j a)
-    at j (no a) (yes b) c =
-        getD-zeroed-before (set ws i 0) (suc i) k j (omega arith)
-        ∙ ap (λ (x : ℕ). getD (set ws i 0) x 0) b
-        ∙ getD-set-same ws i 0 0 (omega arith)
-        ∙ sym (getD-zeroed ws i (suc k) l j (omega arith) (omega arith))
-    at j (no a) (no b) (yes c) =
-        getD-zeroed (set ws i 0) (suc i) k in-set j (omega arith) (omega arith) ∙ sym (getD-zeroed ws i (suc k) l j (omega arith) c)
-    at j (no a) (no b) (no c) =
-        getD-zeroed-after (set ws i 0) (suc i) k j (omega arith)
-        ∙ getD-set-other ws i j 0 0 b
-        ∙ sym (getD-zeroed-after ws i (suc k) j (omega arith))
-
-zeroed-none : (ws : List ℕ) (i : ℕ) → zeroed ws i 0 ≡ ws
-zeroed-none ws i = ext-getD 0 _ _ (length-zeroed ws i 0) (λ j _. at j (decLt j i))
-  where
-    at : (j : ℕ) → Dec (j < i) → getD (zeroed ws i 0) j 0 ≡ getD ws j 0
-    at j (yes a) = getD-zeroed-before ws i 0 j a
-    at j (no a) = getD-zeroed-after ws i 0 j (omega arith)
 
 -- what stands at a place after a word is written
 set-cases : (ws : List ℕ) (i x j : ℕ) → ((j ≡ i) × (getD (set ws i x) j 0 ≡ x)) ⊎ (getD (set ws i x) j 0 ≡ getD ws j 0)
@@ -137,6 +103,12 @@ unfolding placesFrom
 places-clear zero i = tt
 places-clear (suc k) i = (tt, places-clear k (suc i))
 
+-- of places that were 0
+abbrev pub FromZero : List ℕ → Write → Type 0
+FromZero old (store i x) = getD old i 0 ≡ 0
+FromZero old (wipe t) = ⊥
+FromZero old (give i t) = Unit {0}
+
 -- of words from place c on alone
 abbrev pub Beyond : ℕ → Write → Type 0
 Beyond c (store i x) = c ≤ i
@@ -157,14 +129,9 @@ places-beyond c n (suc k) i = (tt, places-beyond c n k (suc i))
 -- ---- carried out
 
 module _ (G : Granule) where
-  pub perform-append : (xs ys : List Write) (m : Memory) → performAll G (xs ++ ys) m ≡ performAll G ys (performAll G xs m)
-  unfolding performAll
-  perform-append [] ys m = refl
-  perform-append (x ∷ xs) ys m = perform-append xs ys (perform G x m)
-
   pub zeros-carried : (k i : ℕ) (ws l : List ℕ) → i + k ≤ length ws → performAll G (zerosFrom i k) (memory ws l) ≡ memory (zeroed ws i k) l
   unfolding performAll zerosFrom
-  zeros-carried zero i ws l b = ap (λ (x : List ℕ). memory x l) (sym (zeroed-none ws i))
+  zeros-carried zero i ws l b = ap (λ (x : List ℕ). memory x l) (sym (zeroed-zero ws i))
   zeros-carried (suc k) i ws l b =
       zeros-carried k (suc i) (set ws i 0) l (omega (arith, length-set ws i 0)) ∙ ap (λ (x : List ℕ). memory x l) (zeroed-more ws i k b)
 
@@ -221,7 +188,7 @@ module _ (G : Granule) where
   unfolding performAll singles
   singles-carried [] m e = refl
   singles-carried (w ∷ ws) m e =
-      perform-append (single G w) (singles G ws) m
+      perform-append G (single G w) (singles G ws) m
       ∙ ap (performAll G (singles G ws)) (one w (e .0))
       ∙ singles-carried ws (perform G w m) (subst (λ (n : ℕ). Each (InRange n) ws) (sym (perform-length G w m)) (e .1))
     where
@@ -278,3 +245,39 @@ module _ (G : Granule) where
   unfolding singles pruneWrites
   prune-clears way path zero h f = tt
   prune-clears way path (suc k) h f = (refl, (tt, prune-clears way path k (suc h) (suc f)))
+
+-- ---- words that only come
+
+-- what is not 0 stays
+abbrev pub Grew : List ℕ → List ℕ → Type 0
+Grew old new = (i : ℕ) → (getD new i 0 ≡ getD old i 0) ⊎ (getD old i 0 ≡ 0)
+
+pub grew-on : (a b c : List ℕ) → Grew a b → Grew b c → Grew a c
+grew-on a b c f g i = ⊎-elim (λ e. ⊎-elim (λ d. inl (d ∙ e)) (λ d. inr (sym e ∙ d)) (g i)) (λ e. inr e) (f i)
+
+-- a word in between is the first or the last
+grew-between : (a b c : List ℕ) → Grew a b → Grew b c → Between a c b
+grew-between a b c f g i = ⊎-elim (λ e. inl e) (λ e. ⊎-elim (λ d. inr (sym d)) (λ d. inl (d ∙ sym e)) (g i)) (f i)
+
+-- so a write of a word as it was or as it will be is one over more calls too
+pub sound-among : (a b c d : List ℕ) → Grew a b → Grew b c → Grew c d → (xs : List Write) → Each (Sound b c) xs → Each (Sound a d) xs
+sound-among a b c d f g h [] e = tt
+sound-among a b c d f g h (store i x ∷ xs) e = (
+  ⊎-elim
+      (λ q. ⊎-elim (λ z. inl (q ∙ z)) (λ z. inr (q ∙ z)) (grew-between a b d f (grew-on b c d g h) i))
+      (λ q. ⊎-elim (λ z. inl (q ∙ z)) (λ z. inr (q ∙ z)) (grew-between a c d (grew-on a b c f g) h i))
+      (e .0),
+  sound-among a b c d f g h xs (e .1),
+)
+sound-among a b c d f g h (wipe t ∷ xs) e = absurd (e .0)
+sound-among a b c d f g h (give i t ∷ xs) e = (tt, sound-among a b c d f g h xs (e .1))
+
+-- writes of places that were 0 leave what was not 0
+pub zero-grew : (G : Granule) (old : List ℕ) (xs : List Write) → Each (FromZero old) xs → (m : Memory) → Grew old (m .words) → Grew old (performAll G xs m .words)
+unfolding performAll
+zero-grew G old [] e m f = f
+zero-grew G old (store i x ∷ xs) e m f =
+    zero-grew G old xs (e .1) (memory (set (m .words) i x) (m .list))
+    (λ j. ⊎-elim (λ z. inr (ap (λ (k : ℕ). getD old k 0) (z .0) ∙ e .0)) (λ z. ⊎-elim (λ d. inl (z ∙ d)) (λ d. inr d) (f j)) (set-cases (m .words) i x j))
+zero-grew G old (wipe t ∷ xs) e m f = absurd (e .0)
+zero-grew G old (give i t ∷ xs) e m f = zero-grew G old xs (e .1) (memory (m .words) (set (m .list) i t)) f

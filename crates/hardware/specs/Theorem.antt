@@ -1,7 +1,7 @@
 -- The promise of Machine is kept: for every call after any calls, from any pool that holds a ledger.
 use mathlib.Core.Path.{_≡_, refl, ap, sym, _∙_, subst}
 use mathlib.Core.Logic.{_≢_, inl}
-use mathlib.Core.Bool.{Bool, true, false, cond}
+use mathlib.Core.Bool.{Bool, true, false, cond, false≢true}
 use mathlib.Core.List.{List, [], _∷_, _++_, map}
 use Prim.Native.Nat.{ℕ, zero, suc, _+_, _-_, _*_, _<_}
 use native.Mathlib.Omega.{arith}
@@ -14,11 +14,17 @@ use Rattle.path.specs.Geometry.{Granule, Sane, granuleOf, entries}
 use Rattle.path.specs.Areas.{Area, areaOf, total, tableAt, GoodArea}
 use Rattle.path.specs.Laws.{granule-sane}
 use Rattle.path.specs.Numbers.{GoodNumbers}
-use Rattle.model.specs.Answers.{Mapping, mapping, Answer, Pool, Done}
+use Rattle.model.specs.Answers.{Mapping, mapping, Answer, took, cleared, accepts, tablesIn, Pool, Done}
 use Rattle.model.specs.Walk.{slot}
 use Rattle.model.specs.Writes.{Write, Memory, memory, performAll}
 use Rattle.model.specs.Ledger.{Ledger, coverOf, dropAt, freeTables}
 use Rattle.model.specs.Adds.{lent, addW}
+use Rattle.model.specs.Calls.{unmapW}
+use Rattle.model.specs.LeftLaws.{Leaves, leaves-kept, map-leaves, unmap-leaves}
+use Rattle.model.specs.Ranges.{pieces, pagesOf, mapPiece, mapRangeW, unmapRangeW, gain, dropIn}
+use Rattle.model.specs.RangeLaws.{range-fine, tiles, tiles-inside}
+use Rattle.model.specs.RangeMapped.{MapRangeView, range-takes, range-refuses, map-range-view}
+use Rattle.model.specs.RangeUnmapped.{UnmapRangeView, range-clears, range-stays, unmap-range-view}
 use Rattle.model.specs.AddLaws.{AddView, add-grows, add-refuses, add-view, may-add}
 use Rattle.tree.specs.Region.{Same, same?, upd, upd-at, upd-other}
 use Rattle.tree.specs.Tree.{Ent, empty, table, table≢empty}
@@ -29,32 +35,39 @@ use Rattle.demand.specs.Memories.{readAt, placeAt, in-table}
 use Rattle.demand.specs.Sims.{Sim, holds-sim}
 use Rattle.demand.specs.Queries.{n, k₀, X, R, own, ledger-is, root-at}
 use Rattle.demand.specs.Maps.{own-sim}
+use Rattle.demand.specs.RangeMaps.{pieces-left, map-range-step, map-range-parts}
+use Rattle.demand.specs.RangeUnmaps.{pages-left, unmap-range-step, unmap-range-parts}
 use Rattle.demand.specs.Theorem.{step-alike, after-sim}
-use Rattle.demand.specs.Demand3.{Call, formatC, addC, mapC, unmapC, askC, askW, goBack, stepW, stepL}
-use Rattle.hardware.specs.Machine.{told, Stands, Reads, zerosFrom, placesFrom, placesAbove, accepts, tablesIn, plan, writesOf, writtenTo, memoryOf, wordsAfter, visible}
-use Rattle.hardware.specs.Machine.{AtOnce, concerns, Machine, Promise}
+use Rattle.demand.specs.Demand3.{Call, formatC, addC, mapC, unmapC, mapRangeC, unmapRangeC, askC, askW, goBack, mapOf, parts, stepW, stepL, ledgerAfter}
+use Rattle.hardware.specs.Machine.{told, Stands, Reads, zerosFrom, placesFrom, placesAbove, plan, writesOf, writtenTo, memoryOf, wordsAfter, visible}
+use Rattle.hardware.specs.Machine.{mapPlan, unmapPlan, planEach, writesThrough, Switch, InTurn, Overtaken, AtOnce, Ranged, concerns, OfParts, Machine, Promise}
 use Rattle.hardware.specs.Trees.{Within, within-same}
 use Rattle.hardware.specs.Plans.{Each, each-append, each-take, each-visible, each-zeros, Beyond, beyond-leave, places-beyond, left, Sound, Clears, clears-sound, places-clear}
 use Rattle.hardware.specs.Views.{no-write, MapView, map-takes, map-refuses, map-view, UnmapView, unmap-gives, unmap-refuses, unmap-view}
 use Rattle.hardware.specs.Views.{FormatView, format-clears, format-refuses, format-view, format-carries}
-use Rattle.hardware.specs.Views.{writes-carried, map-live, unmap-live, format-live, add-live}
+use Rattle.hardware.specs.Views.{unmaps-carried, writes-carried, map-live, unmap-live, map-range-live, unmap-range-live, format-live, add-live}
 use Rattle.hardware.specs.Watch.{Seen, at-rest, overtaken-up, overtaken-down}
 use Rattle.hardware.specs.MapSeen.{map-seen}
 use Rattle.hardware.specs.UnmapSeen.{unmap-seen, unmap-outside}
+use Rattle.hardware.specs.RangeSeen.{maps-overtaken, unmaps-overtaken, turn-none, turn-more, outside-not, gain-outside, drop-outside}
 
 -- the live mappings after a call, by its answer
-abbrev liveBy : List Mapping → Call → Answer → List Mapping
-liveBy L (formatC levels area) r = cond (accepts r) [] L
-liveBy L (addC q m second rest) r = L
-liveBy L (mapC a b size k) r = cond (accepts r) (mapping a b size k ∷ L) L
-liveBy L (unmapC a) r = cond (accepts r) (dropAt a L) L
-liveBy L (askC q) r = L
+abbrev liveBy : Granule → List Mapping → Call → Answer → List Mapping
+liveBy G L (formatC levels area) r = cond (accepts r) [] L
+liveBy G L (addC q m second rest) r = L
+liveBy G L (mapC a b size k) r = cond (accepts r) (mapping a b size k ∷ L) L
+liveBy G L (unmapC a) r = cond (accepts r) (dropAt a L) L
+liveBy G L (mapRangeC a b len k) r = cond (accepts r) (gain (pieces G a b len k) L) L
+liveBy G L (unmapRangeC a len) r = cond (accepts r) (dropIn a len L) L
+liveBy G L (askC q) r = L
 
-live-by : (G : Granule) (A : Ledger) (c : Call) → stepL G A c .after .live ≡ liveBy (A .live) c (stepL G A c .answer)
+live-by : (G : Granule) (A : Ledger) (c : Call) → stepL G A c .after .live ≡ liveBy G (A .live) c (stepL G A c .answer)
 live-by G A (formatC levels area) = format-live G A levels area
 live-by G A (addC q m second rest) = add-live G A q m (length second) (freeTables G A + length rest)
 live-by G A (mapC a b size k) = map-live G A a b size k
 live-by G A (unmapC a) = unmap-live G A a
+live-by G A (mapRangeC a b len k) = map-range-live G A a b len k
+live-by G A (unmapRangeC a len) = unmap-range-live G A a len
 live-by G A (askC q) = refl
 
 module _ (G : Granule) (Z : Sane G) {p : Pool} {A : Ledger} (I : Sim G Z p A) where
@@ -191,7 +204,7 @@ module _ (G : Granule) (Z : Sane G) {p : Pool} {A : Ledger} (I : Sim G Z p A) wh
 
   -- every call, by its answer
   abbrev By : Call → Done → Type 0
-  By c d = Seen G (writtenTo p c (d .answer)) live (liveBy live c (d .answer)) (cond (accepts (d .answer)) (plan G p c (tablesIn (d .answer))) []) (AtOnce c)
+  By c d = Seen G (writtenTo p c (d .answer)) live (liveBy G live c (d .answer)) (cond (accepts (d .answer)) (plan G p c (tablesIn (d .answer))) []) (AtOnce c)
 
   seen : (c : Call) → By c (stepW G p c)
   seen (formatC levels area) = go (stepW G p (formatC levels area)) (format-view G p levels area)
@@ -214,10 +227,46 @@ module _ (G : Granule) (Z : Sane G) {p : Pool} {A : Ledger} (I : Sim G Z p A) wh
       go : (d : Done) → UnmapView G p a d → By (unmapC a) d
       go d (unmap-gives b k Y) = unmap-seen G Z I a b k Y (Unit {0})
       go d (unmap-refuses j v) = idle (Unit {0})
+  seen (mapRangeC a b len k) = go (mapRangeW G p a b len k) refl (map-range-view G p a b len k)
+    where
+      ms : List Mapping
+      ms = pieces G a b len k
+
+      -- the ledger after the range is that after its pieces
+      gained : (t : ℕ) → mapRangeW G p a b len k .answer ≡ took t → ledgerAfter G A (map mapOf ms) .live ≡ gain ms live
+      gained t e =
+          ap (λ (B : Ledger). B .live) (sym (map-range-parts G Z I a b len k t e)) ∙ map-range-live G A a b len k
+          ∙ ap (λ (r : Answer). cond (accepts r) (gain ms (A .live)) (A .live)) (sym (map-range-step G Z I a b len k .answer) ∙ e) ∙ ap (gain ms) (I .live-is)
+
+      go : (d : Done) → mapRangeW G p a b len k ≡ d → MapRangeView G p a b len k d → By (mapRangeC a b len k) d
+      go d q (range-takes B) = record {
+        each-write = λ z. absurd z;
+        any-order = λ z. absurd z;
+        overtaken = subst (λ (L : List Mapping). Overtaken G p live L (planEach (mapPiece G) (mapPlan G) p ms)) (gained _ (ap (λ (x : Done). x .answer) q)) (maps-overtaken G Z ms I);
+      }
+      go d q (range-refuses j) = idle ⊥
+  seen (unmapRangeC a len) = go (unmapRangeW G p a len) refl (unmap-range-view G p a len)
+    where
+      xs : List ℕ
+      xs = pagesOf G a len
+
+      dropped : (m t : ℕ) → unmapRangeW G p a len .answer ≡ cleared m t → ledgerAfter G A (map unmapC xs) .live ≡ dropIn a len live
+      dropped m t e =
+          ap (λ (B : Ledger). B .live) (sym (unmap-range-parts G Z I a len m t e)) ∙ unmap-range-live G A a len
+          ∙ ap (λ (r : Answer). cond (accepts r) (dropIn a len (A .live)) (A .live)) (sym (unmap-range-step G Z I a len .answer) ∙ e) ∙ ap (dropIn a len) (I .live-is)
+
+      go : (d : Done) → unmapRangeW G p a len ≡ d → UnmapRangeView G p a len d → By (unmapRangeC a len) d
+      go d q (range-clears B) = record {
+        each-write = λ z. absurd z;
+        any-order = λ z. absurd z;
+        overtaken = subst (λ (L : List Mapping). Overtaken G p live L (planEach (unmapW G) (unmapPlan G) p xs)) (dropped _ _ (ap (λ (x : Done). x .answer) q))
+            (unmaps-overtaken G Z xs I (unmaps-carried G p xs));
+      }
+      go d q (range-stays j) = idle ⊥
   seen (askC q) = idle-or (accepts (askW G p q)) (Unit {0})
 
   -- and outside the mapping concerned
-  elsewhere : (c : Call) (x : ℕ) → concerns (own G Z I) c x ≡ false → told (liveBy live c (stepW G p c .answer)) x ≡ told live x
+  elsewhere : (c : Call) (x : ℕ) → concerns (own G Z I) c x ≡ false → told (liveBy G live c (stepW G p c .answer)) x ≡ told live x
   unfolding coverOf
   elsewhere (formatC levels area) x e = let z : _≡_ {A = ℕ} 0 1 = cc in absurd (omega arith)
   elsewhere (addC q m second rest) x e = refl
@@ -231,27 +280,182 @@ module _ (G : Granule) (Z : Sane G) {p : Pool} {A : Ledger} (I : Sim G Z p A) wh
       go : (d : Done) → UnmapView G p a d → told (cond (accepts (d .answer)) (dropAt a live) live) x ≡ told live x
       go d (unmap-gives b k Y) = unmap-outside G Z I a b k Y x e
       go d (unmap-refuses j v) = refl
+  elsewhere (mapRangeC a b len k) x e = go (mapRangeW G p a b len k) (map-range-view G p a b len k)
+    where
+      go : (d : Done) → MapRangeView G p a b len k d → told (cond (accepts (d .answer)) (gain (pieces G a b len k) live) live) x ≡ told live x
+      go d (range-takes B) =
+          let F = range-fine G (p .numbers .levels) (areaOf (p .numbers)) a b len k (B .tests) in
+          gain-outside x (pieces G a b len k) live (λ m i.
+          let (l, r) = tiles-inside (tiles G (p .numbers .levels) (areaOf (p .numbers)) a b len k F) m i in
+          outside-not a len x m e l r)
+      go d (range-refuses j) = refl
+  elsewhere (unmapRangeC a len) x e = go (accepts (unmapRangeW G p a len .answer))
+    where
+      go : (y : Bool) → told (cond y (dropIn a len live) live) x ≡ told live x
+      go true = drop-outside a len x live e
+      go false = refl
   elsewhere (askC q) x e = refl
 
   -- the ledger's mappings after the call
-  after-is : (c : Call) → liveBy live c (stepW G p c .answer) ≡ stepL G (own G Z I) c .after .live
-  after-is c = ap (liveBy live c) (step-alike G Z (own-sim G Z I) c .answer) ∙ sym (live-by G (own G Z I) c)
+  after-is : (c : Call) → liveBy G live c (stepW G p c .answer) ≡ stepL G (own G Z I) c .after .live
+  after-is c = ap (liveBy G live c) (step-alike G Z (own-sim G Z I) c .answer) ∙ sym (live-by G (own G Z I) c)
 
-  machine-own : (c : Call) → Machine G p (own G Z I) c
-  machine-own c = record {
-    rest = at-rest G Z I;
-    whole = writes-carried G p c;
-    each-write = S .each-write;
-    any-order = S .any-order;
-    overtaken = S .overtaken;
-    outside = λ x e. ap (λ (L : List Mapping). told L x) (sym (after-is c)) ∙ elsewhere c x e;
-  }
+  seen-own : (c : Call) → Seen G (memoryOf G p c) live (stepL G (own G Z I) c .after .live) (writesOf G p c) (AtOnce c)
+  seen-own c = subst (λ (L : List Mapping). Seen G (memoryOf G p c) live L (writesOf G p c) (AtOnce c)) (after-is c) (seen c)
+
+  -- by the ledger that the pool holds
+  seen-by : (c : Call) → Seen G (memoryOf G p c) (A .live) (stepL G A c .after .live) (writesOf G p c) (AtOnce c)
+  seen-by c = subst (λ (B : Ledger). Seen G (memoryOf G p c) (B .live) (stepL G B c .after .live) (writesOf G p c) (AtOnce c)) (sym (ledger-is G Z I)) (seen-own c)
+
+  rest-by : (mem : ℕ → ℕ) → Stands G (areaOf (p .numbers)) (p .words) mem → Reads G (p .numbers) (λ _. mem) (A .live)
+  rest-by mem S = subst (λ (B : Ledger). Reads G (p .numbers) (λ _. mem) (B .live)) (sym (ledger-is G Z I)) (at-rest G Z I mem S)
+
+  outside-by : (c : Call) (x : ℕ) → concerns A c x ≡ false → told (stepL G A c .after .live) x ≡ told (A .live) x
+  outside-by c = subst (λ (B : Ledger). (x : ℕ) → concerns B c x ≡ false → told (stepL G B c .after .live) x ≡ told (B .live) x) (sym (ledger-is G Z I))
+      (λ x e. ap (λ (L : List Mapping). told L x) (sym (after-is c)) ∙ elsewhere c x e)
+
+-- ---- ranges, part by part
+
+-- a part of a range: a map, or an unmap
+abbrev Small : Call → Type 0
+Small (formatC levels area) = ⊥
+Small (addC q m second rest) = ⊥
+Small (mapC a b size k) = Unit {0}
+Small (unmapC a) = Unit {0}
+Small (mapRangeC a b len k) = ⊥
+Small (unmapRangeC a len) = ⊥
+Small (askC q) = ⊥
+
+small-leaves : (G : Granule) (p : Pool) (c : Call) → Small c → Leaves G p (stepW G p c .after)
+small-leaves G p (formatC levels area) s = absurd s
+small-leaves G p (addC q m second rest) s = absurd s
+small-leaves G p (mapC a b size k) s = map-leaves G p a b size k
+small-leaves G p (unmapC a) s = unmap-leaves G p a
+small-leaves G p (mapRangeC a b len k) s = absurd s
+small-leaves G p (unmapRangeC a len) s = absurd s
+small-leaves G p (askC q) s = absurd s
+
+-- it writes to the pool, and changes what is read at once
+small-here : (G : Granule) (p : Pool) (c : Call) → Small c → (memoryOf G p c ≡ p) × AtOnce c
+small-here G p (formatC levels area) s = absurd s
+small-here G p (addC q m second rest) s = absurd s
+small-here G p (mapC a b size k) s = (refl, tt)
+small-here G p (unmapC a) s = (refl, tt)
+small-here G p (mapRangeC a b len k) s = absurd s
+small-here G p (unmapRangeC a len) s = absurd s
+small-here G p (askC q) s = absurd s
+
+abbrev AllSmall : List Call → Type 0
+AllSmall [] = Unit {0}
+AllSmall (c ∷ cs) = Small c × AllSmall cs
+
+pieces-small : (ms : List Mapping) → AllSmall (map mapOf ms)
+pieces-small [] = tt
+pieces-small (m ∷ ms) = (tt, pieces-small ms)
+
+pages-small : (xs : List ℕ) → AllSmall (map unmapC xs)
+pages-small [] = tt
+pages-small (x ∷ xs) = (tt, pages-small xs)
+
+module _ (G : Granule) (Z : Sane G) where
+  -- after each write the first so many parts are read
+  turns : (cs : List Call) → AllSmall cs → {p : Pool} {A : Ledger} → Sim G Z p A → InTurn G p (λ i. ledgerAfter G A (take i cs) .live) (writesThrough G p cs)
+  turns [] s {p} {A} I = turn-none G p (λ i. ledgerAfter G A (take i []) .live) (rest-by G Z I)
+  turns (c ∷ cs) s {p} {A} I =
+      let (h, o) = small-here G p c (s .0) in
+      let K = leaves-kept (small-leaves G p c (s .0)) in
+      turn-more G p (stepW G p c .after) (λ i. ledgerAfter G A (take i (c ∷ cs)) .live) (writesOf G p c) (writesThrough G (stepW G p c .after) cs) (K .levels) (K .area)
+      (subst (λ (q : Pool). performAll G (writesOf G p c) (memory (q .words) (q .list)) ≡ memory (stepW G p c .after .words) (stepW G p c .after .list)) h (writes-carried G p c))
+      (subst (λ (q : Pool). Switch G q (A .live) (stepL G A c .after .live) (writesOf G p c)) h (seen-by G Z I c .each-write o))
+      (turns cs (s .1) (step-alike G Z I c .sim))
+
+-- the writes of the pieces, and of the pages, are those of their calls
+pieces-writes : (G : Granule) (ms : List Mapping) (p : Pool) → planEach (mapPiece G) (mapPlan G) p ms ≡ writesThrough G p (map mapOf ms)
+unfolding planEach
+pieces-writes G [] p = refl
+pieces-writes G (m ∷ ms) p = ap (λ (ws : List Write). writesOf G p (mapOf m) ++ ws) (pieces-writes G ms (mapPiece G p m .after))
+
+pages-writes : (G : Granule) (xs : List ℕ) (p : Pool) → planEach (unmapW G) (unmapPlan G) p xs ≡ writesThrough G p (map unmapC xs)
+unfolding planEach
+pages-writes G [] p = refl
+pages-writes G (x ∷ xs) p = ap (λ (ws : List Write). writesOf G p (unmapC x) ++ ws) (pages-writes G xs (unmapW G p x .after))
+
+-- a refused range writes nothing
+none-turn : (G : Granule) (p : Pool) (A : Ledger) (cs : List Call) (ws : List Write) → ws ≡ []
+    → ((mem : ℕ → ℕ) → Stands G (areaOf (p .numbers)) (p .words) mem → Reads G (p .numbers) (λ _. mem) (A .live)) → InTurn G p (λ i. ledgerAfter G A (take i cs) .live) ws
+none-turn G p A cs ws e f = subst (InTurn G p (λ i. ledgerAfter G A (take i cs) .live)) (sym e) (turn-none G p (λ i. ledgerAfter G A (take i cs) .live) f)
+
+module _ (G : Granule) (Z : Sane G) {p : Pool} {A : Ledger} (I : Sim G Z p A) where
+  -- a range that came to d
+  abbrev Turns : Call → Done → Type 0
+  Turns c d = InTurn G p (λ i. ledgerAfter G A (take i (parts G c)) .live) (cond (accepts (d .answer)) (plan G p c (tablesIn (d .answer))) [])
+
+  abbrev Made : Call → Done → Type 0
+  Made c d = accepts (d .answer) ≡ true → OfParts G p A c
+
+  range-turns : (c : Call) → Ranged c → InTurn G p (λ i. ledgerAfter G A (take i (parts G c)) .live) (writesOf G p c)
+  range-turns (formatC levels area) r = absurd r
+  range-turns (addC q m second rest) r = absurd r
+  range-turns (mapC a b size k) r = absurd r
+  range-turns (unmapC a) r = absurd r
+  range-turns (mapRangeC a b len k) r = go (mapRangeW G p a b len k) (map-range-view G p a b len k)
     where
-      S : Seen G (memoryOf G p c) live (stepL G (own G Z I) c .after .live) (writesOf G p c) (AtOnce c)
-      S = subst (λ (L : List Mapping). Seen G (memoryOf G p c) live L (writesOf G p c) (AtOnce c)) (after-is c) (seen c)
+      go : (d : Done) → MapRangeView G p a b len k d → Turns (mapRangeC a b len k) d
+      go d (range-takes B) =
+          subst (InTurn G p (λ i. ledgerAfter G A (take i (parts G (mapRangeC a b len k))) .live)) (sym (pieces-writes G (pieces G a b len k) p))
+          (turns G Z (map mapOf (pieces G a b len k)) (pieces-small (pieces G a b len k)) I)
+      go d (range-refuses j) = none-turn G p A (parts G (mapRangeC a b len k)) [] refl (rest-by G Z I)
+  range-turns (unmapRangeC a len) r = go (unmapRangeW G p a len) (unmap-range-view G p a len)
+    where
+      go : (d : Done) → UnmapRangeView G p a len d → Turns (unmapRangeC a len) d
+      go d (range-clears B) =
+          subst (InTurn G p (λ i. ledgerAfter G A (take i (parts G (unmapRangeC a len))) .live)) (sym (pages-writes G (pagesOf G a len) p))
+          (turns G Z (map unmapC (pagesOf G a len)) (pages-small (pagesOf G a len)) I)
+      go d (range-stays j) = none-turn G p A (parts G (unmapRangeC a len)) [] refl (rest-by G Z I)
+  range-turns (askC q) r = absurd r
+
+  range-parts : (c : Call) → Ranged c → accepts (stepW G p c .answer) ≡ true → OfParts G p A c
+  range-parts (formatC levels area) r e = absurd r
+  range-parts (addC q m second rest) r e = absurd r
+  range-parts (mapC a b size k) r e = absurd r
+  range-parts (unmapC a) r e = absurd r
+  range-parts (mapRangeC a b len k) r e = go (mapRangeW G p a b len k) refl (map-range-view G p a b len k)
+    where
+      c : Call
+      c = mapRangeC a b len k
+
+      go : (d : Done) → mapRangeW G p a b len k ≡ d → MapRangeView G p a b len k d → OfParts G p A c
+      go d q (range-takes B) = record {
+        writes = ap (λ (x : Done). cond (accepts (x .answer)) (plan G p c (tablesIn (x .answer))) []) q ∙ pieces-writes G (pieces G a b len k) p;
+        leaves = ap (λ (x : Done). x .after) q ∙ pieces-left G p (pieces G a b len k);
+        enters = map-range-parts G Z I a b len k _ (ap (λ (x : Done). x .answer) q);
+      }
+      go d q (range-refuses j) = absurd (false≢true (sym (ap (λ (x : Done). accepts (x .answer)) q) ∙ e))
+  range-parts (unmapRangeC a len) r e = go (unmapRangeW G p a len) refl (unmap-range-view G p a len)
+    where
+      c : Call
+      c = unmapRangeC a len
+
+      go : (d : Done) → unmapRangeW G p a len ≡ d → UnmapRangeView G p a len d → OfParts G p A c
+      go d q (range-clears B) = record {
+        writes = ap (λ (x : Done). cond (accepts (x .answer)) (plan G p c (tablesIn (x .answer))) []) q ∙ pages-writes G (pagesOf G a len) p;
+        leaves = ap (λ (x : Done). x .after) q ∙ pages-left G p (pagesOf G a len);
+        enters = unmap-range-parts G Z I a len _ _ (ap (λ (x : Done). x .answer) q);
+      }
+      go d q (range-stays j) = absurd (false≢true (sym (ap (λ (x : Done). accepts (x .answer)) q) ∙ e))
+  range-parts (askC q) r e = absurd r
 
   pub machine : (c : Call) → Machine G p A c
-  machine c = subst (λ (B : Ledger). Machine G p B c) (sym (ledger-is G Z I)) (machine-own c)
+  machine c = record {
+    rest = rest-by G Z I;
+    whole = writes-carried G p c;
+    each-write = seen-by G Z I c .each-write;
+    any-order = seen-by G Z I c .any-order;
+    overtaken = seen-by G Z I c .overtaken;
+    by-parts = range-parts c;
+    in-turn = range-turns c;
+    outside = outside-by G Z I c;
+  }
 
 -- for every sane granule
 pub promise : (G : Granule) → Sane G → Promise G

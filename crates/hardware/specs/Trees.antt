@@ -1,12 +1,13 @@
 -- The trees before and after a call: all that stands in the one stands in the other. Map's tree after it is the larger one, unmap's the smaller.
-use mathlib.Core.Path.{_≡_, refl, sym, _∙_}
+use mathlib.Core.Path.{_≡_, refl, ap, sym, _∙_, subst}
 use mathlib.Core.Logic.{_≢_, ite}
 use mathlib.Core.List.{List}
-use Prim.Native.Nat.{ℕ, zero, suc, _-_, _%_, _<_}
+use Prim.Native.Nat.{ℕ, zero, suc, _+_, _-_, _/_, _%_, _<_}
 use native.Mathlib.Omega.{arith}
 use native.Mathlib.Decide.{ℕ-discrete}
 use Rattle.tree.specs.Region.{anc, Same, upd, upd-at, upd-other}
-use Rattle.tree.specs.Tree.{Ent, empty, frame, table, table≢empty, Geo, Rendered, Unused, Zeros}
+use Rattle.tree.specs.Tree.{Ent, empty, frame, table, table≢empty, readOf, Geo, Rendered, Unused, Zeros}
+use Rattle.tree.specs.Walk.{read-is}
 use Rattle.tree.specs.Inv.{Mapping, Store}
 use Rattle.tree.specs.Ops.{Mem, mem, grow, Ready, Mapped, last, more}
 use Rattle.tree.specs.Prune.{Bare, bare?, Pool, pool, prune, Loose, Pruned, off, kept, rested}
@@ -44,6 +45,42 @@ within-less {T} {S} h r c = record {
   where
     away : (h′ r′ : ℕ) → upd S h r empty h′ r′ ≢ empty → Same h r h′ r′ → ⊥
     away h′ r′ p s = p (upd-at S h r empty h′ r′ s)
+
+-- words have one tree: what one that they render has stands in any other
+module _ {G : Geo} {W T T′ : ℕ → ℕ → ℕ} {S S′ : ℕ → ℕ → Ent} (R : Rendered G W T S) (R′ : Rendered G W T′ S′) where
+  abbrev Agrees : ℕ → ℕ → Type 0
+  Agrees h r = S h r ≢ empty → (S′ h r ≡ S h r) × (S h r ≡ table → T′ h r ≡ T h r)
+
+  agrees-top : (r : ℕ) → Agrees G.top r
+  agrees-top r p =
+      let z = R .only r p in (
+        ap (S′ G.top) z ∙ R′ .root ∙ sym (ap (S G.top) z ∙ R .root),
+        λ _. ap (T′ G.top) z ∙ R′ .root-at ∙ sym (ap (T G.top) z ∙ R .root-at),
+      )
+
+  -- two entries that read alike
+  read-alike : (e e′ : Ent) (c c′ : ℕ) → readOf e c ≡ readOf e′ c′ → e ≢ empty → (e′ ≡ e) × (e ≡ table → c′ ≡ c)
+  read-alike empty e′ c c′ q n = absurd (n refl)
+  read-alike (frame x) empty c c′ q n = (cc, λ z. cc)
+  read-alike (frame x) (frame y) c c′ q n = (cc, λ z. cc)
+  read-alike (frame x) table c c′ q n = (cc, λ z. cc)
+  read-alike table empty c c′ q n = (cc, λ z. cc)
+  read-alike table (frame y) c c′ q n = (cc, λ z. cc)
+  read-alike table table c c′ q n = (refl, λ z. cc)
+
+  agrees : (d h : ℕ) → h + d ≡ G.top → (r : ℕ) → Agrees h r
+  agrees zero h e r p = subst (λ (x : ℕ). Agrees x r) (omega arith) (agrees-top r) p
+  agrees (suc d) h e r p =
+      let u = R .up h r (omega arith) p in
+      let (v, w) = agrees d (suc h) (omega arith) (r / G.K) (table≢empty u) in
+      read-alike (S h r) (S′ h r) (T h r) (T′ h r)
+      (sym (read-is R h r u) ∙ ap (λ (t : ℕ). G .dec h (W t (r % G.K))) (sym (w u)) ∙ read-is R′ h r (v ∙ u)) p
+
+  agrees-at : (h r : ℕ) → Agrees h r
+  agrees-at h r p = agrees (G.top - h) h (omega (arith, R .bound h r p)) r p
+
+  pub within-words : Within T S T′ S′
+  within-words = record { stays = λ h r p. agrees-at h r p .0; number = λ h r p. agrees-at h r (table≢empty p) .1 p }
 
 -- a table that only the larger tree has is zero in the words of the smaller one
 abbrev pub NewZero : (G : Geo) → (W T : ℕ → ℕ → ℕ) → (ℕ → ℕ → Ent) → (ℕ → ℕ → ℕ) → (ℕ → ℕ → Ent) → Type 0

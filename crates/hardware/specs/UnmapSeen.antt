@@ -35,7 +35,7 @@ use Rattle.demand.specs.Carried.{A}
 use Rattle.demand.specs.Sims.{Sim}
 use Rattle.demand.specs.Queries.{area, n, k₀, al, X, R, few, walk-ended, entry-frame}
 use Rattle.demand.specs.Unmaps.{low, way-is, loose, carried, dropped}
-use Rattle.demand.specs.Theorem.{in-space}
+use Rattle.demand.specs.Steps.{in-space}
 use Rattle.hardware.specs.Machine.{told, heldBy, Stands, Reads, singles, wordsAfter}
 use Rattle.hardware.specs.Trees.{Within, within-both, within-less, Cut, cut}
 use Rattle.hardware.specs.Mixed.{place}
@@ -76,14 +76,14 @@ module _ (G : Granule) (Z : Sane G) {p : Pool} {B : Ledger} (I : Sim G Z p B) (a
 
   -- ---- what the call has found
 
-  here : a < spaceOf G top
+  pub here : a < spaceOf G top
   here = in-space G Z I a (Y .tests)
 
   E : Ended G Z (area G Z I) top (al G Z I) (few G Z I) (p .words) (R G Z I) a 0 (k₀ G Z I) o
   E = walk-ended G Z I 0 a (omega arith) here
 
   -- the frame that goes
-  more : I .S h r ≡ frame x
+  pub more : I .S h r ≡ frame x
   more = entry-frame (I .S h r) (I .T h r) x (ap readEntry (sym (Y .framed)) ∙ E .ends .says-is)
 
   -- ---- the writes, the words that they leave, and their tree
@@ -91,13 +91,13 @@ module _ (G : Granule) (Z : Sane G) {p : Pool} {B : Ledger} (I : Sim G Z p B) (a
   abbrev freed : ℕ
   freed = given G p a
 
-  abbrev planned : List Write
+  abbrev pub planned : List Write
   planned = unmapWrites G (o .tables) (pathOf G a) h f freed
 
-  abbrev ws : List Write
+  abbrev pub ws : List Write
   ws = singles G planned
 
-  abbrev new : List ℕ
+  abbrev pub new : List ℕ
   new = performAll G planned m₀ .words
 
   abbrev Tables : Store (X G Z I)
@@ -109,20 +109,20 @@ module _ (G : Granule) (Z : Sane G) {p : Pool} {B : Ledger} (I : Sim G Z p B) (a
   abbrev cleared₁ : prunes.Loose (X G Z I) Tables v way (without h r (I .L)) (k₀ G Z I - h) (suc h)
   cleared₁ = loose G Z I a here b k more (Y .starts)
 
-  N : Cut (X G Z I) Tables v way cleared₁ (prunes.prune (X G Z I) Tables v way (k₀ G Z I - h) (suc h) (cleared₁ .m) (p .list) f)
+  pub N : Cut (X G Z I) Tables v way cleared₁ (prunes.prune (X G Z I) Tables v way (k₀ G Z I - h) (suc h) (cleared₁ .m) (p .list) f)
   unfolding loose
   N = cut (X G Z I) Tables v way (k₀ G Z I - h) (suc h) cleared₁
 
-  abbrev T′ : ℕ → ℕ → ℕ
+  abbrev pub T′ : ℕ → ℕ → ℕ
   T′ = N .pruned .T
 
-  abbrev S′ : ℕ → ℕ → Ent
+  abbrev pub S′ : ℕ → ℕ → Ent
   S′ = N .pruned .S
 
   abbrev L′ : List Mapping
   L′ = without h r (I .L)
 
-  R′ : Rendered (X G Z I) (readAt G new) T′ S′
+  pub R′ : Rendered (X G Z I) (readAt G new) T′ S′
   unfolding loose
   R′ =
       subst (λ (q : prunes.Pool Tables). Rendered (X G Z I) (readAt G (q .m)) T′ S′) (sym (carried G Z I a here b k more (Y .starts)))
@@ -137,7 +137,7 @@ module _ (G : Granule) (Z : Sane G) {p : Pool} {B : Ledger} (I : Sim G Z p B) (a
   H′ : Holds S′ L′
   H′ = N .pruned .inv .holds
 
-  Q : Within T′ S′ (I .T) (I .S)
+  pub Q : Within T′ S′ (I .T) (I .S)
   unfolding loose
   Q = within-both (N .within) (within-less h r 0)
 
@@ -152,6 +152,10 @@ module _ (G : Granule) (Z : Sane G) {p : Pool} {B : Ledger} (I : Sim G Z p B) (a
 
   clears : Each Clears rest
   clears = prune-clears G (o .tables) (pathOf G a) freed h f
+
+  pub all-clear : Each Clears ws
+  unfolding singles
+  all-clear = (refl, clears)
 
   sound : Each (Sound (p .words) new) ws
   unfolding singles

@@ -20,18 +20,22 @@ use Rattle.entry.specs.Words.{frameWord}
 use Rattle.entry.specs.declared.Entry.{Entry}
 use Rattle.entry.specs.declared.Entry.the-variants.{Empty, Table, Frame, Damaged}
 use Rattle.model.specs.declared.Walked.{Walked}
-use Rattle.model.specs.Answers.{Mapping, mapping, formatted, added, took, gave, refusal, refused, Pool, pool, Done, done, refuse}
+use Rattle.model.specs.Answers.{Mapping, mapping, formatted, added, took, gave, cleared, refusal, refused, accepts, tablesIn, Pool, pool, Done, done, refuse}
 use Rattle.model.specs.Walk.{atHeight}
 use Rattle.model.specs.Writes.{Write, memory, performAll, mapWrites, mayTake, freed, unmapWrites}
 use Rattle.model.specs.Calls.{goodPool, written, walkTo, formatW, mapTests, mapHere, mapAt, mapW, unmapTests, unmapHere, unmapAt, unmapW}
-use Rattle.model.specs.Ledger.{Ledger, ledger, withLive, anyOverlap, coverOf, dropAt, freeTables, tablesLacking}
+use Rattle.model.specs.Ledger.{Ledger, ledger, withLive, anyOverlap, coverOf, dropAt, freeTables, tablesNeeded, tablesLacking}
 use Rattle.model.specs.Ledger.{Entered, entered, formatL, addL, mapL, unmapOf, unmapL}
 use Rattle.model.specs.Audit.{noneInside}
 use Rattle.model.specs.Adds.{lent, grown, addW}
 use Rattle.model.specs.AddLaws.{AddView, add-grows, add-refuses, add-view, may-add}
-use Rattle.demand.specs.Demand3.{Call, formatC, addC, mapC, unmapC, askC, askW, goOn, goBack, stepW}
-use Rattle.hardware.specs.Machine.{zerosFrom, placesFrom, placesAbove, accepts, tablesIn, plan, writesOf, writtenTo, memoryOf}
-use Rattle.hardware.specs.Plans.{Each, InRange, perform-append, zeros-carried, singles-carried, places-carried, above-carried, map-range, prune-range}
+use Rattle.model.specs.Ranges.{mapRangeTests, unmapRangeTests, pieces, pagesOf, mapPiece, leftBy, gain, gainOf, mapRangeL, anyCut, dropIn, clearOf, unmapRangeL}
+use Rattle.model.specs.LeftLaws.{perform-append}
+use Rattle.model.specs.RangeMapped.{MapRangeView, range-takes, range-refuses, map-range-view}
+use Rattle.model.specs.RangeUnmapped.{UnmapRangeView, range-clears, range-stays, unmap-range-view}
+use Rattle.demand.specs.Demand3.{Call, formatC, addC, mapC, unmapC, mapRangeC, unmapRangeC, askC, askW, goOn, goBack, stepW}
+use Rattle.hardware.specs.Machine.{zerosFrom, placesFrom, placesAbove, mapPlan, unmapPlan, planEach, plan, writesOf, writtenTo, memoryOf}
+use Rattle.hardware.specs.Plans.{Each, InRange, zeros-carried, singles-carried, places-carried, above-carried, map-range, prune-range}
 
 -- the single writes of a call that came to d
 abbrev writesBy : Granule → Pool → Call → Done → List Write
@@ -260,14 +264,47 @@ module _ (G : Granule) (p : Pool) where
             ∙ above-carried G (p .numbers .tables) m (p .numbers .free) (grown G p₁ q m .words) (p₁ .list)
             (omega (arith, N .places-are, may-add G p₁ q m a .1, g .one-yet .1))
 
+-- ---- ranges
+
+-- calls made one after the other: their single writes leave what they leave
+each-carries : (G : Granule) {A : Type 0} (call : Pool → A → Done) (plans : Pool → A → ℕ → List Write)
+    → ((p : Pool) (x : A) → let d = call p x in
+    performAll G (cond (accepts (d .answer)) (plans p x (tablesIn (d .answer))) []) (memory (p .words) (p .list)) ≡ memory (d .after .words) (d .after .list))
+    → (p : Pool) (xs : List A)
+    → performAll G (planEach call plans p xs) (memory (p .words) (p .list)) ≡ memory (leftBy call p xs .words) (leftBy call p xs .list)
+unfolding performAll planEach leftBy
+each-carries G call plans f p [] = refl
+each-carries G call plans f p (x ∷ xs) =
+    let d = call p x in
+    perform-append G (cond (accepts (d .answer)) (plans p x (tablesIn (d .answer))) []) (planEach call plans (d .after) xs) (memory (p .words) (p .list))
+    ∙ ap (performAll G (planEach call plans (d .after) xs)) (f p x) ∙ each-carries G call plans f (d .after) xs
+
+pub unmaps-carried : (G : Granule) (p : Pool) (xs : List ℕ)
+    → performAll G (planEach (unmapW G) (unmapPlan G) p xs) (memory (p .words) (p .list)) ≡ memory (leftBy (unmapW G) p xs .words) (leftBy (unmapW G) p xs .list)
+unmaps-carried G p xs = each-carries G (unmapW G) (unmapPlan G) (λ p x. unmap-carries G p x _ (unmap-view G p x)) p xs
+
+module _ (G : Granule) (p : Pool) where
+  map-range-carries : (a b len k : ℕ) (d : Done) → MapRangeView G p a b len k d → Carries G p (mapRangeC a b len k) d
+  unfolding performAll
+  map-range-carries a b len k d (range-takes B) =
+      each-carries G (mapPiece G) (mapPlan G) (λ p m. map-carries G p (m .at) (m .frame) (m .size) (m .attributes) _ (map-view G p (m .at) (m .frame) (m .size) (m .attributes))) p (pieces G a b len k)
+  map-range-carries a b len k d (range-refuses j) = refl
+
+  unmap-range-carries : (a len : ℕ) (d : Done) → UnmapRangeView G p a len d → Carries G p (unmapRangeC a len) d
+  unfolding performAll
+  unmap-range-carries a len d (range-clears B) = unmaps-carried G p (pagesOf G a len)
+  unmap-range-carries a len d (range-stays j) = refl
+
   -- a call's single writes are what it does to the lent memory, whatever the pool
   pub writes-carried : (c : Call)
       → performAll G (writesOf G p c) (memory (memoryOf G p c .words) (memoryOf G p c .list)) ≡ memory (stepW G p c .after .words) (stepW G p c .after .list)
   unfolding performAll
-  writes-carried (formatC levels area) = format-carries levels area _ (format-view levels area)
-  writes-carried (addC q m second rest) = add-carries q m second rest _ (add-view G (lent p second rest) q m)
-  writes-carried (mapC a b size k) = map-carries a b size k _ (map-view a b size k)
-  writes-carried (unmapC a) = unmap-carries a _ (unmap-view a)
+  writes-carried (formatC levels area) = format-carries G p levels area _ (format-view G p levels area)
+  writes-carried (addC q m second rest) = add-carries G p q m second rest _ (add-view G (lent p second rest) q m)
+  writes-carried (mapC a b size k) = map-carries G p a b size k _ (map-view G p a b size k)
+  writes-carried (unmapC a) = unmap-carries G p a _ (unmap-view G p a)
+  writes-carried (mapRangeC a b len k) = map-range-carries a b len k _ (map-range-view G p a b len k)
+  writes-carried (unmapRangeC a len) = unmap-range-carries a len _ (unmap-range-view G p a len)
   writes-carried (askC q) = ap (λ (ws : List Write). performAll G ws (memory (p .words) (p .list))) (no-write (accepts (askW G p q)))
 
 -- ---- the ledger after a call, by its answer
@@ -332,6 +369,27 @@ module _ (G : Granule) (A : Ledger) where
           let B = withLive A M in
           let given = freeTables G B - freeTables G A in
           by A M (eqb (m .at) a) (entered (gave (m .frame) (m .size) (m .attributes) given) B) (entered (refused 10) A) refl refl
+
+  pub map-range-live : (a b len k : ℕ) → By A (gain (pieces G a b len k) (A .live)) (mapRangeL G A a b len k)
+  unfolding mapRangeL gainOf
+  map-range-live a b len k =
+      let no = mapRangeTests G (A .levels) (A .area) a b len k in
+      let M = gain (pieces G a b len k) (A .live) in
+      let need = tablesNeeded G (A .levels) M - tablesNeeded G (A .levels) (A .live) in
+      let taken = entered (took need) (withLive A M) in
+      let rest = cond (ltb (freeTables G A) need) (entered (refused 7) A) taken in
+      by A M (eqb no 0) (cond (anyOverlap a len (A .live)) (entered (refused 6) A) rest) (entered (refused no) A)
+      (by A M (anyOverlap a len (A .live)) (entered (refused 6) A) rest refl (by A M (ltb (freeTables G A) need) (entered (refused 7) A) taken refl refl))
+      refl
+
+  pub unmap-range-live : (a len : ℕ) → By A (dropIn a len (A .live)) (unmapRangeL G A a len)
+  unfolding unmapRangeL clearOf
+  unmap-range-live a len =
+      let no = unmapRangeTests G (A .levels) a len in
+      let M = dropIn a len (A .live) in
+      let gone = entered (cleared (length (A .live) - length M) (freeTables G (withLive A M) - freeTables G A)) (withLive A M) in
+      by A M (eqb no 0) (cond (anyCut a len (A .live)) (entered (refused 10) A) gone) (entered (refused no) A)
+      (by A M (anyCut a len (A .live)) (entered (refused 10) A) gone refl refl) refl
 
   pub format-live : (levels : ℕ) (area : Area) → By A [] (formatL G A levels area)
   unfolding formatL

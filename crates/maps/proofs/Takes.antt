@@ -54,7 +54,7 @@ module _ (list : List ℕ) (n : ℕ) where
     pub take-seen : 0 < c → c < n → among c seen ≡ true → mayTake list n seen f k ≡ false
     take-seen p q r = take-step seen f k h ∙ rw (← e, lt-ltb 0 c p, lt-ltb c n q, r)
 
-    take-more : 0 < c → c < n → among c seen ≡ false → mayTake list n seen f k ≡ mayTake list n (c ∷ seen) (f - 1) (k - 1)
+    pub take-more : 0 < c → c < n → among c seen ≡ false → mayTake list n seen f k ≡ mayTake list n (c ∷ seen) (f - 1) (k - 1)
     take-more p q r = take-step seen f k h ∙ rw (← e, lt-ltb 0 c p, lt-ltb c n q, r)
 
   pub take-end : (seen : List ℕ) (f k : ℕ) → k ≡ 0 → mayTake list n seen f k ≡ true

@@ -117,7 +117,7 @@ fn map_plan(
 }
 
 // A refused map.
-fn map_refused(no: u64, s: Setup) -> Mapped
+pub fn map_refused(no: u64, s: Setup) -> Mapped
     ensures { λ r. ⌜ (saysMap (r .answer) ≡ refused no) × (r .setup ≡ s) ⌝ }
 {
     Mapped {

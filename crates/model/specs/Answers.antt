@@ -1,5 +1,6 @@
 -- Pools, answers, and the paper's number and values for each case of an answer.
 use Prim.Native.Nat.{ℕ}
+use mathlib.Core.Bool.{Bool, true, false}
 use mathlib.Core.List.{List, [], _∷_, _++_}
 use lib.ListN.{length, take}
 use Rattle.path.specs.declared.Setup.{Setup}
@@ -15,6 +16,9 @@ use Rattle.model.specs.declared.MapAnswer.{MapAnswer}
 use Rattle.model.specs.declared.MapAnswer.the-variants as M
 use Rattle.model.specs.declared.UnmapAnswer.{UnmapAnswer}
 use Rattle.model.specs.declared.UnmapAnswer.the-variants as U
+use Rattle.model.specs.declared.RangeUnmapped.{RangeUnmapped}
+use Rattle.model.specs.declared.UnmapRangeAnswer.{UnmapRangeAnswer}
+use Rattle.model.specs.declared.UnmapRangeAnswer.the-variants as R
 use Rattle.model.specs.declared.QueryAnswer.{QueryAnswer}
 use Rattle.model.specs.declared.QueryAnswer.the-variants as Q
 use Rattle.model.specs.declared.AuditAnswer.{AuditAnswer}
@@ -44,13 +48,17 @@ formatted = answered []
 abbrev pub added : Answer
 added = answered []
 
--- map: the tables taken
+-- map, and map a range: the tables taken
 abbrev pub took : ℕ → Answer
 took t = answered (t ∷ [])
 
 -- unmap: the frame removed (base, size, attributes) and the tables given back
 abbrev pub gave : ℕ → ℕ → ℕ → ℕ → Answer
 gave b s k t = answered (b ∷ s ∷ k ∷ t ∷ [])
+
+-- unmap a range: the mappings removed and the tables given back
+abbrev pub cleared : ℕ → ℕ → Answer
+cleared m t = answered (m ∷ t ∷ [])
 
 -- query: the mapping
 abbrev pub found : Mapping → Answer
@@ -73,6 +81,21 @@ refused k = refusal k []
 abbrev pub hole : ℕ → ℕ → Answer
 hole b s = refusal 9 (b ∷ s ∷ [])
 
+-- whether an answer is no refusal
+abbrev pub accepts : Answer → Bool
+accepts (answered values) = true
+accepts (refusal k values) = false
+
+-- the tables that map or unmap, of a mapping or of a range, says it took or gave back: the last of the values that it answers
+abbrev pub lastOf : List ℕ → ℕ
+lastOf [] = 0
+lastOf (x ∷ []) = x
+lastOf (x ∷ y ∷ l) = lastOf (y ∷ l)
+
+abbrev pub tablesIn : Answer → ℕ
+tablesIn (answered values) = lastOf values
+tablesIn (refusal k values) = 0
+
 -- the paper's answer for each case of the code's answers
 abbrev pub saysFormat : FormatAnswer → Answer
 saysFormat F.Done = formatted
@@ -90,6 +113,10 @@ abbrev pub saysUnmap : UnmapAnswer → Answer
 saysUnmap (U.Given b s a t) = gave b s a t
 saysUnmap (U.Hole b s) = hole b s
 saysUnmap (U.Refused k) = refused k
+
+abbrev pub saysUnmapRange : UnmapRangeAnswer → Answer
+saysUnmapRange (R.Removed m t) = cleared m t
+saysUnmapRange (R.Refused k) = refused k
 
 abbrev pub saysQuery : QueryAnswer → Answer
 saysQuery (Q.Found v b s a) = found (mapping v b s a)
@@ -125,7 +152,8 @@ pub record Done : Type 0 where
 abbrev pub done : Answer → Pool → Done
 done a p = record { answer = a; after = p }
 
--- what format, the adding call, map and unmap did, by the record that the code hands back and the lent memory at its end: the two runs, and the list
+-- what format, the adding call, map and unmap, of a mapping or of a range, did, by the record that the code hands back and the lent memory at its end: the
+-- two runs, and the list
 abbrev pub left : Answer → Setup → List ℕ → List ℕ → List ℕ → Done
 left a s first second list = done a (pool s (first ++ second) (length first) list)
 
@@ -140,6 +168,9 @@ mapDid r first second list = left (saysMap (r .answer)) (r .setup) first second 
 
 abbrev pub unmapDid : Unmapped → List ℕ → List ℕ → List ℕ → Done
 unmapDid r first second list = left (saysUnmap (r .answer)) (r .setup) first second list
+
+abbrev pub unmapRangeDid : RangeUnmapped → List ℕ → List ℕ → List ℕ → Done
+unmapRangeDid r first second list = left (saysUnmapRange (r .answer)) (r .setup) first second list
 
 -- a refusal leaves everything as it was
 abbrev pub refuse : ℕ → Pool → Done

@@ -1,9 +1,9 @@
 -- Laws of what a call leaves, of any pool whatever: everything as it was, or the pool after single writes, which keep the setup numbers but the free
 -- count, and the lengths of the lent memory.
 use Prim.Native.Nat.{ℕ, _+_, _-_, _%_, _<_}
-use mathlib.Core.Path.{_≡_, refl, _∙_}
+use mathlib.Core.Path.{_≡_, refl, _∙_, subst}
 use mathlib.Core.Bool.{Bool, true, false, cond}
-use mathlib.Core.List.{List, [], _∷_}
+use mathlib.Core.List.{List, [], _∷_, _++_}
 use native.Mathlib.Omega.{arith}
 use lib.Dec.{ltb, eqb}
 use lib.ListN.{length, length-set}
@@ -11,13 +11,13 @@ use borrow.Author.Tests.{ltb-false}
 use Rattle.laws.specs.ListLaws.{length-zeroed}
 use Rattle.path.specs.Geometry.{Granule, entries, sizeAt, heightOf}
 use Rattle.path.specs.Areas.{Area, areaAt, areaOf, total, GoodArea}
-use Rattle.path.specs.Numbers.{GoodSetup}
+use Rattle.path.specs.Numbers.{withFree, GoodSetup}
 use Rattle.path.specs.Laws.{good-setup, setup-good}
 use Rattle.path.specs.Paths.{pathOf}
 use Rattle.entry.specs.declared.Entry.{Entry}
 use Rattle.entry.specs.declared.Entry.the-variants.{Empty, Table, Frame, Damaged}
 use Rattle.model.specs.declared.Walked.{Walked}
-use Rattle.model.specs.Answers.{Pool, Done, refuse}
+use Rattle.model.specs.Answers.{Pool, pool, Done, refuse}
 use Rattle.model.specs.Walk.{slot}
 use Rattle.model.specs.Writes.{Write, store, wipe, give, Memory, memory, perform, performAll, mayTake, freed}
 use Rattle.model.specs.Calls.{goodPool, written, walkTo, mapTests, mapHere, mapAt, mapW, unmapTests, unmapHere, unmapAt, unmapW}
@@ -45,12 +45,26 @@ module _ (G : Granule) where
   performed-places [] m = refl
   performed-places (w ∷ ws) m = performed-places ws (perform G w m) ∙ perform-places w m
 
+  -- writes one after the other
+  pub perform-append : (xs ys : List Write) (m : Memory) → performAll G (xs ++ ys) m ≡ performAll G ys (performAll G xs m)
+  unfolding performAll
+  perform-append [] ys m = refl
+  perform-append (x ∷ xs) ys m = perform-append xs ys (perform G x m)
+
 -- ---- what map and unmap leave
 
 -- the pool as it was, or after single writes and with a free count that stays below the table count
 pub data Leaves (G : Granule) (p : Pool) : Pool → Type 0 where
   as-it-was : Leaves G p p
   after-writes : (ws : List Write) (f : ℕ) → (p .numbers .free < total (areaOf (p .numbers)) → f < total (areaOf (p .numbers))) → Leaves G p (written G p ws f)
+
+-- and what a call then leaves of that
+pub leaves-on : {G : Granule} {p q r : Pool} → Leaves G p q → Leaves G q r → Leaves G p r
+leaves-on as-it-was M = M
+leaves-on (after-writes ws f room) as-it-was = after-writes ws f room
+leaves-on {G} {p} (after-writes ws f room) (after-writes ys g more) =
+    subst (λ (m : Memory). Leaves G p (pool (withFree (p .numbers) g) (m .words) (p .cut) (m .list))) (perform-append G ws ys (memory (p .words) (p .list)))
+    (after-writes (ws ++ ys) g (λ l. more (room l)))
 
 module _ (G : Granule) (p : Pool) where
   -- a test chooses between two

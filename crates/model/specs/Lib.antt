@@ -24,3 +24,15 @@ pub mod GranuleLaws
 pub mod Refusals
 pub mod RefusalLaws
 pub mod LeftLaws
+pub mod WordLaws
+pub mod Ranges
+pub mod RangeLaws
+pub mod RangeWalks
+pub mod RangeMapped
+pub mod RangeRefusals
+pub mod RangeUnmapped
+pub mod RangeRemoved
+pub mod RangeRefusalLaws
+pub mod RangeSkips
+pub mod RangeLeft
+pub mod RangeCases

@@ -60,7 +60,7 @@ first-some (r ∷ rows) n (inl (x, e)) z = z .0 x
 first-some (r ∷ rows) n (inr (x, f)) z = first-some rows n f (z .1)
 
 -- a call keeps a table: it is refused by the first row that applies, with what goes with the number, or none applies and it is accepted
-data Told (rows : List Row) (more : ℕ → List ℕ) (p : Pool) (Good : Done → Type 0) (d : Done) : Type 0 where
+pub data Told (rows : List Row) (more : ℕ → List ℕ) (p : Pool) (Good : Done → Type 0) (d : Done) : Type 0 where
   refused-by : (n : ℕ) → First rows n → d ≡ done (refusal n (more n)) p → Told rows more p Good d
   accepted-by : None rows → Good d → Told rows more p Good d
 
@@ -71,7 +71,7 @@ same-values : {m n : ℕ} {u v : List ℕ} → refusal m u ≡ refusal n v → v
 same-values e = cc
 
 module _ {rows : List Row} {more : ℕ → List ℕ} {p : Pool} {Good : Done → Type 0} {d : Done} where
-  by-table : Told rows more p Good d → ((n : ℕ) (v : List ℕ) → Good d → d .answer ≡ refusal n v → ⊥) → ByTable rows more p d
+  pub by-table : Told rows more p Good d → ((n : ℕ) (v : List ℕ) → Good d → d .answer ≡ refusal n v → ⊥) → ByTable rows more p d
   by-table (refused-by m f e) other = record {
     gives = λ n. (λ q. subst (First rows) (number n (more n) q) f, λ g. said ∙ ap (λ (k : ℕ). refusal k (more k)) (first-unique rows f g));
     carries = λ n v q. same-values (sym said ∙ q) ∙ ap more (number n v q);
@@ -90,19 +90,19 @@ module _ {rows : List Row} {more : ℕ → List ℕ} {p : Pool} {Good : Done →
   }
 
   -- what is no refusal is answered exactly when no row applies
-  by-none : Told rows more p Good d → (x : Answer) → ((n : ℕ) (v : List ℕ) → x ≢ refusal n v) → (d .answer ≡ x → None rows × Good d)
+  pub by-none : Told rows more p Good d → (x : Answer) → ((n : ℕ) (v : List ℕ) → x ≢ refusal n v) → (d .answer ≡ x → None rows × Good d)
   by-none (refused-by m f e) x other q = absurd (other m (more m) (sym q ∙ ap (λ (c : Done). c .answer) e))
   by-none (accepted-by z g) x other q = (z, g)
 
-  none-by : Told rows more p Good d → None rows → Good d
+  pub none-by : Told rows more p Good d → None rows → Good d
   none-by (refused-by m f e) z = absurd (first-some rows m f z)
   none-by (accepted-by z′ g) z = g
 
 module _ {rows : List Row} {more : ℕ → List ℕ} {p : Pool} {Good : Done → Type 0} where
-  hit : {n : ℕ} {P : Type 0} → P → Told (row n P ∷ rows) more p Good (done (refusal n (more n)) p)
+  pub hit : {n : ℕ} {P : Type 0} → P → Told (row n P ∷ rows) more p Good (done (refusal n (more n)) p)
   hit {n} x = refused-by n (inl (x, refl)) refl
 
-  miss : {n : ℕ} {P : Type 0} {d : Done} → (¬ P) → Told rows more p Good d → Told (row n P ∷ rows) more p Good d
+  pub miss : {n : ℕ} {P : Type 0} {d : Done} → (¬ P) → Told rows more p Good d → Told (row n P ∷ rows) more p Good d
   miss x (refused-by m f e) = refused-by m (inr (x, f)) e
   miss x (accepted-by z g) = accepted-by (x, z) g
 
@@ -207,7 +207,7 @@ neither false y e = (refl, e)
 -- ---- the free list
 
 -- one place further from the end of the list
-further : (list : List ℕ) (free j : ℕ) → taken list (free - 1) j ≡ taken list free (suc j)
+pub further : (list : List ℕ) (free j : ℕ) → taken list (free - 1) j ≡ taken list free (suc j)
 further list free j = ap (λ (i : ℕ). getD list i 0) (omega arith)
 
 module _ (list : List ℕ) (n : ℕ) where

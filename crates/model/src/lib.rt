@@ -32,7 +32,7 @@ pub struct Added {
     pub setup: Setup,
 }
 
-// Map's answer: the tables taken.
+// Map's answer, and that of its form for a range: the tables taken.
 pub enum MapAnswer {
     Taken(u64),
     Refused(u64),
@@ -60,6 +60,17 @@ pub enum UnmapAnswer {
 
 pub struct Unmapped {
     pub answer: UnmapAnswer,
+    pub setup: Setup,
+}
+
+// The answer of unmap's form for a range: the mappings removed, and the tables given back.
+pub enum UnmapRangeAnswer {
+    Removed { mappings: u64, tables: u64 },
+    Refused(u64),
+}
+
+pub struct RangeUnmapped {
+    pub answer: UnmapRangeAnswer,
     pub setup: Setup,
 }
 

@@ -47,12 +47,15 @@ after s l = s .levels ∷ s .base ∷ s .tables ∷ s .free ∷ s .base2 ∷ s .
 abbrev pub setupPlaces : Setup → Answer → List ℕ
 setupPlaces s a = after s (toldOf [] a)
 
--- and of the others
+-- and of the others; a range that is mapped has map's,
 abbrev pub mapPlaces : Setup → Answer → List ℕ
 mapPlaces s a = after s (toldOf (0 ∷ []) a)
 
 abbrev pub unmapPlaces : Setup → Answer → List ℕ
 unmapPlaces s a = after s (holedOf (0 ∷ 0 ∷ 0 ∷ 0 ∷ []) a)
+
+abbrev pub removePlaces : Setup → Answer → List ℕ
+removePlaces s a = after s (toldOf (0 ∷ 0 ∷ []) a)
 
 abbrev pub queryPlaces : Answer → List ℕ
 queryPlaces = holedOf (0 ∷ 0 ∷ 0 ∷ 0 ∷ [])

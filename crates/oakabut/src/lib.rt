@@ -6,6 +6,7 @@ use model::ListAnswer;
 use model::MapAnswer;
 use model::QueryAnswer;
 use model::UnmapAnswer;
+use model::UnmapRangeAnswer;
 use path::Setup;
 ghost use mathlib.Core.Path.{_≡_};
 ghost use mathlib.Core.List.{List, [], _++_};
@@ -14,12 +15,13 @@ ghost use lib.ListN.{length, getD};
 ghost use Rattle.path.specs.Geometry.{granuleOf};
 ghost use Rattle.path.specs.Areas.{areaAt};
 ghost use Rattle.entry.specs.Host.{sizedBy, hostWord, hostMeaning};
-ghost use Rattle.model.specs.Answers.{pool, saysFormat, saysAdd, saysMap, saysUnmap, saysQuery, saysAudit, saysList};
+ghost use Rattle.model.specs.Answers.{pool, saysFormat, saysAdd, saysMap, saysUnmap, saysUnmapRange, saysQuery, saysAudit, saysList};
 ghost use Rattle.model.specs.Calls.{formatN, mapW, unmapW, queryW};
+ghost use Rattle.model.specs.Ranges.{mapRangeW, unmapRangeW};
 ghost use Rattle.model.specs.Adds.{addW};
 ghost use Rattle.model.specs.Audit.{auditW};
 ghost use Rattle.model.specs.Listing.{listW, leaves};
-ghost use Rattle.oakabut.specs.Surface.{setupAt, granuleAt, poolAt, after, setupPlaces, mapPlaces, unmapPlaces, queryPlaces, auditPlaces, listPlaces, Told, Left, Wrote};
+ghost use Rattle.oakabut.specs.Surface.{setupAt, granuleAt, poolAt, after, setupPlaces, mapPlaces, unmapPlaces, removePlaces, queryPlaces, auditPlaces, listPlaces, Told, Left, Wrote};
 
 // The entry word of a frame, or a refusal: 2, 3, 4 or 5.
 #[no_mangle]
@@ -164,6 +166,30 @@ fn unmapped(a: UnmapAnswer, s: Setup, answer: &mut [u64; 13]) -> u64
             9
         }
         UnmapAnswer::Refused(k) => k,
+    }
+}
+
+fn removed(a: UnmapRangeAnswer, s: Setup, answer: &mut [u64; 9]) -> u64
+    ensures { λ r. ⌜ Told (saysUnmapRange a) (removePlaces s) r (now (answer .exit)) ⌝ }
+{
+    *answer = [
+        s.levels,
+        s.base,
+        s.tables,
+        s.free,
+        s.base2,
+        s.tables2,
+        s.granule,
+        0,
+        0,
+    ];
+    match a {
+        UnmapRangeAnswer::Removed { mappings, tables } => {
+            answer[7] = mappings;
+            answer[8] = tables;
+            0
+        }
+        UnmapRangeAnswer::Refused(k) => k,
     }
 }
 
@@ -372,6 +398,47 @@ pub extern "C" fn oak_unmap(
         return unmap_by(setup_of_four(s), words, second, list, address, answer);
     }
     unmap_by(setup_at(s), words, second, list, address, answer)
+}
+
+// Maps a range to the frames from a base on, piece by piece or not at all, and answers the setup and how many tables it took.
+#[no_mangle]
+pub extern "C" fn oak_map_range(
+    s: &[u64; 7],
+    words: &mut [u64],
+    second: &mut [u64],
+    list: &[u32],
+    address: u64,
+    frame: u64,
+    len: u64,
+    attributes: u64,
+    answer: &mut [u64; 8],
+) -> u64
+    ensures { λ r. ⌜ Left (mapRangeW (granuleAt (now (s .entry))) (poolAt (now (s .entry)) (now (words .entry) ++ now (second .entry)) (length (now (words .entry))) (now (list .entry))) address frame len attributes)
+        mapPlaces r (now (answer .exit)) (now (words .exit)) (now (second .exit)) (now (list .entry)) ⌝ }
+{
+    let p = setup_at(s);
+    let d = pagetable::map_range(p, words, second, list, address, frame, len, attributes);
+    let a = d.answer;
+    mapped(a, d.setup, answer)
+}
+
+// Removes every mapping that lies wholly in a range, and answers the setup, how many went and how many tables came back.
+#[no_mangle]
+pub extern "C" fn oak_unmap_range(
+    s: &[u64; 7],
+    words: &mut [u64],
+    second: &mut [u64],
+    list: &mut [u32],
+    address: u64,
+    len: u64,
+    answer: &mut [u64; 9],
+) -> u64
+    ensures { λ r. ⌜ Left (unmapRangeW (granuleAt (now (s .entry))) (poolAt (now (s .entry)) (now (words .entry) ++ now (second .entry)) (length (now (words .entry))) (now (list .entry))) address len)
+        removePlaces r (now (answer .exit)) (now (words .exit)) (now (second .exit)) (now (list .exit)) ⌝ }
+{
+    let d = pagetable::unmap_range(setup_at(s), words, second, list, address, len);
+    let a = d.answer;
+    removed(a, d.setup, answer)
 }
 
 // Query by setup numbers.

@@ -1,11 +1,12 @@
-// The page table: format, add, query, list, map, unmap and audit of one pool of tables in lent memory, of one region or two. Each contract says the whole answer and
-// all lent memory after the call, for every input (`whole`), and what both are by any ledger that the pool holds (`ledger`).
+// The page table: format, add, query, list, map and unmap of a mapping or of a range, and audit of one pool of tables in lent memory, of one region or two. Each contract
+// says the whole answer and all lent memory after the call, for every input (`whole`), and what both are by any ledger that the pool holds (`ledger`).
 use model::Added;
 use model::AuditAnswer;
 use model::Formatted;
 use model::ListAnswer;
 use model::Mapped;
 use model::QueryAnswer;
+use model::RangeUnmapped;
 use model::Unmapped;
 use path::Setup;
 ghost use mathlib.Core.Path.{_≡_};
@@ -13,12 +14,13 @@ ghost use mathlib.Core.List.{_++_};
 ghost use lib.ListN.{length};
 ghost use Rattle.path.specs.Geometry.{granuleOf};
 ghost use Rattle.path.specs.Areas.{areaAt};
-ghost use Rattle.model.specs.Answers.{pool, formatDid, addDid, mapDid, unmapDid, saysQuery, saysAudit, saysList, listDid};
+ghost use Rattle.model.specs.Answers.{pool, formatDid, addDid, mapDid, unmapDid, unmapRangeDid, saysQuery, saysAudit, saysList, listDid};
 ghost use Rattle.model.specs.Calls.{formatN, mapW, unmapW, queryW};
+ghost use Rattle.model.specs.Ranges.{mapRangeW, unmapRangeW};
 ghost use Rattle.model.specs.Adds.{addW};
 ghost use Rattle.model.specs.Audit.{auditW};
 ghost use Rattle.model.specs.Listing.{listW, leaves};
-ghost use Rattle.demand.specs.Demand3.{mapC, unmapC};
+ghost use Rattle.demand.specs.Demand3.{mapC, unmapC, mapRangeC, unmapRangeC};
 ghost use Rattle.demand.specs.Demand3 as question;
 ghost use Rattle.demand.specs.Clauses.{ByLedger, FormatByLedger, AddByLedger, AskedByLedger};
 
@@ -104,6 +106,44 @@ pub fn unmap(
         (unmapDid r (now (words .exit)) (now (second .exit)) (now (list .exit))) ⌝ }
 {
     unmaps::unmap(s, words, second, list, address)
+}
+
+// Maps a range of `len` bytes to the frames from `frame` on, each piece as large as it can be, and answers how many tables it took: the pieces one by one, or none of
+// them. Refused, it changes nothing and hands the setup back.
+pub fn map_range(
+    s: Setup,
+    words: &mut [u64],
+    second: &mut [u64],
+    list: &[u32],
+    address: u64,
+    frame: u64,
+    len: u64,
+    attributes: u64,
+) -> Mapped
+    ensures whole { λ r. ⌜ mapDid r (now (words .exit)) (now (second .exit)) (now (list .entry))
+        ≡ mapRangeW (granuleOf (s .granule)) (pool s (now (words .entry) ++ now (second .entry)) (length (now (words .entry))) (now (list .entry))) address frame len attributes ⌝ }
+    ensures ledger { λ r. ⌜ ByLedger (granuleOf (s .granule)) (pool s (now (words .entry) ++ now (second .entry)) (length (now (words .entry))) (now (list .entry))) (mapRangeC address frame len attributes)
+        (mapDid r (now (words .exit)) (now (second .exit)) (now (list .entry))) ⌝ }
+{
+    rangemaps::map_range(s, words, second, list, address, frame, len, attributes)
+}
+
+// Removes every mapping that lies wholly in a range of `len` bytes, and answers how many went and how many tables came back. Refused, it changes nothing and hands the
+// setup back.
+pub fn unmap_range(
+    s: Setup,
+    words: &mut [u64],
+    second: &mut [u64],
+    list: &mut [u32],
+    address: u64,
+    len: u64,
+) -> RangeUnmapped
+    ensures whole { λ r. ⌜ unmapRangeDid r (now (words .exit)) (now (second .exit)) (now (list .exit))
+        ≡ unmapRangeW (granuleOf (s .granule)) (pool s (now (words .entry) ++ now (second .entry)) (length (now (words .entry))) (now (list .entry))) address len ⌝ }
+    ensures ledger { λ r. ⌜ ByLedger (granuleOf (s .granule)) (pool s (now (words .entry) ++ now (second .entry)) (length (now (words .entry))) (now (list .entry))) (unmapRangeC address len)
+        (unmapRangeDid r (now (words .exit)) (now (second .exit)) (now (list .exit))) ⌝ }
+{
+    rangeunmaps::unmap_range(s, words, second, list, address, len)
 }
 
 // Answers the mapping that holds an address, or 9 and the hole around it.

@@ -69,6 +69,17 @@ enum Work {
     Format,
     /// From a start on, into runs of so many places.
     List(u64, usize),
+    /// A range is mapped and unmapped, each in one call or page by page.
+    Range(Range),
+}
+
+#[derive(Clone, Copy)]
+struct Range {
+    length: u64,
+    /// How much the frames are off.
+    off: u64,
+    /// Whether it is mapped in one call, and unmapped in one.
+    at_once: [bool; 2],
 }
 
 impl Case {
@@ -94,7 +105,7 @@ impl Case {
         self.rounds
             * match &self.work {
                 Work::Query(addresses) | Work::MapUnmap(addresses) => addresses.len(),
-                Work::Audit | Work::Format | Work::List(..) => 1,
+                Work::Audit | Work::Format | Work::List(..) | Work::Range(_) => 1,
             }
     }
 
@@ -114,6 +125,31 @@ impl Case {
                 Work::Audit => pool.audit(note),
                 Work::Format => pool.format(levels, granule, self.tables, self.second_tables, note),
                 Work::List(start, _) => pool.list(*start, note),
+                Work::Range(range) => self.run_range(*range, pool, note),
+            }
+        }
+    }
+}
+
+impl Case {
+    /// Maps a range and unmaps it.
+    #[inline(always)]
+    fn run_range(&self, range: Range, pool: &mut Pool, note: &mut impl Note) {
+        let Range { length, off, at_once } = range;
+        let (address, page) = (self.tree.region(3), self.tree.page());
+        let frame = FRAME + address + off;
+        if at_once[0] {
+            pool.map_range(address, frame, length, ATTRIBUTES, note);
+        } else {
+            for done in (0..length).step_by(page as usize) {
+                pool.map(address + done, frame + done, page, ATTRIBUTES, note);
+            }
+        }
+        if at_once[1] {
+            pool.unmap_range(address, length, note);
+        } else {
+            for done in (0..length).step_by(page as usize) {
+                pool.unmap(address + done, note);
             }
         }
     }
@@ -163,6 +199,16 @@ pub fn all(smoke: bool) -> Vec<Case> {
         list("16 from the middle", 512, 130_560, 16, share(16)),
         list("16 from the middle", 16, 3584, 16, share(400)),
         list("all", 16, 0, 7168, share(100)),
+    ]);
+    let forty = 40 << 20;
+    cases.extend([
+        range("40 MiB in 20 pieces", THREE, forty, 0, [true, true], share(400)),
+        range("40 MiB in 10,240 pieces", THREE, forty, 4096, [true, true], share(40)),
+        range("40 MiB in 10,240 pieces", THREE, forty, 4096, [false, true], share(4)),
+        range("40 MiB in 10,240 pieces", THREE, forty, 4096, [true, false], share(4)),
+        range("40 MiB in 20 pieces", FOUR, forty, 0, [true, true], share(400)),
+        range("640 MiB in 20 pieces", LARGE, 640 << 20, 0, [true, true], share(400)),
+        range("160 MiB in 10,240 pieces", LARGE, 160 << 20, 16384, [true, true], share(40)),
     ]);
     cases.extend([format(16, share(2000)), format(64, share(500)), format(512, share(80))]);
     cases.push(Case::new("format, 16 tables of 16 KiB".to_string(), LARGE, 16, vec![], Work::Format, share(500)));
@@ -284,6 +330,17 @@ fn list(which: &str, tables: u64, first: u64, room: usize, rounds: usize) -> Cas
     let pages = (tables - 2) * THREE.entries();
     let name = format!("list, {which} of {pages} pages in {tables} tables");
     Case { name, work, ..audit_of("", THREE, tables, 1, rounds) }
+}
+
+/// A range that is mapped in an empty pool and unmapped, each in one call or, with the pages as pieces, one by one.
+fn range(what: &str, tree: Tree, length: u64, off: u64, at_once: [bool; 2], rounds: usize) -> Case {
+    let how = match at_once {
+        [true, true] => "map + unmap as a range",
+        [false, _] => "single maps, unmap as a range",
+        [_, false] => "map as a range, single unmaps",
+    };
+    let work = Work::Range(Range { length, off, at_once });
+    Case::new(format!("{how}, {what}, {}", tree.name()), tree, 32, vec![], work, rounds)
 }
 
 /// Four of 64 tables are in use, and 60 are free.

@@ -3,7 +3,7 @@
 
 use std::slice::{from_raw_parts, from_raw_parts_mut};
 
-use oakabut::raw::{Found, Listed, Mapped, Unmapped};
+use oakabut::raw::{Found, Listed, Mapped, Removed, Unmapped};
 use oakabut::{Audit, Hole, Mapping, Setup};
 use plain::Refusal;
 
@@ -94,6 +94,35 @@ pub unsafe extern "C" fn unmap(
         hole: NO_HOLE,
     });
     hand_over(removed, |hole| Unmapped { setup, frame: 0, size: 0, attributes: 0, given: 0, hole }, answer)
+}
+
+/// # Safety
+/// As for `oak_map_range`.
+#[inline(never)]
+pub unsafe extern "C" fn map_range(
+    setup: *const Setup, words: *mut u64, words_len: usize, second: *mut u64, second_len: usize, list: *const u32,
+    list_len: usize, address: u64, frame: u64, length: u64, attributes: u64, answer: *mut Mapped,
+) -> u64 {
+    let (words, second) = (from_raw_parts_mut(words, words_len), from_raw_parts_mut(second, second_len));
+    let list = from_raw_parts(list, list_len);
+    let (setup, result) = plain::map_range(to_plain(&*setup), words, second, list, address, frame, length, attributes);
+    let setup = from_plain(setup);
+    hand_over(result.map(|taken| Mapped { setup, taken }), |_| Mapped { setup, taken: 0 }, answer)
+}
+
+/// # Safety
+/// As for `oak_unmap_range`.
+#[inline(never)]
+pub unsafe extern "C" fn unmap_range(
+    setup: *const Setup, words: *mut u64, words_len: usize, second: *mut u64, second_len: usize, list: *mut u32, list_len: usize,
+    address: u64, length: u64, answer: *mut Removed,
+) -> u64 {
+    let (words, second) = (from_raw_parts_mut(words, words_len), from_raw_parts_mut(second, second_len));
+    let list = from_raw_parts_mut(list, list_len);
+    let (setup, result) = plain::unmap_range(to_plain(&*setup), words, second, list, address, length);
+    let setup = from_plain(setup);
+    let removed = result.map(|plain::Cleared { removed, given }| Removed { setup, removed, given });
+    hand_over(removed, |_| Removed { setup, removed: 0, given: 0 }, answer)
 }
 
 /// # Safety

@@ -5,7 +5,7 @@ use std::slice::from_raw_parts_mut;
 
 use oakabut::Setup;
 
-use crate::sides::{numbers, Side, NOT_AUDITED, NOT_FOUND, NOT_LISTED, NOT_MAPPED, NOT_UNMAPPED, NO_SETUP};
+use crate::sides::{numbers, Side, NOT_AUDITED, NOT_FOUND, NOT_LISTED, NOT_MAPPED, NOT_REMOVED, NOT_UNMAPPED, NO_SETUP};
 
 /// The address of table 0, and of the second region.
 const BASE: u64 = 0x4000_0000;
@@ -113,6 +113,28 @@ impl Pool {
         let (wp, wl, vp, vl, lp, ll) = (w.as_mut_ptr(), w.len(), v.as_mut_ptr(), v.len(), l.as_mut_ptr(), l.len());
         let mut answer = NOT_UNMAPPED;
         let refusal = unsafe { (self.side.unmap)(&self.setup, wp, wl, vp, vl, lp, ll, address, &mut answer) };
+        self.setup = answer.setup;
+        note.note(refusal, numbers(&answer));
+    }
+
+    #[inline(always)]
+    pub fn map_range(&mut self, address: u64, frame: u64, length: u64, attributes: u64, note: &mut impl Note) {
+        let (w, v, l) = (self.tables.all(), self.second.all(), &self.list);
+        let (wp, wl, vp, vl, lp, ll) = (w.as_mut_ptr(), w.len(), v.as_mut_ptr(), v.len(), l.as_ptr(), l.len());
+        let mut answer = NOT_MAPPED;
+        let refusal = unsafe {
+            (self.side.map_range)(&self.setup, wp, wl, vp, vl, lp, ll, address, frame, length, attributes, &mut answer)
+        };
+        self.setup = answer.setup;
+        note.note(refusal, numbers(&answer));
+    }
+
+    #[inline(always)]
+    pub fn unmap_range(&mut self, address: u64, length: u64, note: &mut impl Note) {
+        let (w, v, l) = (self.tables.all(), self.second.all(), &mut self.list);
+        let (wp, wl, vp, vl, lp, ll) = (w.as_mut_ptr(), w.len(), v.as_mut_ptr(), v.len(), l.as_mut_ptr(), l.len());
+        let mut answer = NOT_REMOVED;
+        let refusal = unsafe { (self.side.unmap_range)(&self.setup, wp, wl, vp, vl, lp, ll, address, length, &mut answer) };
         self.setup = answer.setup;
         note.note(refusal, numbers(&answer));
     }

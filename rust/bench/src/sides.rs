@@ -4,7 +4,7 @@ use std::mem::size_of;
 use std::slice::from_raw_parts;
 
 use judge::{numbers as of_setup, Answer, Call, Engine, Lent};
-use oakabut::raw::{self, Found, Listed, Mapped, Unmapped};
+use oakabut::raw::{self, Found, Listed, Mapped, Removed, Unmapped};
 use oakabut::{Audit, Hole, Mapping, Setup};
 
 type FrameWord = unsafe extern "C" fn(u64, u64, u64) -> u64;
@@ -26,6 +26,8 @@ type Map = unsafe extern "C" fn(
     *mut Mapped,
 ) -> u64;
 type Unmap = unsafe extern "C" fn(*const Setup, *mut u64, usize, *mut u64, usize, *mut u32, usize, u64, *mut Unmapped) -> u64;
+type UnmapRange =
+    unsafe extern "C" fn(*const Setup, *mut u64, usize, *mut u64, usize, *mut u32, usize, u64, u64, *mut Removed) -> u64;
 type Query = unsafe extern "C" fn(*const Setup, *const u64, usize, *const u64, usize, *const u32, usize, u64, *mut Found) -> u64;
 type AuditCall = unsafe extern "C" fn(*const Setup, *const u64, usize, *const u64, usize, *const u32, usize, *mut Audit) -> u64;
 type Add = unsafe extern "C" fn(*const Setup, *const u64, usize, *mut u64, usize, *mut u32, usize, u64, u64, *mut Setup) -> u64;
@@ -55,6 +57,8 @@ pub struct Side {
     pub format: Format,
     pub map: Map,
     pub unmap: Unmap,
+    pub map_range: Map,
+    pub unmap_range: UnmapRange,
     pub query: Query,
     pub audit: AuditCall,
     pub add: Add,
@@ -79,6 +83,14 @@ mod c {
         pub fn plain_unmap(
             s: *const Setup, words: *mut u64, words_len: usize, second: *mut u64, second_len: usize, list: *mut u32,
             list_len: usize, address: u64, answer: *mut Unmapped,
+        ) -> u64;
+        pub fn plain_map_range(
+            s: *const Setup, words: *mut u64, words_len: usize, second: *mut u64, second_len: usize, list: *const u32,
+            list_len: usize, address: u64, frame: u64, length: u64, attributes: u64, answer: *mut Mapped,
+        ) -> u64;
+        pub fn plain_unmap_range(
+            s: *const Setup, words: *mut u64, words_len: usize, second: *mut u64, second_len: usize, list: *mut u32,
+            list_len: usize, address: u64, length: u64, answer: *mut Removed,
         ) -> u64;
         pub fn plain_query(
             s: *const Setup, words: *const u64, words_len: usize, second: *const u64, second_len: usize, list: *const u32,
@@ -109,6 +121,8 @@ pub const SIDES: [Side; 3] = [
         format: raw::oak_format,
         map: raw::oak_map,
         unmap: raw::oak_unmap,
+        map_range: raw::oak_map_range,
+        unmap_range: raw::oak_unmap_range,
         query: raw::oak_query,
         audit: raw::oak_audit,
         add: raw::oak_add,
@@ -121,6 +135,8 @@ pub const SIDES: [Side; 3] = [
         format: bench::format,
         map: bench::map,
         unmap: bench::unmap,
+        map_range: bench::map_range,
+        unmap_range: bench::unmap_range,
         query: bench::query,
         audit: bench::audit,
         add: bench::add,
@@ -133,6 +149,8 @@ pub const SIDES: [Side; 3] = [
         format: c::plain_format,
         map: c::plain_map,
         unmap: c::plain_unmap,
+        map_range: c::plain_map_range,
+        unmap_range: c::plain_unmap_range,
         query: c::plain_query,
         audit: c::plain_audit,
         add: c::plain_add,
@@ -144,6 +162,7 @@ pub const NO_SETUP: Setup = Setup { levels: 0, base: 0, tables: 0, free: 0, seco
 pub const NOT_MAPPED: Mapped = Mapped { setup: NO_SETUP, taken: 0 };
 pub const NO_HOLE: Hole = Hole { base: 0, size: 0 };
 pub const NOT_UNMAPPED: Unmapped = Unmapped { setup: NO_SETUP, frame: 0, size: 0, attributes: 0, given: 0, hole: NO_HOLE };
+pub const NOT_REMOVED: Removed = Removed { setup: NO_SETUP, removed: 0, given: 0 };
 pub const NOT_FOUND: Found = Found { mapping: Mapping { base: 0, frame: 0, size: 0, attributes: 0 }, hole: NO_HOLE };
 pub const NOT_AUDITED: Audit = Audit { tables: 0, mappings: 0 };
 pub const NOT_LISTED: Listed = Listed { written: 0, more: 0, next: 0 };
@@ -196,6 +215,15 @@ impl Engine for Side {
                 Call::Add { base, tables, .. } => {
                     let mut a = junk;
                     Answer::new((self.add)(&s, w, wl, v, vl, l, ll, base, tables, &mut a), numbers(&a))
+                }
+                Call::MapRange { address, frame, length, attributes, .. } => {
+                    let mut a = Mapped { setup: junk, taken: 8 };
+                    let refusal = (self.map_range)(&s, w, wl, v, vl, l, ll, address, frame, length, attributes, &mut a);
+                    Answer::new(refusal, numbers(&a))
+                }
+                Call::UnmapRange { address, length, .. } => {
+                    let mut a = Removed { setup: junk, removed: 8, given: 9 };
+                    Answer::new((self.unmap_range)(&s, w, wl, v, vl, l, ll, address, length, &mut a), numbers(&a))
                 }
                 Call::List { .. } => unreachable!("it is lent two runs more"),
             }

@@ -46,6 +46,19 @@ pub enum Call {
         base: u64,
         tables: u64,
     },
+    /// So many bytes of frames from a base on.
+    MapRange {
+        setup: Setup,
+        address: u64,
+        frame: u64,
+        length: u64,
+        attributes: u64,
+    },
+    UnmapRange {
+        setup: Setup,
+        address: u64,
+        length: u64,
+    },
     /// From a start on, into two runs of so many places.
     List {
         setup: Setup,
@@ -56,8 +69,8 @@ pub enum Call {
 }
 
 impl Call {
-    pub const NAMES: [&'static str; 9] =
-        ["frame_word", "word_meaning", "format", "map", "unmap", "query", "audit", "add", "list"];
+    pub const NAMES: [&'static str; 11] =
+        ["frame_word", "word_meaning", "format", "map", "unmap", "query", "audit", "add", "list", "map_range", "unmap_range"];
 
     /// The place of the call among the names.
     pub fn kind(&self) -> usize {
@@ -71,6 +84,8 @@ impl Call {
             Call::Audit { .. } => 6,
             Call::Add { .. } => 7,
             Call::List { .. } => 8,
+            Call::MapRange { .. } => 9,
+            Call::UnmapRange { .. } => 10,
         }
     }
 
@@ -82,6 +97,8 @@ impl Call {
             | Call::Query { setup, .. }
             | Call::Audit { setup }
             | Call::Add { setup, .. }
+            | Call::MapRange { setup, .. }
+            | Call::UnmapRange { setup, .. }
             | Call::List { setup, .. } => Some(setup),
             _ => None,
         }
@@ -95,6 +112,8 @@ impl Call {
             | Call::Query { setup, .. }
             | Call::Audit { setup }
             | Call::Add { setup, .. }
+            | Call::MapRange { setup, .. }
+            | Call::UnmapRange { setup, .. }
             | Call::List { setup, .. } => *setup = other,
             Call::Format { .. } | Call::FrameWord { .. } | Call::WordMeaning { .. } => {}
         }
@@ -103,13 +122,19 @@ impl Call {
 
     /// Whether it changes a pool and hands its setup back.
     pub fn hands_back(&self) -> bool {
-        matches!(self, Call::Format { .. } | Call::Map { .. } | Call::Unmap { .. } | Call::Add { .. })
+        self.changes_mappings() || matches!(self, Call::Format { .. } | Call::Add { .. })
+    }
+
+    /// Whether it maps or unmaps.
+    pub fn changes_mappings(&self) -> bool {
+        matches!(self, Call::Map { .. } | Call::Unmap { .. } | Call::MapRange { .. } | Call::UnmapRange { .. })
     }
 }
 
 /// An answer: the number of the refusal or 0, and the answer's numbers in the order of the C header, the rest zero.
 ///
-/// They are, for the host's calls, the number answered; for format and add the setup; for map the setup and the tables taken; for unmap
+/// They are, for the host's calls, the number answered; for format and add the setup; for map and for a range the setup and the tables taken; for a range that is unmapped the setup,
+/// how many were removed and the tables given back; for unmap
 /// the setup, frame, size, attributes and tables given back, then base and size of the hole; for query base, frame, size and
 /// attributes, then base and size of the hole; for audit the tables and the mappings; for list how many were written, whether one was left out, and the base of
 /// the first such.
@@ -204,6 +229,14 @@ impl Engine for Plain {
             Call::Add { setup, base, tables } => {
                 let (setup, result) = plain::add(setup, words, second, list, base, tables);
                 with_setup(setup, result.map(|()| []))
+            }
+            Call::MapRange { setup, address, frame, length, attributes } => {
+                let (setup, result) = plain::map_range(setup, words, second, list, address, frame, length, attributes);
+                with_setup(setup, result.map(|taken| [taken]))
+            }
+            Call::UnmapRange { setup, address, length } => {
+                let (setup, result) = plain::unmap_range(setup, words, second, list, address, length);
+                with_setup(setup, result.map(|c| [c.removed, c.given]))
             }
             Call::List { .. } => unreachable!("it is lent two runs more"),
         }

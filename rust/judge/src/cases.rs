@@ -23,6 +23,9 @@ pub fn cases() -> Vec<Step> {
         (sixteen, 3, 4, &in_large[..]),
         (sixteen, 3, 2, &in_large[..1]),
         (sixteen, 3, 4, &story(&in_large)[..]),
+        (four, 3, 24, &ranges(four)[..]),
+        (four, 4, 5, &ranges(four)[..]),
+        (sixteen, 3, 4, &ranges(sixteen)[..]),
     ] {
         add_history(&mut steps, granule, levels, tables, calls);
     }
@@ -99,6 +102,43 @@ fn story(calls: &[Call]) -> Vec<Call> {
     let (far, near) = (Shape::of(size).region(3), 2 * Shape::of(size).region(2));
     let seven = map(far, 0x8000_0000, size, 3);
     [&calls[..3], &[seven, add, seven, add, unmap(0), unmap(page), map(near, 0x8000_0000, size, 3)]].concat()
+}
+
+fn map_range(address: u64, frame: u64, length: u64, attributes: u64) -> Call {
+    Call::MapRange { setup: Setup::default(), address, frame, length, attributes }
+}
+
+fn unmap_range(address: u64, length: u64) -> Call {
+    Call::UnmapRange { setup: Setup::default(), address, length }
+}
+
+/// Ranges: twenty blocks, which are 40 MiB of the smaller granule, with both bases aligned to them and off by a page; ranges that meet mappings, cut them and
+/// end where the space does.
+fn ranges(granule: u64) -> Vec<Call> {
+    let shape = Shape::of(granule);
+    let [page, block, large] = [1, 2, 3].map(|left| shape.region(left));
+    let (length, frame, at) = (20 * block, 0x8000_0000, large.max(1 << 32));
+    vec![
+        map_range(at, frame, length, 3),
+        map_range(at + 19 * block, frame, page, 3),
+        unmap_range(at + block, page),
+        unmap_range(at + 19 * block - page, 2 * block),
+        unmap_range(at + 19 * block, 2 * block),
+        unmap_range(at - block, length + block),
+        map_range(at, frame + page, length, 3),
+        map_range(at, frame + page, 2 * page, 5),
+        map_range(at - page, frame + 7 * page, 2 * page, 5),
+        map_range(block - page, frame - page, block + 2 * page, 7),
+        unmap_range(block, block),
+        unmap_range(0, 1 << 32),
+        unmap_range(0, (1 << 32) + page),
+        map_range(shape.space(3) - 2 * page, frame, 2 * page, 3),
+        map_range(shape.space(3) - page, frame, 2 * page, 3),
+        map_range(0, 0x4000_0000 - 2 * page, 3 * page, 3),
+        map_range(0, frame, 0, 3),
+        unmap_range(page / 2, page),
+        unmap_range(at, 1 << 32),
+    ]
 }
 
 /// Adds the steps of a history from a fresh format of one region, with an audit after each call.

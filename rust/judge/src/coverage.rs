@@ -9,7 +9,7 @@ use crate::damage::link;
 use crate::{Answer, Call, Damage, Lent, Memory, Shape, Step, SETUP};
 
 /// The refusals that each call can give, in the order of [`Call::NAMES`].
-const POSSIBLE: [&[usize]; 9] = [
+const POSSIBLE: [&[usize]; 11] = [
     &[2, 3, 4, 5],
     &[2, 8],
     &[1],
@@ -19,10 +19,12 @@ const POSSIBLE: [&[usize]; 9] = [
     &[1, 8],
     &[1, 8, 11],
     &[1, 4, 8],
+    &[1, 2, 3, 4, 5, 6, 7, 8, 11],
+    &[1, 2, 4, 5, 8, 10],
 ];
 
-/// The reasons for refusal 8 of map, unmap and query, and for 1 and 8 of add. Each must be met with both granules.
-const CAUSES: [&str; 18] = [
+/// The reasons for refusal 8 of map, unmap, query and the two ranges, and for 1 and 8 of add. Each must be met with both granules.
+const CAUSES: [&str; 26] = [
     "map: a damaged word",
     "map: a table twice",
     "map: a taken table out of range",
@@ -41,6 +43,38 @@ const CAUSES: [&str; 18] = [
     "add: the regions overlap",
     "add: a length",
     "add: a damaged word or a table twice",
+    "map_range: a walk",
+    "map_range: one table for two regions",
+    "map_range: a taken table out of range",
+    "map_range: a table taken twice",
+    "map_range: a taken table on a path",
+    "unmap_range: a walk",
+    "unmap_range: one table for two regions",
+    "unmap_range: too many given back",
+];
+
+/// What ranges must have met, with both granules.
+const RANGES: [&str; 20] = [
+    "pieces of one size",
+    "pieces of two sizes",
+    "pieces in two tables",
+    "a size that the frame decides",
+    "a size that the length decides",
+    "512 pieces and more",
+    "a piece that takes no table after one that takes some",
+    "several pieces, no table taken",
+    "up to the end of the space",
+    "8 beside a piece that finds 6",
+    "6 beside missing tables",
+    "7, though each piece alone has enough",
+    "nothing to remove",
+    "two removed, and a hole",
+    "two removed of a longer range, and a table given back",
+    "all tables of a way given back",
+    "some removed, no table given back",
+    "10 and a mapping inside",
+    "8 beside a mapping that is cut",
+    "4 GiB unmapped",
 ];
 
 /// What lists must have met, with both granules.
@@ -70,6 +104,153 @@ const GRANULE: [&str; 7] = [
     "a pool read with the other granule",
 ];
 
+/// What ranges meet.
+mod ranges {
+    use std::collections::{BTreeMap, BTreeSet};
+
+    use plain::{End, Setup, Walk};
+
+    use crate::{pieces, Answer, Call, Lent, Shape, SETUP};
+
+    /// More walks than these are not looked at.
+    const MOST: u64 = 2100;
+
+    /// The walks of a range, each with its address: of its pieces, or of its pages, where those of one entry have one walk.
+    fn walks(call: &Call, pool: Lent<'_>) -> Option<Vec<(u64, Walk)>> {
+        let walk = |setup: Setup, address, size| plain::walk(setup, pool.words, pool.second, pool.list, address, size).ok();
+        let mut walks = Vec::new();
+        match *call {
+            Call::MapRange { setup, address, frame, length, .. } => {
+                for (at, _, size) in pieces(Shape::of(setup.granule), address, frame, length).take(MOST as usize) {
+                    walks.push((at, walk(setup, at, size)?));
+                }
+            }
+            Call::UnmapRange { setup, address, length } => {
+                let shape = Shape::of(setup.granule);
+                let mut at = address;
+                while at < address + length {
+                    let walk = walk(setup, at, shape.page())?;
+                    let size = shape.region(if walk.end == End::Again { walk.left + 1 } else { walk.left });
+                    walks.push((at, walk));
+                    at = (at / size + 1) * size;
+                }
+            }
+            _ => return None,
+        }
+        Some(walks)
+    }
+
+    /// Why a range gave 8.
+    pub fn cause(call: &Call, pool: Lent<'_>) -> Option<&'static str> {
+        let setup = call.setup()?;
+        let is_map = matches!(call, Call::MapRange { .. });
+        let walks = walks(call, pool)?;
+        let say = |map, unmap| Some(if is_map { map } else { unmap });
+        if walks.iter().any(|(_, walk)| matches!(walk.end, End::Damaged | End::Again)) {
+            return say("map_range: a walk", "unmap_range: a walk");
+        }
+        let mut stands = BTreeMap::new();
+        for (at, walk) in &walks {
+            for (depth, &table) in walk.tables().iter().enumerate() {
+                let region = (depth, at / Shape::of(setup.granule).region(setup.levels - depth as u64 + 1));
+                if *stands.entry(table).or_insert(region) != region {
+                    return say("map_range: one table for two regions", "unmap_range: one table for two regions");
+                }
+            }
+        }
+        if !is_map {
+            return Some("unmap_range: too many given back");
+        }
+        let mut taken = BTreeSet::new();
+        for &number in pool.list[..setup.free as usize].iter().rev() {
+            if number == 0 || u64::from(number) >= setup.total() {
+                return Some("map_range: a taken table out of range");
+            } else if stands.contains_key(&(number as usize)) {
+                return Some("map_range: a taken table on a path");
+            } else if !taken.insert(number) {
+                return Some("map_range: a table taken twice");
+            }
+        }
+        None
+    }
+
+    /// What of [`super::RANGES`] a range has met. The memory is that after it.
+    pub fn met(call: &Call, answer: &Answer, pool: Lent<'_>) -> Vec<&'static str> {
+        let met = match *call {
+            Call::MapRange { setup, address, frame, length, .. } if answer.refusal == 0 => {
+                let shape = Shape::of(setup.granule);
+                let taken = answer.numbers[SETUP];
+                let parts: Vec<_> = pieces(shape, address, frame, length).take(MOST as usize).collect();
+                let sizes: BTreeSet<u64> = parts.iter().map(|&(_, _, size)| size).collect();
+                let tables = |size: u64| {
+                    parts.iter().filter(|p| p.2 == size).map(|p| p.0 / (size * shape.entries())).collect::<BTreeSet<_>>()
+                };
+                let larger = |size: u64| shape.sizes().iter().copied().filter(move |&other| other > size);
+                let fits = |at: u64, size: u64| at % size == 0;
+                vec![
+                    (sizes.len() == 1 && parts.len() > 1, 0),
+                    (sizes.len() == 2, 1),
+                    (sizes.iter().any(|&size| tables(size).len() > 1), 2),
+                    (
+                        parts.iter().any(|&(at, from, size)| {
+                            larger(size).any(|z| fits(at, z) && !fits(from, z) && z <= address + length - at)
+                        }),
+                        3,
+                    ),
+                    (parts.iter().any(|&(at, from, size)| larger(size).any(|z| fits(at | from, z))), 4),
+                    (parts.len() >= 512, 5),
+                    (taken > 0 && parts.len() as u64 > taken, 6),
+                    (taken == 0 && parts.len() > 1, 7),
+                    (address + length == shape.space(setup.levels), 8),
+                ]
+            }
+            Call::MapRange { setup, .. } if matches!(answer.refusal, 6..=8) => {
+                let walks = match walks(call, pool) {
+                    Some(walks) => walks,
+                    None => return Vec::new(),
+                };
+                let in_use = walks.iter().any(|(_, walk)| matches!(walk.end, End::Frame(_) | End::Table));
+                let missing = walks.iter().any(|(_, walk)| walk.end == End::Empty && walk.left > 1);
+                let most = walks.iter().map(|(_, walk)| walk.left - 1).max().unwrap_or(0);
+                vec![
+                    (answer.refusal == 8 && in_use, 9),
+                    (answer.refusal == 6 && missing, 10),
+                    (answer.refusal == 7 && most <= setup.free, 11),
+                ]
+            }
+            Call::UnmapRange { setup, length, .. } if answer.refusal == 0 => {
+                let [removed, given] = [answer.numbers[SETUP], answer.numbers[SETUP + 1]];
+                let pages = length / Shape::of(setup.granule).page();
+                vec![
+                    (removed == 0, 12),
+                    (removed >= 2 && removed < pages, 13),
+                    (removed >= 2 && removed < pages && given > 0, 14),
+                    (given >= setup.levels - 1, 15),
+                    (removed > 0 && given == 0, 16),
+                    (length == 1 << 32, 19),
+                ]
+            }
+            Call::UnmapRange { setup, address, length } if matches!(answer.refusal, 8 | 10) => {
+                let walks = match walks(call, pool) {
+                    Some(walks) => walks,
+                    None => return Vec::new(),
+                };
+                let cut = |&(at, walk): &(u64, Walk)| {
+                    let size = Shape::of(setup.granule).region(walk.left);
+                    let base = at / size * size;
+                    matches!(walk.end, End::Frame(_)).then(|| base < address || base + size > address + length)
+                };
+                vec![
+                    (answer.refusal == 10 && walks.iter().any(|walk| cut(walk) == Some(false)), 17),
+                    (answer.refusal == 8 && walks.iter().any(|walk| cut(walk) == Some(true)), 18),
+                ]
+            }
+            _ => return Vec::new(),
+        };
+        met.into_iter().filter(|(met, _)| *met).map(|(_, what)| super::RANGES[what]).collect()
+    }
+}
+
 /// The levels and the granule of a tree.
 const TREES: [(u64, u64, &str); 3] = [(3, GRANULES[0], "3 levels"), (4, GRANULES[0], "4 levels"), (3, GRANULES[1], "16 KiB")];
 
@@ -88,9 +269,9 @@ const REGIONS: [&str; 3] = ["the first", "the second", "both"];
 #[derive(Default)]
 pub struct Coverage {
     /// For each call, how often each refusal came, and 0 for none.
-    answers: [[u64; 16]; 9],
+    answers: [[u64; 16]; 11],
     /// The same of the calls with the larger granule.
-    answers_16: [[u64; 16]; 9],
+    answers_16: [[u64; 16]; 11],
     /// How many maps took 0 to 3 tables, by the trees.
     taken: [[u64; 4]; 3],
     /// How many unmaps gave back 0 to 3 tables.
@@ -108,6 +289,7 @@ pub struct Coverage {
     /// By the granule's number.
     causes: BTreeMap<(u64, &'static str), u64>,
     lists: BTreeMap<(u64, &'static str), u64>,
+    ranges: BTreeMap<(u64, &'static str), u64>,
     /// The base that the last list answered.
     next: Option<u64>,
     granule: BTreeMap<&'static str, [u64; 2]>,
@@ -144,6 +326,10 @@ impl Coverage {
                     let pool =
                         Lent { words: &memory.words[..words], second: &memory.second[..second], list: &memory.list[..places] };
                     self.count_list(call, answer, pool);
+                }
+                let lent = Lent { words: &memory.words[..words], second: &memory.second[..second], list: &memory.list[..places] };
+                for what in ranges::met(call, answer, lent) {
+                    *self.ranges.entry((setup.granule, what)).or_default() += 1;
                 }
                 match (call, answer.refusal, last_damage) {
                     (Call::Format { .. }, 0, _) => self.added = None,
@@ -300,6 +486,11 @@ impl Coverage {
                 need(self.lists.contains_key(&(granule, what)), format!("list: {what}, with the granule {granule}"));
             }
         }
+        for what in RANGES {
+            for granule in GRANULES {
+                need(self.ranges.contains_key(&(granule, what)), format!("range: {what}, with the granule {granule}"));
+            }
+        }
         for what in GRANULE {
             let met = self.granule.get(what).copied().unwrap_or_default();
             need(met.iter().all(|&count| count > 0), format!("{what}, {met:?}"));
@@ -356,13 +547,14 @@ fn cause_of_1(call: &Call, words: usize, second: usize, places: usize) -> Option
     }
 }
 
-/// Why map, unmap or query gave 8; and add.
+/// Why map, unmap or query gave 8; and add, and the ranges.
 fn cause(call: &Call, words: &[u64], second: &[u64], list: &[u32]) -> Option<&'static str> {
     let (first, setup, address, size) = match *call {
         Call::Map { setup, address, size, .. } => (0, setup, address, size),
         Call::Unmap { setup, address } => (5, setup, address, setup.granule),
         Call::Query { setup, address } => (8, setup, address, setup.granule),
         Call::Add { .. } => return Some("add: a damaged word or a table twice"),
+        Call::MapRange { .. } | Call::UnmapRange { .. } => return ranges::cause(call, Lent { words, second, list }),
         _ => return None,
     };
     let walk = plain::walk(setup, words, second, list, address, size).ok()?;
@@ -467,6 +659,9 @@ impl fmt::Display for Coverage {
         }
         for ((granule, what), count) in &self.lists {
             writeln!(f, "list: {what}, with the granule {granule}: {count}")?;
+        }
+        for ((granule, what), count) in &self.ranges {
+            writeln!(f, "range: {what}, with the granule {granule}: {count}")?;
         }
         for (what, [one, other]) in &self.granule {
             writeln!(f, "{what}: {one} and {other}")?;

@@ -1,6 +1,6 @@
 //! The comparison of an engine with the plain program.
 
-use crate::{Answer, Call, Coverage, Engine, Memory, Source, Step, World};
+use crate::{one_by_one, Answer, Call, Coverage, Engine, Memory, Source, Step, World};
 
 /// An engine on trial, with its own memory beside the plain program's.
 pub struct Judge<E> {
@@ -49,6 +49,15 @@ impl<E: Engine> Judge<E> {
 
     fn compare(&mut self, step: &Step) -> Result<(), String> {
         let ours = self.memory.apply(step, &mut self.engine);
+        if let Some(answer) = ours {
+            let singles = one_by_one(step, &answer, &self.before, &mut self.engine)?;
+            if let Some((numbers, memory)) = singles {
+                if answer.numbers != numbers {
+                    return Err(format!("the engine answers {answer:x?}\nand one by one  {numbers:x?}"));
+                }
+                same(&self.memory, &memory).map_err(|place| format!("a range and its calls one by one differ: {place}"))?;
+            }
+        }
         let (plain, with_ledger) = self.world.apply(step)?;
         if ours != plain {
             return Err(format!("the engine answers {ours:x?}\nand plain        {plain:x?}"));

@@ -16,11 +16,13 @@
 //! Audit  w v l levels base tables free second_base second_tables granule  0 0 0 0
 //! Grow   w v l levels base tables free second_base second_tables granule  base tables 0 0
 //! View   w v l levels base tables free second_base second_tables granule  start places entries 0
+//! Range  w v l levels base tables free second_base second_tables granule  address frame length attributes
+//! Clear  w v l levels base tables free second_base second_tables granule  address length 0 0
 //! total N lines                      the end: so many steps came before
 //! ```
 //!
-//! Each of the last seven calls is lent the first w words of the first run, the first v of the second and the first l places; Grow is
-//! the call that adds a region. View is the list: it is also lent the first places of two runs of 16 numbers, all 7 before. After `=` the answer follows in the same line: the number that a call of the host's answers, or the
+//! Each of the last nine calls is lent the first w words of the first run, the first v of the second and the first l places; Grow is
+//! the call that adds a region, Range maps a range and Clear unmaps one. View is the list: it is also lent the first places of two runs of 16 numbers, all 7 before. After `=` the answer follows in the same line: the number that a call of the host's answers, or the
 //! refusal, the setup after the call, four numbers and a sum. The four are:
 //!
 //! ```text
@@ -31,6 +33,8 @@
 //! Query  base frame size attributes
 //! Audit  tables mappings 0 0
 //! View   written more next 0
+//! Range  taken 0 0 0
+//! Clear  removed given 0 0
 //! ```
 //!
 //! The refusal is its number or 0, and what a refusal does not answer is 0; of 9 the four numbers are base and size of the hole, and two zeros. The sum is that of all memory after the call, lent
@@ -100,6 +104,10 @@ fn text(step: &Step, answer: Option<&Answer>, memory: &Memory) -> String {
         Call::Query { setup, address } => ("Query", numbers(setup), [address, 0, 0, 0]),
         Call::Audit { setup } => ("Audit", numbers(setup), [0; 4]),
         Call::Add { setup, base, tables } => ("Grow", numbers(setup), [base, tables, 0, 0]),
+        Call::MapRange { setup, address, frame, length, attributes } => {
+            ("Range", numbers(setup), [address, frame, length, attributes])
+        }
+        Call::UnmapRange { setup, address, length } => ("Clear", numbers(setup), [address, length, 0, 0]),
         Call::List { setup, start, places, entries } => ("View", numbers(setup), [start, places as u64, entries as u64, 0]),
     };
     let handed_back = if call.hands_back() { &answer.numbers[..SETUP] } else { &setup };

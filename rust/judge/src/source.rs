@@ -4,7 +4,8 @@
 //! empty again. Each kind of history has its own mix of calls:
 //! - fresh ones keep the pool good, and are compared with the ledger;
 //! - damaged ones change a word or a place of a good pool between the calls;
-//! - wild ones fill the tables with entries of every kind, so that walks run into cycles and bad free lists.
+//! - wild ones fill the tables with entries of every kind, so that walks run into cycles and bad free lists; or with good entries alone, where a table is named by
+//!   several, so that ranges come to one table for two regions.
 //!
 //! The tables of some pools stand in two regions from the start; the others have memory for a second one, which may be added. Some pools have the
 //! larger granule. Now and then a pool of one granule is lent under the number of the other, with the count of tables that its words are then.
@@ -220,14 +221,30 @@ impl Source {
             self.book = self.book.iter().flat_map(|&a| indices.map(|index| a + index * shape.region(left))).collect();
         }
         let emptiness = random.pick(&[4, 12]);
+        // where all entries are good, a table has so many levels left wherever it is named
+        let good = random.percent(50);
+        let lefts: Vec<u64> =
+            (0..setup.total()).map(|t| if t == 0 { setup.levels } else { 1 + random.below(setup.levels - 1) }).collect();
+        let named = |left: u64| {
+            let tables: Vec<u64> = (1..setup.total()).filter(|&table| lefts[table as usize] + 1 == left).collect();
+            if tables.is_empty() {
+                0
+            } else {
+                link(setup, random.pick(&tables))
+            }
+        };
         for table in 0..setup.total() {
+            let left = lefts[table as usize];
             for index in indices {
                 let size = random_size(random, shape);
-                let word = match random.below(10 + emptiness) {
-                    0..=5 => link(setup, random.below(setup.total() + 1)),
-                    6..=7 => frame(random, size),
-                    8 => plain::frame_word(base_near(random, setup, size), size, random.below(16)),
-                    9 => frame(random, size) ^ 1 << random.below(64),
+                let word = match (good, random.below(10 + emptiness)) {
+                    (true, 0..=6) => named(left),
+                    (true, 7..=9) if left as usize <= shape.sizes().len() => frame(random, shape.size(left)),
+                    (true, _) => 0,
+                    (false, 0..=5) => link(setup, random.below(setup.total() + 1)),
+                    (false, 6..=7) => frame(random, size),
+                    (false, 8) => plain::frame_word(base_near(random, setup, size), size, random.below(16)),
+                    (false, 9) => frame(random, size) ^ 1 << random.below(64),
                     _ => 0,
                 };
                 let at = match table.checked_sub(setup.tables) {
@@ -238,7 +255,7 @@ impl Source {
             }
         }
         for at in 0..setup.total() as usize {
-            let number = random.below(setup.total() + 1) as u32;
+            let number = if good { setup.total() - 1 - at as u64 } else { random.below(setup.total() + 1) } as u32;
             self.queue.push_back(Step::Place { at, number, damage: None });
         }
         self.free = Some(random.pick(&[random.below(setup.total()), setup.total() - 1]));
@@ -267,6 +284,10 @@ impl Source {
             let call = self.list(setup, world);
             self.queue.push_back(lend(call, setup));
         }
+        for _ in 0..self.random.below(3) {
+            let call = self.range(setup, world);
+            self.queue.push_back(lend(call, setup));
+        }
         if self.random.percent(70) {
             self.queue.push_back(mended);
         }
@@ -276,6 +297,9 @@ impl Source {
     /// A call on the pool.
     fn call(&mut self, world: &World) -> Call {
         let setup = self.setup(world);
+        if self.kind == Kind::Wild && self.random.percent(25) {
+            return self.range(setup, world);
+        }
         let shape = Shape::of(setup.granule);
         let page = shape.page();
         let space = shape.space(setup.levels.min(4));
@@ -310,8 +334,9 @@ impl Source {
                 };
                 Call::Unmap { setup, address }
             }
-            70..=73 => self.list(setup, world),
-            74..=87 => {
+            70..=72 => self.list(setup, world),
+            73..=79 => self.range(setup, world),
+            80..=87 => {
                 let offset = self.random.below(1 << self.random.pick(&[1, 12, 14, 21, 25, 30, 36]));
                 let address = match self.random.below(20) {
                     0 => self.odd_address(space, page),
@@ -423,6 +448,111 @@ impl Source {
         // the free count is tested against the old limit
         let free = if self.random.percent(5) { setup.tables.wrapping_add(self.random.below(4)) } else { setup.free };
         Call::Add { setup: Setup { free, ..setup }, base, tables }
+    }
+
+    /// A range to be mapped or unmapped: from an address of the book or near it, over a few pages, over the ends of tables, over whole tables, or as far as ranges
+    /// and the space go.
+    fn range(&mut self, setup: Setup, world: &World) -> Call {
+        let shape = Shape::of(setup.granule);
+        let (page, space) = (shape.page(), shape.space(setup.levels.min(4)));
+        let unit = shape.region(self.random.pick(&[1, 1, 1, 1, 2, 2, 3]));
+        let mut address = match self.random.below(8) {
+            0..=1 => self.live(world),
+            2 => self.live(world) & !(shape.region(2) - 1),
+            _ => self.address() & !(unit - 1),
+        };
+        address = address.saturating_sub(self.random.pick(&[0, 0, 0, page, 2 * page, unit, shape.region(2), shape.region(3)]));
+        let mut length = match self.random.below(16) {
+            0..=5 => unit * (1 + self.random.below(4)),
+            6..=8 => page * (1 + self.random.below(40)),
+            // up to the end of a table, or some pages past it
+            9..=11 => {
+                let table = shape.region(self.random.pick(&[2, 2, 3, 4]));
+                let end = (address / table + 1).saturating_mul(table);
+                (end - address).saturating_add(page * self.random.below(3))
+            }
+            12 => shape.region(2) * (1 + self.random.below(3)) + page * self.random.below(3),
+            13 => shape.region(3) * (1 + self.random.below(4)),
+            14 => (1 << 32) - unit % (1 << 32) * self.random.below(2),
+            _ => space.saturating_sub(address),
+        };
+        // most are short, since all that is mapped is gone through often
+        if length >= 600 * page && unit == page && self.random.percent(80) {
+            length = page * (1 + self.random.below(6));
+        }
+        // over the border between two tables
+        if self.random.percent(15) {
+            let border = self.address() & !(shape.region(self.random.pick(&[2, 2, 3])) - 1);
+            let below = (page << self.random.below(3)).min(border);
+            (address, length) = (border - below, below + (page << self.random.below(3)));
+        }
+        length = length.clamp(page, 1 << 32);
+        let mut frame = self.frame_for(setup, address, length);
+        let mut attributes = self.random.below(16);
+        let odd = self.random.pick(&[0, 0, 0, 0, 0, 0, 0, 0, 0, 1, 1, 2]);
+        for _ in 0..odd {
+            let near = self.random.pick(&[1, 512, 4096, page, page / 2]);
+            let beside = [length, length.wrapping_sub(page), length.wrapping_add(page), page];
+            let beside = self.random.pick(&beside);
+            match self.random.below(8) {
+                0 => length = self.odd_length(page, near),
+                1 => length = length.wrapping_add(near),
+                2 => attributes = self.random.pick(&[16, 17, 31, 1 << 32, u64::MAX]),
+                3 | 4 => address = self.odd_address(space, page),
+                5 => frame = self.odd_address(LIMIT, page),
+                // the end at a limit, or a page beside it
+                6 => address = self.random.pick(&[space, space, 1 << 39, 1 << 47, 0]).wrapping_sub(beside),
+                _ => frame = self.random.pick(&[LIMIT, LIMIT, 0]).wrapping_sub(beside),
+            }
+        }
+        if self.random.percent(if self.growing { 70 } else { 30 }) {
+            Call::MapRange { setup, address, frame, length, attributes }
+        } else {
+            Call::UnmapRange { setup, address, length }
+        }
+    }
+
+    /// A number that is mostly no length of a range: too short, too long, or no multiple of a page.
+    fn odd_length(&self, page: u64, near: u64) -> u64 {
+        let most = 1 << 32;
+        let odd = [
+            0,
+            0,
+            1,
+            near,
+            most + page,
+            most + page,
+            most + near,
+            most + 4096,
+            most - near,
+            2 * most,
+            1 << 63,
+            u64::MAX,
+            u64::MAX - 4095,
+        ];
+        self.random.pick(&odd)
+    }
+
+    /// Frames for a range: most fit its address up to some size, others are off by a page or a block, anywhere, or near the pool.
+    fn frame_for(&mut self, setup: Setup, address: u64, length: u64) -> u64 {
+        let shape = Shape::of(setup.granule);
+        let [page, block, large] = [1, 2, 3].map(|left| shape.region(left));
+        let anywhere = self.random.below(LIMIT.saturating_sub(length).max(1)) & !(page - 1);
+        let fitting = |size: u64| (anywhere & !(size - 1)) + address % size;
+        let frame = match self.random.below(12) {
+            0..=3 => fitting(large),
+            4..=6 => fitting(block),
+            7 => fitting(large) + block,
+            8 => fitting(block) + page,
+            9 => base_near(&self.random, setup, page),
+            10 => base_near(&self.random, setup, page).wrapping_sub(length),
+            _ => anywhere,
+        };
+        if frame > LIMIT - length.min(LIMIT) && self.random.percent(90) {
+            LIMIT.saturating_sub(length) & !(large - 1)
+        } else {
+            frame
+        }
     }
 
     /// A list, from 0, from the base that the last one answered, from a mapping or within one, or from anywhere.

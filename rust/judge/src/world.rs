@@ -149,7 +149,8 @@ impl World {
                     let ledger = Ledger::new(levels, base, tables, second_base, second_tables, granule);
                     (self.ledger, self.sound) = (Some(ledger), true)
                 }
-                Call::Map { .. } | Call::Unmap { .. } | Call::Add { .. } if !known => (self.ledger, self.sound) = (None, false),
+                Call::Add { .. } if !known => (self.ledger, self.sound) = (None, false),
+                _ if call.changes_mappings() && !known => (self.ledger, self.sound) = (None, false),
                 Call::Audit { .. } if known => self.sound = true,
                 _ => {}
             }
@@ -181,6 +182,14 @@ fn ask(ledger: &mut Ledger, setup: Setup, call: &Call, second: usize, places: us
             let result = ledger.add(base, tables, second as u64, places as u64);
             let grown = Setup { free: ledger.free(), second_base: base, second_tables: tables, ..setup };
             with_setup(if result.is_ok() { grown } else { setup }, result.map(|()| []))
+        }
+        Call::MapRange { address, frame, length, attributes, .. } => {
+            let result = ledger.map_range(address, frame, length, attributes);
+            with_setup(Setup { free: ledger.free(), ..setup }, result.map(|taken| [taken]))
+        }
+        Call::UnmapRange { address, length, .. } => {
+            let result = ledger.unmap_range(address, length);
+            with_setup(Setup { free: ledger.free(), ..setup }, result.map(|c| [c.removed, c.given]))
         }
         Call::List { start, places, entries, .. } => {
             let result = ledger.list(start, places as u64, entries as u64);

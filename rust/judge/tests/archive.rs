@@ -6,7 +6,7 @@ use std::env;
 
 use judge::{cases, lines, listed, numbers as of_setup};
 use judge::{Answer, Call, Engine, Judge, Lent, Memory, Random, Shape, Source, Step, World, SETUP};
-use oakabut::raw::{self, Found, Mapped, Unmapped};
+use oakabut::raw::{self, Found, Mapped, Removed, Unmapped};
 use oakabut::{Audit, Hole, Listed, Mapping, Pool, Refusal, Setup};
 
 /// How many calls to judge, and from which seed.
@@ -243,7 +243,7 @@ fn pages_list_each_mapping_once() {
     assert!(with_ledger > 0 && without > 0);
 }
 
-/// The seven calls on a pool with these numbers, on which every one of them is refused with 1, with so many words and places lent.
+/// The calls on a pool with these numbers, on which every one of them is refused with 1, with so many words and places lent.
 fn all_refuse_1(judge: &mut Judge<Raw>, setup: plain::Setup, words: usize, places: usize) {
     let plain::Setup { levels, base, tables, second_base, second_tables, granule, .. } = setup;
     let calls = [
@@ -256,6 +256,8 @@ fn all_refuse_1(judge: &mut Judge<Raw>, setup: plain::Setup, words: usize, place
         Call::Add { setup, base: 0, tables: 0 },
         Call::Add { setup, base: 0, tables: 1 },
         Call::List { setup, start: 0, places: 2, entries: 2 },
+        Call::MapRange { setup, address: 0, frame: 0x8000_0000, length: 16384, attributes: 3 },
+        Call::UnmapRange { setup, address: 0, length: 16384 },
     ];
     for call in calls {
         let step = Step::Call { call, words, second: 0, places };
@@ -304,6 +306,86 @@ fn granules_that_are_none() {
         }
         if (words, places) != (4 * 512, 4) {
             all_refuse_1(&mut judge, plain::Setup { granule: 4096, ..good }, words, places);
+        }
+    }
+}
+
+/// Ranges of every length up to three tables' entries and some more, from each of the last and first entries of a table: of pages and of blocks, mapped into an empty pool, into one
+/// that has a mapping at each place of the range, and unmapped, with the range longer and shorter.
+#[test]
+fn ranges_over_the_ends_of_tables() {
+    for (granule, levels) in [(4096, 3), (4096, 4), (16384, 3)] {
+        let shape = Shape::of(granule);
+        let (tables, entries) = (24, shape.entries());
+        let (words, places) = ((entries * tables) as usize, tables as usize);
+        let mut judge = Judge::new(Raw);
+        judge.step(&Step::Memory { words, second: 0, places }).unwrap();
+        let mut make = |call: Call| {
+            let step = Step::Call { call, words, second: 0, places };
+            judge.step(&step).unwrap_or_else(|difference| panic!("{difference}"));
+            judge.setup()
+        };
+        let format = Call::Format { levels, base: 0x4000_0000, tables, second_base: 0, second_tables: 0, granule };
+        for left in [1, 2] {
+            let (size, table) = (shape.region(left), shape.region(left + 1));
+            for before in [0, 1, 2, entries - 1] {
+                for count in [1, 2, 3, entries - 1, entries, entries + 1, 2 * entries, 2 * entries + 3] {
+                    let (address, length) = (table - before * size, count * size);
+                    if length > 1 << 32 {
+                        continue;
+                    }
+                    for off in [0, shape.page(), shape.region(2)] {
+                        let setup = make(format);
+                        let frame = (1 << 46) + address + off;
+                        let setup = make(Call::MapRange { setup, address, frame, length, attributes: count % 16 });
+                        let setup = make(Call::UnmapRange { setup, address, length: length + size });
+                        assert_eq!(setup.free, tables - 1);
+                        // one mapping in its first, its last or a middle place
+                        for place in [0, count / 2, count - 1] {
+                            let one = Call::Map { setup, address: address + place * size, frame: 0, size, attributes: 1 };
+                            let setup = make(one);
+                            make(Call::MapRange { setup, address, frame, length, attributes: 5 });
+                            make(Call::UnmapRange { setup, address, length: place * size + shape.page() });
+                            make(Call::UnmapRange { setup, address, length });
+                        }
+                    }
+                }
+            }
+        }
+    }
+}
+
+/// Root entries that name one table, as the document's reading has it: a range in one of them is fine, one that comes to both is not.
+#[test]
+fn a_table_that_two_entries_name() {
+    for (granule, levels) in [(4096, 3), (4096, 4), (16384, 3)] {
+        let shape = Shape::of(granule);
+        let (tables, entries) = (8, shape.entries() as usize);
+        let (words, places) = (8 * entries, 8);
+        let mut judge = Judge::new(Raw);
+        judge.step(&Step::Memory { words, second: 0, places }).unwrap();
+        let setup = plain::Setup { levels, base: 0x4000_0000, tables, free: 6, granule, ..plain::Setup::default() };
+        let region = shape.region(levels);
+        for (one, other) in [(0, 1), (0, 2), (entries - 2, entries - 1)] {
+            let format = Call::Format { levels, base: 0x4000_0000, tables, second_base: 0, second_tables: 0, granule };
+            let call = |call| Step::Call { call, words, second: 0, places };
+            let mut steps = vec![call(format)];
+            for at in [one, other] {
+                steps.push(Step::Word { at, word: 0x4000_0000 + granule + 3, damage: None });
+            }
+            let block = shape.region(2);
+            for (from, length) in
+                [(0, block), (0, granule), (region - block, 2 * block), (region - granule, 2 * granule), (0, 1 << 32)]
+            {
+                for base in [one, other] {
+                    let address = base as u64 * region + from;
+                    steps.push(call(Call::MapRange { setup, address, frame: 1 << 46, length, attributes: 3 }));
+                    steps.push(call(Call::UnmapRange { setup, address, length }));
+                }
+            }
+            for step in &steps {
+                judge.step(step).unwrap_or_else(|difference| panic!("{difference}"));
+            }
         }
     }
 }
@@ -372,6 +454,12 @@ fn the_text_form() {
             ("Grow", &[_, _, _, _, _, _, _, _, _, _, base, tables, 0, 0]) => Some(Call::Add { setup: setup(), base, tables }),
             ("View", &[_, _, _, _, _, _, _, _, _, _, start, places, entries, 0]) => {
                 Some(Call::List { setup: setup(), start, places: places as usize, entries: entries as usize })
+            }
+            ("Range", &[_, _, _, _, _, _, _, _, _, _, address, frame, length, attributes]) => {
+                Some(Call::MapRange { setup: setup(), address, frame, length, attributes })
+            }
+            ("Clear", &[_, _, _, _, _, _, _, _, _, _, address, length, 0, 0]) => {
+                Some(Call::UnmapRange { setup: setup(), address, length })
             }
             ("total", &[count]) => {
                 end = Some(count);
@@ -462,6 +550,16 @@ impl Engine for Raw {
                     let refusal = raw::oak_add(&setup, w, wl, v, vl, l, ll, base, tables, &mut a);
                     Answer::new(refusal, &from_theirs(a))
                 }
+                Call::MapRange { address, frame, length, attributes, .. } => {
+                    let mut a = Mapped { setup: junk, taken: JUNK };
+                    let refusal = raw::oak_map_range(&setup, w, wl, v, vl, l, ll, address, frame, length, attributes, &mut a);
+                    Answer::new(refusal, &[&from_theirs(a.setup)[..], &[a.taken]].concat())
+                }
+                Call::UnmapRange { address, length, .. } => {
+                    let mut a = Removed { setup: junk, removed: JUNK, given: JUNK };
+                    let refusal = raw::oak_unmap_range(&setup, w, wl, v, vl, l, ll, address, length, &mut a);
+                    Answer::new(refusal, &[&from_theirs(a.setup)[..], &[a.removed, a.given]].concat())
+                }
                 Call::List { .. } => unreachable!("it is lent two runs more"),
             }
         }
@@ -522,6 +620,10 @@ impl Engine for Safe {
                 (pool.map(address, frame, size, attributes).map(|taken| vec![taken]), 1)
             }
             Call::Unmap { address, .. } => (pool.unmap(address).map(|r| vec![r.frame, r.size, r.attributes, r.given]), 4),
+            Call::MapRange { address, frame, length, attributes, .. } => {
+                (pool.map_range(address, frame, length, attributes).map(|taken| vec![taken]), 1)
+            }
+            Call::UnmapRange { address, length, .. } => (pool.unmap_range(address, length).map(|c| vec![c.removed, c.given]), 2),
             Call::Query { address, .. } => (pool.query(address).map(|m| vec![m.base, m.frame, m.size, m.attributes]), 4),
             Call::Audit { .. } => (pool.audit().map(|a| vec![a.tables, a.mappings]), 2),
             Call::Add { .. } => unreachable!("it was made before"),

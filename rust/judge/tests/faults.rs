@@ -3,7 +3,7 @@
 //! They are the plain program but for the fault. Among them are the wrong engines and the tempting mistakes that the document
 //! names.
 
-use judge::{listed, numbers, Answer, Call, Engine, Judge, Lent, Plain, Shape, Source, BLANK, SETUP};
+use judge::{listed, numbers, pieces, Answer, Call, Engine, Judge, Lent, Plain, Shape, Source, BLANK, SETUP};
 use plain::{End, Setup, LIMIT, SIZES, SIZES_16};
 
 type Fault = fn(&Call, &mut [u64], &mut [u64], &mut [u32]) -> Answer;
@@ -804,6 +804,504 @@ const FAULTS: &[(&str, Fault)] = &[
     }),
 ];
 
+/// Maps some pieces of a range one by one, whatever they are: address, frame and size of each. Stops at the first that is refused, and answers that.
+fn map_pieces(
+    mut setup: Setup, words: &mut [u64], second: &mut [u64], list: &mut [u32], attributes: u64,
+    pieces: impl Iterator<Item = (u64, u64, u64)>,
+) -> Answer {
+    let mut taken = 0;
+    for (address, frame, size) in pieces.take(5000) {
+        let answer = right(&Call::Map { setup, address, frame, size, attributes }, words, second, list);
+        if answer.refusal != 0 {
+            return answer;
+        }
+        setup = answer.setup();
+        taken += answer.numbers[SETUP];
+    }
+    Answer::new(0, &[&numbers(setup)[..], &[taken]].concat())
+}
+
+/// Unmaps what is mapped at these addresses, one by one, and passes over the others.
+fn unmap_each(
+    mut setup: Setup, words: &mut [u64], second: &mut [u64], list: &mut [u32], addresses: impl Iterator<Item = u64>,
+) -> Answer {
+    let (mut removed, mut given) = (0, 0);
+    for address in addresses {
+        let answer = right(&Call::Unmap { setup, address }, words, second, list);
+        if answer.refusal == 0 {
+            (setup, removed, given) = (answer.setup(), removed + 1, given + answer.numbers[SETUP + 3]);
+        }
+    }
+    Answer::new(0, &[&numbers(setup)[..], &[removed, given]].concat())
+}
+
+/// The bases of the mappings that a range touches, in rising order.
+fn touched(setup: Setup, pool: Lent<'_>, address: u64, length: u64) -> Vec<u64> {
+    let (mut bases, mut at) = (Vec::new(), address);
+    while at < address + length {
+        at = match plain::query(setup, pool.words, pool.second, pool.list, at) {
+            Ok(found) => {
+                bases.push(found.base);
+                found.base + found.size
+            }
+            Err(plain::Refusal::Empty(hole)) => hole.base + hole.size,
+            Err(_) => at + setup.granule,
+        }
+    }
+    bases
+}
+
+/// The ends of the walks of a range's pieces.
+fn ends(setup: Setup, pool: Lent<'_>, address: u64, frame: u64, length: u64) -> Vec<plain::Walk> {
+    let walk = |(at, _, size)| plain::walk(setup, pool.words, pool.second, pool.list, at, size).unwrap();
+    pieces(Shape::of(setup.granule), address, frame, length).take(5000).map(walk).collect()
+}
+
+fn is_taken(walk: &plain::Walk) -> bool {
+    matches!(walk.end, End::Frame(_) | End::Table)
+}
+
+/// Whether a range is short enough to be made one by one.
+fn is_short(setup: Setup, length: u64) -> bool {
+    length / Shape::of(setup.granule).page() < 3000
+}
+
+const RANGE_FAULTS: &[(&str, Fault)] = &[
+    ("a piece chosen by the virtual address alone", |call, words, second, list| match *call {
+        Call::MapRange { setup, address, frame, length, attributes }
+            if right_apart(call, words, second, list).refusal == 0 && is_short(setup, length) =>
+        {
+            let parts = pieces(Shape::of(setup.granule), address, address, length);
+            map_pieces(setup, words, second, list, attributes, parts.map(|(at, _, size)| (at, at - address + frame, size)))
+        }
+        _ => right(call, words, second, list),
+    }),
+    ("a piece chosen by the frame alone", |call, words, second, list| match *call {
+        Call::MapRange { setup, address, frame, length, attributes }
+            if right_apart(call, words, second, list).refusal == 0 && is_short(setup, length) =>
+        {
+            let parts = pieces(Shape::of(setup.granule), frame, frame, length);
+            map_pieces(setup, words, second, list, attributes, parts.map(|(at, _, size)| (at - frame + address, at, size)))
+        }
+        _ => right(call, words, second, list),
+    }),
+    ("a piece larger than what is left", |call, words, second, list| match *call {
+        Call::MapRange { setup, address, frame, length, attributes } if right_apart(call, words, second, list).refusal == 0 => {
+            let block = Shape::of(setup.granule).region(2);
+            let length = if (address | frame) % block == 0 && length < block { block } else { length };
+            right(&Call::MapRange { setup, address, frame, length, attributes }, words, second, list)
+        }
+        _ => right(call, words, second, list),
+    }),
+    ("pages for all pieces", |call, words, second, list| match *call {
+        Call::MapRange { setup, address, frame, length, attributes }
+            if right_apart(call, words, second, list).refusal == 0 && is_short(setup, length) =>
+        {
+            let parts = (0..length / setup.granule).map(|i| i * setup.granule);
+            let parts = parts.map(|done| (address + done, frame + done, setup.granule));
+            map_pieces(setup, words, second, list, attributes, parts)
+        }
+        _ => right(call, words, second, list),
+    }),
+    ("6 before 8", |call, words, second, list| match (*call, right(call, words, second, list)) {
+        (Call::MapRange { setup, address, frame, length, .. }, mut answer) if answer.refusal == 8 => {
+            let walks = ends(setup, Lent { words, second, list }, address, frame, length);
+            answer.refusal = if walks.iter().any(is_taken) { 6 } else { 8 };
+            answer
+        }
+        (_, answer) => answer,
+    }),
+    ("the first finding of the first piece that has one", |call, words, second, list| {
+        match (*call, right(call, words, second, list)) {
+            (Call::MapRange { setup, address, frame, length, .. }, mut answer) if answer.refusal == 8 => {
+                let walks = ends(setup, Lent { words, second, list }, address, frame, length);
+                let first = walks.iter().find(|walk| walk.end != End::Empty);
+                answer.refusal = if first.map_or(false, is_taken) { 6 } else { 8 };
+                answer
+            }
+            (_, answer) => answer,
+        }
+    }),
+    ("7 before 6", |call, words, second, list| match (*call, right(call, words, second, list)) {
+        (Call::MapRange { setup, address, frame, length, .. }, mut answer) if answer.refusal == 6 => {
+            let walks = ends(setup, Lent { words, second, list }, address, frame, length);
+            let lacks = |walk: &plain::Walk| walk.end == End::Empty && walk.left > 1 + setup.free;
+            answer.refusal = if walks.iter().any(lacks) { 7 } else { 6 };
+            answer
+        }
+        (_, answer) => answer,
+    }),
+    ("7 piece by piece, with half the range written", |call, words, second, list| match *call {
+        Call::MapRange { setup, address, frame, length, attributes }
+            if right_apart(call, words, second, list).refusal == 7 && is_short(setup, length) =>
+        {
+            let parts = pieces(Shape::of(setup.granule), address, frame, length);
+            let answer = map_pieces(setup, words, second, list, attributes, parts);
+            Answer::new(answer.refusal, &numbers(setup))
+        }
+        _ => right(call, words, second, list),
+    }),
+    ("7 by the sum of what each piece needs alone", |call, words, second, list| match *call {
+        Call::MapRange { setup, address, frame, length, .. } if right_apart(call, words, second, list).refusal == 0 => {
+            let parts: Vec<_> = pieces(Shape::of(setup.granule), address, frame, length).take(5000).collect();
+            let walks = ends(setup, Lent { words, second, list }, address, frame, length);
+            let level = |size: u64| 1 + Shape::of(setup.granule).sizes().iter().position(|&other| other == size).unwrap() as u64;
+            let sum: u64 = walks.iter().zip(parts).map(|(walk, (_, _, size))| walk.left - level(size)).sum();
+            match sum > setup.free {
+                true => Answer::new(7, &numbers(setup)),
+                false => right(call, words, second, list),
+            }
+        }
+        _ => right(call, words, second, list),
+    }),
+    ("7 by the first piece alone", |call, words, second, list| match (*call, right(call, words, second, list)) {
+        (Call::MapRange { setup, address, frame, length, .. }, mut answer) if answer.refusal == 7 => {
+            let walks = ends(setup, Lent { words, second, list }, address, frame, length);
+            answer.refusal = if walks[0].left > 1 + setup.free { 7 } else { 0 };
+            answer
+        }
+        (_, answer) => answer,
+    }),
+    ("a taken table on another piece's path, or one table for two regions", |call, words, second, list| match *call {
+        Call::MapRange { setup, address, frame, length, attributes }
+            if right_apart(call, words, second, list).refusal == 8 && is_short(setup, length) =>
+        {
+            let parts = pieces(Shape::of(setup.granule), address, frame, length);
+            let (mut was, mut was_second, mut was_list) = (words.to_vec(), second.to_vec(), list.to_vec());
+            let answer = map_pieces(setup, &mut was, &mut was_second, &mut was_list, attributes, parts);
+            if answer.refusal != 0 {
+                return right(call, words, second, list);
+            }
+            words.copy_from_slice(&was);
+            second.copy_from_slice(&was_second);
+            answer
+        }
+        _ => right(call, words, second, list),
+    }),
+    ("4 GiB and a page accepted", |call, words, second, list| match (*call, right(call, words, second, list)) {
+        (Call::MapRange { setup, address, frame, length, attributes }, Answer { refusal: 2, .. })
+            if length == (1 << 32) + setup.granule =>
+        {
+            right(&Call::MapRange { setup, address, frame, length: 1 << 32, attributes }, words, second, list)
+        }
+        (Call::UnmapRange { setup, address, length }, Answer { refusal: 2, .. }) if length == (1 << 32) + setup.granule => {
+            right(&Call::UnmapRange { setup, address, length: 1 << 32 }, words, second, list)
+        }
+        (_, answer) => answer,
+    }),
+    ("4 GiB refused", |call, words, second, list| match *call {
+        Call::UnmapRange { setup, length, .. } if right_apart(call, words, second, list).refusal == 0 && length == 1 << 32 => {
+            Answer::new(2, &numbers(setup))
+        }
+        _ => right(call, words, second, list),
+    }),
+    ("no length, done at once", |call, words, second, list| match (*call, right(call, words, second, list)) {
+        (Call::UnmapRange { setup, length: 0, .. }, Answer { refusal: 2, .. }) => Answer::new(0, &numbers(setup)),
+        (_, answer) => answer,
+    }),
+    ("a length that is rounded up", |call, words, second, list| match (*call, right(call, words, second, list)) {
+        (Call::MapRange { setup, address, frame, length, attributes }, Answer { refusal: 2, .. })
+            if length > 0 && length < 1 << 31 =>
+        {
+            let length = (length | (Shape::of(setup.granule).page() - 1)) + 1;
+            right(&Call::MapRange { setup, address, frame, length, attributes }, words, second, list)
+        }
+        (_, answer) => answer,
+    }),
+    ("lengths and bases by 4096 with 16 KiB", |call, words, second, list| match (*call, right(call, words, second, list)) {
+        (Call::MapRange { length, address, frame, .. }, mut answer) if is_16(call) && matches!(answer.refusal, 2 | 5) => {
+            let multiples = length > 0 && length <= 1 << 32 && (length | address | frame) % 4096 == 0;
+            answer.refusal = if multiples { 7 } else { answer.refusal };
+            answer
+        }
+        (_, answer) => answer,
+    }),
+    ("an end that wraps", |call, words, second, list| match (*call, right(call, words, second, list)) {
+        (Call::MapRange { address, length, .. } | Call::UnmapRange { address, length, .. }, mut answer)
+            if answer.refusal == 4 =>
+        {
+            answer.refusal = if address.checked_add(length).is_none() { 5 } else { 4 };
+            answer
+        }
+        (_, answer) => answer,
+    }),
+    ("an end of the frames that is not tested", |call, words, second, list| match (*call, right(call, words, second, list)) {
+        (Call::MapRange { setup, address, length, .. }, mut answer) if answer.refusal == 4 => {
+            let space = Shape::of(setup.granule).space(setup.levels);
+            answer.refusal = if address.checked_add(length).map_or(false, |end| end <= space) { 7 } else { 4 };
+            answer
+        }
+        (_, answer) => answer,
+    }),
+    ("a range that may end a page past the space", |call, words, second, list| match (*call, right(call, words, second, list)) {
+        (Call::UnmapRange { setup, address, length }, Answer { refusal: 4, .. }) => {
+            let (shape, page) = (Shape::of(setup.granule), Shape::of(setup.granule).page());
+            let length =
+                if address.checked_add(length) == Some(shape.space(setup.levels) + page) { length - page } else { length };
+            right(&Call::UnmapRange { setup, address, length }, words, second, list)
+        }
+        (_, answer) => answer,
+    }),
+    ("4 before 2", |call, words, second, list| match (*call, right(call, words, second, list)) {
+        (Call::MapRange { setup, address, .. } | Call::UnmapRange { setup, address, .. }, mut answer) if answer.refusal == 2 => {
+            answer.refusal = if address >= Shape::of(setup.granule).space(setup.levels) { 4 } else { 2 };
+            answer
+        }
+        (_, answer) => answer,
+    }),
+    ("3 before 2", |call, words, second, list| match (*call, right(call, words, second, list)) {
+        (Call::MapRange { attributes, .. }, mut answer) if answer.refusal == 2 => {
+            answer.refusal = if attributes > 15 { 3 } else { 2 };
+            answer
+        }
+        (_, answer) => answer,
+    }),
+    ("5 before 4", |call, words, second, list| match (*call, right(call, words, second, list)) {
+        (Call::MapRange { setup, address, frame, .. }, mut answer) if answer.refusal == 4 => {
+            answer.refusal = if (address | frame) % setup.granule != 0 { 5 } else { 4 };
+            answer
+        }
+        (_, answer) => answer,
+    }),
+    ("11 before 5", |call, words, second, list| match (*call, right(call, words, second, list)) {
+        (Call::MapRange { setup, frame, .. }, mut answer) if answer.refusal == 5 => {
+            let inside = frame >= setup.base && frame < setup.base + bytes(setup, setup.tables);
+            answer.refusal = if inside { 11 } else { 5 };
+            answer
+        }
+        (_, answer) => answer,
+    }),
+    ("11 after the walks", |call, words, second, list| match (*call, right(call, words, second, list)) {
+        (Call::MapRange { setup, address, frame, length, .. }, mut answer) if answer.refusal == 11 => {
+            let walks = ends(setup, Lent { words, second, list }, address, frame, length);
+            answer.refusal = if walks.iter().any(is_taken) { 6 } else { 11 };
+            answer
+        }
+        (_, answer) => answer,
+    }),
+    ("11 by the first piece alone", |call, words, second, list| match (*call, right(call, words, second, list)) {
+        (Call::MapRange { setup, address, frame, length, attributes }, mut answer) if answer.refusal == 11 => {
+            let (_, _, size) = pieces(Shape::of(setup.granule), address, frame, length).next().unwrap();
+            let first = right_apart(&Call::Map { setup, address, frame, size, attributes }, words, second, list);
+            answer.refusal = if first.refusal == 11 { 11 } else { 7 };
+            answer
+        }
+        (_, answer) => answer,
+    }),
+    ("11 by the last piece alone", |call, words, second, list| match (*call, right(call, words, second, list)) {
+        (Call::MapRange { setup, frame, length, .. }, mut answer) if answer.refusal == 11 => {
+            let last = frame + length - setup.granule;
+            let region = |base: u64, tables: u64| last >= base && last < base + bytes(setup, tables);
+            let inside = region(setup.base, setup.tables) || region(setup.second_base, setup.second_tables);
+            answer.refusal = if inside { 11 } else { 7 };
+            answer
+        }
+        (_, answer) => answer,
+    }),
+    ("the tables that the last piece took", |call, words, second, list| {
+        let mut answer = right(call, words, second, list);
+        if let (Call::MapRange { .. }, 0) = (call, answer.refusal) {
+            answer.numbers[SETUP] = answer.numbers[SETUP].min(1);
+        }
+        answer
+    }),
+    ("the number of pieces in the place of tables", |call, words, second, list| {
+        let mut answer = right(call, words, second, list);
+        if let (&Call::MapRange { setup, address, frame, length, .. }, 0) = (call, answer.refusal) {
+            answer.numbers[SETUP] = pieces(Shape::of(setup.granule), address, frame, length).count() as u64;
+        }
+        answer
+    }),
+    ("frames that do not rise", |call, words, second, list| match *call {
+        Call::MapRange { setup, address, frame, length, attributes }
+            if right_apart(call, words, second, list).refusal == 0 && is_short(setup, length) =>
+        {
+            let parts = pieces(Shape::of(setup.granule), address, frame, length);
+            let parts = parts
+                .map(|(at, from, size)| if from % setup.granule == frame % size { (at, frame, size) } else { (at, from, size) });
+            map_pieces(setup, words, second, list, attributes, parts)
+        }
+        _ => right(call, words, second, list),
+    }),
+    ("the last piece left out", |call, words, second, list| match *call {
+        Call::MapRange { setup, address, frame, length, attributes }
+            if right_apart(call, words, second, list).refusal == 0 && length > setup.granule =>
+        {
+            right(&Call::MapRange { setup, address, frame, length: length - setup.granule, attributes }, words, second, list)
+        }
+        _ => right(call, words, second, list),
+    }),
+    ("tables taken from the other end of the range", |call, words, second, list| match *call {
+        Call::MapRange { setup, address, frame, length, attributes }
+            if right_apart(call, words, second, list).refusal == 0 && is_short(setup, length) =>
+        {
+            let parts: Vec<_> = pieces(Shape::of(setup.granule), address, frame, length).collect();
+            map_pieces(setup, words, second, list, attributes, parts.into_iter().rev())
+        }
+        _ => right(call, words, second, list),
+    }),
+    ("a refused range that has taken a table", |call, words, second, list| {
+        let answer = right(call, words, second, list);
+        if let (&Call::MapRange { setup, address, .. }, 6..=7) = (call, answer.refusal) {
+            let root = root_entry(setup, address);
+            if words[root] == 0 && setup.free > 0 {
+                words[root] = setup.base + bytes(setup, list[setup.free as usize - 1].into()) + 3;
+            }
+        }
+        answer
+    }),
+    ("a range unmapped that keeps its tables", |call, words, second, list| match *call {
+        Call::UnmapRange { setup, address, length } => {
+            let mut answer = right_apart(call, words, second, list);
+            if answer.refusal == 0 {
+                for at in touched(setup, Lent { words, second, list }, address, length) {
+                    let walk = plain::walk(setup, words, second, list, at, setup.granule).unwrap();
+                    let table = *walk.tables().last().unwrap();
+                    table_of(setup, words, second, table)[Shape::of(setup.granule).index(at, walk.left)] = 0;
+                }
+                (answer.numbers[3], answer.numbers[SETUP + 1]) = (setup.free, 0);
+            }
+            answer
+        }
+        _ => right(call, words, second, list),
+    }),
+    ("a range unmapped that prunes the last level alone", |call, words, second, list| match *call {
+        Call::UnmapRange { setup, address, .. } => {
+            let root = root_entry(setup, address);
+            let before = words.get(root).copied();
+            let mut answer = right(call, words, second, list);
+            if answer.refusal == 0 && before.map_or(false, |word| word % 4096 == 3) && words[root] == 0 {
+                words[root] = before.unwrap();
+                answer.numbers[3] -= 1;
+                answer.numbers[SETUP + 1] -= 1;
+            }
+            answer
+        }
+        _ => right(call, words, second, list),
+    }),
+    ("a range that removes a cut mapping", |call, words, second, list| match (*call, right(call, words, second, list)) {
+        (Call::UnmapRange { setup, address, length }, Answer { refusal: 10, .. }) => {
+            let bases = touched(setup, Lent { words, second, list }, address, length);
+            unmap_each(setup, words, second, list, bases.into_iter())
+        }
+        (_, answer) => answer,
+    }),
+    ("a range that passes over a cut mapping", |call, words, second, list| match (*call, right(call, words, second, list)) {
+        (Call::UnmapRange { setup, address, length }, Answer { refusal: 10, .. }) => {
+            let bases = touched(setup, Lent { words, second, list }, address, length);
+            unmap_each(setup, words, second, list, bases.into_iter().filter(|&base| base >= address))
+        }
+        (_, answer) => answer,
+    }),
+    ("a range that counts holes", |call, words, second, list| {
+        let mut answer = right(call, words, second, list);
+        if let (&Call::UnmapRange { setup, length, .. }, 0) = (call, answer.refusal) {
+            answer.numbers[SETUP] = length / setup.granule;
+        }
+        answer
+    }),
+    ("9 for an empty range", |call, words, second, list| match (*call, right(call, words, second, list)) {
+        (Call::UnmapRange { setup, .. }, answer) if answer.refusal == 0 && answer.numbers[SETUP] == 0 => {
+            Answer::new(9, &numbers(setup))
+        }
+        (_, answer) => answer,
+    }),
+    ("a range that stops at the first hole", |call, words, second, list| match *call {
+        Call::UnmapRange { setup, address, length } if right_apart(call, words, second, list).refusal == 0 => {
+            let bases = touched(setup, Lent { words, second, list }, address, length);
+            let mut at = address;
+            let run: Vec<u64> = bases
+                .into_iter()
+                .take_while(|&base| {
+                    let found = plain::query(setup, words, second, list, base).unwrap();
+                    std::mem::replace(&mut at, base + found.size) == base
+                })
+                .collect();
+            unmap_each(setup, words, second, list, run.into_iter())
+        }
+        _ => right(call, words, second, list),
+    }),
+    ("10 before 8", |call, words, second, list| match (*call, right(call, words, second, list)) {
+        (Call::UnmapRange { setup, address, length }, mut answer) if answer.refusal == 8 => {
+            let cut = touched(setup, Lent { words, second, list }, address, length).into_iter().any(|base| {
+                let size = plain::query(setup, words, second, list, base).map_or(0, |found| found.size);
+                base < address || base + size > address + length
+            });
+            answer.refusal = if cut { 10 } else { 8 };
+            answer
+        }
+        (_, answer) => answer,
+    }),
+    ("8 for damage beside the range", |call, words, second, list| {
+        let (mut places, mut entries) = ([], []);
+        let damaged = call.setup().map_or(false, |setup| {
+            let lent = Lent { words, second, list };
+            Plain.list(setup, 0, lent, [&mut places, &mut entries]).refusal == 8
+        });
+        match *call {
+            Call::UnmapRange { setup, .. } if right_apart(call, words, second, list).refusal == 0 && damaged => {
+                Answer::new(8, &numbers(setup))
+            }
+            _ => right(call, words, second, list),
+        }
+    }),
+    ("one table for two regions that a range unmapped does not notice", |call, words, second, list| {
+        match (*call, right(call, words, second, list)) {
+            (Call::UnmapRange { setup, address, length }, answer) if answer.refusal == 8 && is_short(setup, length) => {
+                let pool = Lent { words, second, list };
+                let fine = |at: u64| !matches!(plain::query(setup, words, second, list, at), Err(plain::Refusal::Damaged));
+                if (0..length / setup.granule).all(|i| fine(address + i * setup.granule)) {
+                    let bases = touched(setup, pool, address, length);
+                    return unmap_each(setup, words, second, list, bases.into_iter());
+                }
+                answer
+            }
+            (_, answer) => answer,
+        }
+    }),
+    ("more given back than there is room for, by a range", |call, words, second, list| {
+        match (*call, right(call, words, second, list)) {
+            (Call::UnmapRange { setup, address, length }, mut answer) if answer.refusal == 8 => {
+                let sound = touched(setup, Lent { words, second, list }, address, length);
+                answer.refusal = if setup.free + 1 == setup.total() && !sound.is_empty() { 0 } else { 8 };
+                answer
+            }
+            (_, answer) => answer,
+        }
+    }),
+    ("a range's tables given back in the other order", |call, words, second, list| {
+        let answer = right(call, words, second, list);
+        if let (&Call::UnmapRange { setup, .. }, 0) = (call, answer.refusal) {
+            list[setup.free as usize..(setup.free + answer.numbers[SETUP + 1]) as usize].reverse();
+        }
+        answer
+    }),
+    ("a page past the range", |call, words, second, list| match *call {
+        Call::UnmapRange { setup, address, length } if right_apart(call, words, second, list).refusal == 0 => {
+            let longer = Call::UnmapRange { setup, address, length: length + setup.granule };
+            match right_apart(&longer, words, second, list).refusal {
+                0 => right(&longer, words, second, list),
+                _ => right(call, words, second, list),
+            }
+        }
+        _ => right(call, words, second, list),
+    }),
+    ("empty tables that a range prunes", |call, words, second, list| {
+        let answer = right(call, words, second, list);
+        if let (&Call::UnmapRange { setup, address, .. }, 0) = (call, answer.refusal) {
+            let root = root_entry(setup, address);
+            let walk = plain::walk(setup, words, second, list, address, setup.granule);
+            if let (Ok(walk), true) = (walk, words[root] != 0) {
+                let table = walk.tables().get(1).copied().unwrap_or(0);
+                if table != 0 && table_of(setup, words, second, table).iter().all(|&word| word == 0) {
+                    words[root] = 0;
+                }
+            }
+        }
+        answer
+    }),
+];
+
 /// The right list of a pool from a start on: the answer, and the two numbers of all mappings from there on.
 fn right_list(setup: Setup, start: u64, pool: Lent<'_>) -> (Answer, Vec<(u64, u64)>) {
     let (mut places, mut entries) = (vec![0; 1 << 18], vec![0; 1 << 18]);
@@ -990,6 +1488,17 @@ const LIST_FAULTS: &[(&str, ListFault)] = &[
 fn every_fault_is_found() {
     let calls = 500_000;
     for &(name, fault) in FAULTS {
+        let mut judge = Judge::new(Faulty(fault));
+        let found = judge.run(&mut Source::new(1), calls);
+        assert!(found.is_err(), "{name} was not found in {calls} calls");
+        println!("{name}: found at call {}", judge.coverage.calls());
+    }
+}
+
+#[test]
+fn every_fault_of_ranges_is_found() {
+    let calls = 500_000;
+    for &(name, fault) in RANGE_FAULTS {
         let mut judge = Judge::new(Faulty(fault));
         let found = judge.run(&mut Source::new(1), calls);
         assert!(found.is_err(), "{name} was not found in {calls} calls");

@@ -171,6 +171,15 @@ pub struct Removed {
     pub given: u64,
 }
 
+/// What [`Pool::unmap_range`] removed.
+#[derive(Clone, Copy, Debug, PartialEq, Eq, Hash)]
+pub struct Cleared {
+    /// The number of mappings.
+    pub removed: u64,
+    /// The number of tables given back to the free list.
+    pub given: u64,
+}
+
 /// What [`Pool::audit`] counts.
 #[repr(C)]
 #[derive(Clone, Copy, Debug, PartialEq, Eq, Hash)]

@@ -5,7 +5,7 @@ use core::fmt;
 use core::ops::{Deref, DerefMut};
 
 use crate::raw::{self, Found, Mapped, Unmapped};
-use crate::{Audit, Hole, Listed, Mapping, Refusal, Removed, Setup, GRANULE_16K, GRANULE_4K, MAX_TABLES};
+use crate::{Audit, Cleared, Hole, Listed, Mapping, Refusal, Removed, Setup, GRANULE_16K, GRANULE_4K, MAX_TABLES};
 
 const NO_HOLE: Hole = Hole { base: 0, size: 0 };
 
@@ -193,6 +193,77 @@ impl<'a> Pool<'a> {
         let Unmapped { setup, frame, size, attributes, given, .. } = Refusal::or_hole(number, answer, answer.hole)?;
         self.setup = setup;
         Ok(Removed { frame, size, attributes, given })
+    }
+
+    /// Maps the `length` bytes of frames from `frame` on to `address`, all or nothing. Answers the number of tables taken from the free list.
+    ///
+    /// At each point the piece is the largest size of the granule that fits what is left and divides both addresses, so it pays to have both aligned alike.
+    /// The result is that of mapping the pieces one by one. The length is a nonzero multiple of the granule, at most 4 GiB, else [`Refusal::SIZE`]; the two
+    /// addresses are multiples of it.
+    ///
+    /// ```
+    /// # use oakabut::{Cleared, Pool, Refusal, BLOCK_2M, GRANULE_4K, PAGE};
+    /// let mut pool = Pool::owned(3, 0x4000_0000, 8, GRANULE_4K)?;
+    /// assert_eq!(pool.map_range(0x20_0000, 0x8020_0000, 40 << 20, 3)?, 1);
+    /// assert_eq!(pool.query(0x20_1234)?.size, BLOCK_2M);
+    /// assert_eq!(pool.audit()?.mappings, 20);
+    /// assert_eq!(pool.map_range(0x10_0000, 0x9000_0000, 2 << 20, 3), Err(Refusal::IN_USE));
+    ///
+    /// assert_eq!(pool.unmap_range(0x20_0000, PAGE), Err(Refusal::NOT_THE_START));
+    /// assert_eq!(pool.unmap_range(0, 1 << 30)?, Cleared { removed: 20, given: 1 });
+    /// assert_eq!(pool.unmap_range(0, 1 << 30)?, Cleared { removed: 0, given: 0 });
+    /// # Ok::<(), oakabut::Refusal>(())
+    /// ```
+    pub fn map_range(&mut self, address: u64, frame: u64, length: u64, attributes: u64) -> Result<u64, Refusal> {
+        let mut answer = Mapped { setup: self.setup, taken: 0 };
+        let (words, second, list) = (&mut *self.words, &mut *self.second, &*self.list);
+        // SAFETY: the pointers and lengths are those of three borrowed slices; the list is only read.
+        let number = unsafe {
+            raw::oak_map_range(
+                &self.setup,
+                words.as_mut_ptr(),
+                words.len(),
+                second.as_mut_ptr(),
+                second.len(),
+                list.as_ptr(),
+                list.len(),
+                address,
+                frame,
+                length,
+                attributes,
+                &mut answer,
+            )
+        };
+        let Mapped { setup, taken } = Refusal::or(number, answer)?;
+        self.setup = setup;
+        Ok(taken)
+    }
+
+    /// Removes every mapping that lies in the `length` bytes from `address` on, all or nothing, and gives back each table that this leaves empty.
+    ///
+    /// Holes are passed over, and that there is no mapping is no refusal. A mapping that lies partly in the range is [`Refusal::NOT_THE_START`]. The result is that
+    /// of unmapping the mappings one by one, in rising order.
+    pub fn unmap_range(&mut self, address: u64, length: u64) -> Result<Cleared, Refusal> {
+        let mut answer = raw::Removed { setup: self.setup, removed: 0, given: 0 };
+        let (words, second, list) = (&mut *self.words, &mut *self.second, &mut *self.list);
+        // SAFETY: the pointers and lengths are those of three slices that are borrowed mutably.
+        let number = unsafe {
+            raw::oak_unmap_range(
+                &self.setup,
+                words.as_mut_ptr(),
+                words.len(),
+                second.as_mut_ptr(),
+                second.len(),
+                list.as_mut_ptr(),
+                list.len(),
+                address,
+                length,
+                &mut answer,
+            )
+        };
+        let raw::Removed { setup, removed, given } = Refusal::or(number, answer)?;
+        self.setup = setup;
+        Ok(Cleared { removed, given })
     }
 
     /// Finds the mapping that holds `address`. Where there is none, the refusal carries the hole ([`Refusal::hole`]).

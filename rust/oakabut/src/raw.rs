@@ -1,13 +1,13 @@
 //! The C surface of the proved library, as its header has it.
 //!
 //! Each function returns 0 or the number of a refusal, and always writes the whole answer: on a refusal zeros, but for the
-//! setup that map, unmap and add hand back unchanged, and for the hole that goes with 9. Lengths count elements. Without a second
+//! setup that map, unmap, the two ranges and add hand back unchanged, and for the hole that goes with 9. Lengths count elements. Without a second
 //! region the second run has length 0, and its pointer is any that is aligned and not null. The safe calls of [`Pool`](crate::Pool) and of this
 //! crate are made of these.
 
 use crate::{Audit, Hole, Mapping, Setup};
 
-/// What `oak_map` answers.
+/// What `oak_map` and `oak_map_range` answer.
 #[repr(C)]
 #[derive(Clone, Copy, Debug, PartialEq, Eq)]
 pub struct Mapped {
@@ -33,6 +33,18 @@ pub struct Unmapped {
     pub given: u64,
     /// The hole around the address where 9 is returned, else zeros.
     pub hole: Hole,
+}
+
+/// What `oak_unmap_range` answers.
+#[repr(C)]
+#[derive(Clone, Copy, Debug, PartialEq, Eq)]
+pub struct Removed {
+    /// The setup with its new free count.
+    pub setup: Setup,
+    /// The number of mappings removed.
+    pub removed: u64,
+    /// The number of tables given back.
+    pub given: u64,
 }
 
 /// What `oak_query` answers.
@@ -99,6 +111,24 @@ extern "C" {
     pub fn oak_unmap(
         setup: *const Setup, words: *mut u64, words_len: usize, second: *mut u64, second_len: usize, list: *mut u32,
         list_len: usize, address: u64, answer: *mut Unmapped,
+    ) -> u64;
+
+    /// Maps a range of frames at an address, in pieces.
+    ///
+    /// # Safety
+    /// As for [`oak_format`]; the list is only read.
+    pub fn oak_map_range(
+        setup: *const Setup, words: *mut u64, words_len: usize, second: *mut u64, second_len: usize, list: *const u32,
+        list_len: usize, address: u64, frame: u64, length: u64, attributes: u64, answer: *mut Mapped,
+    ) -> u64;
+
+    /// Removes all mappings in a range.
+    ///
+    /// # Safety
+    /// As for [`oak_format`].
+    pub fn oak_unmap_range(
+        setup: *const Setup, words: *mut u64, words_len: usize, second: *mut u64, second_len: usize, list: *mut u32,
+        list_len: usize, address: u64, length: u64, answer: *mut Removed,
     ) -> u64;
 
     /// Finds the mapping that holds an address.

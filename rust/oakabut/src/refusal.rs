@@ -7,7 +7,7 @@ use crate::Hole;
 /// Why a call was refused. A refused call leaves all lent memory, and the pool's setup, as they were.
 ///
 /// The calls are tested in the order 1, 2, 3, 4, 5, 11, then the walk from the top (6, 8, 9 or 10, whichever it finds first), then 7,
-/// then 8 for the free list. An add is tested in the order 1, 8 for the tables that are reached, 11.
+/// then 8 for the free list. A range comes to 8 before 6 or 10, wherever they are in it. An add is tested in the order 1, 8 for the tables that are reached, 11.
 #[derive(Clone, Copy, Debug, PartialEq, Eq, Hash)]
 pub struct Refusal {
     number: u64,
@@ -17,7 +17,7 @@ pub struct Refusal {
 impl Refusal {
     /// 1: a setup number or a length breaks the rules.
     pub const SETUP: Refusal = Refusal::bare(1);
-    /// 2: the size is none of the granule's; of a word, none of the five.
+    /// 2: the size is none of the granule's; of a word, none of the five; of a range, the length is 0, above 4 GiB or no multiple of the granule.
     pub const SIZE: Refusal = Refusal::bare(2);
     /// 3: the attributes are above 15.
     pub const ATTRIBUTES: Refusal = Refusal::bare(3);
@@ -31,7 +31,7 @@ impl Refusal {
     pub const NO_TABLES: Refusal = Refusal::bare(7);
     /// 8: the pool, or the word that was asked about, is damaged. It is never given for a pool that the audit accepts.
     pub const DAMAGED: Refusal = Refusal::bare(8);
-    /// 10: unmap: the walk ends at a frame whose mapping does not start at the address.
+    /// 10: unmap: the walk ends at a frame whose mapping does not start at the address; of a range, that it cuts a mapping.
     pub const NOT_THE_START: Refusal = Refusal::bare(10);
     /// 11: map: the frame shares a byte with the pool's tables; add: the frame of a mapping shares one with the new region.
     pub const IN_POOL: Refusal = Refusal::bare(11);

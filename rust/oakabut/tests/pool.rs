@@ -355,6 +355,39 @@ fn refusals_say_their_number_and_why() {
     assert_eq!((Refusal::NOT_THE_START.number(), Refusal::IN_POOL.number()), (10, 11));
 }
 
+/// Ranges of a pool: one call each way, with the answers and refusals typed.
+#[test]
+fn ranges() {
+    let mut pool = Pool::owned(3, P, 24, K4).unwrap();
+    assert_eq!(pool.map_range(0x4000_0000, F, 40 << 20, 3), Ok(1));
+    assert_eq!(pool.query(0x4027_FFFF).unwrap().size, BLOCK_2M);
+    assert_eq!(pool.audit(), Ok(Audit { tables: 2, mappings: 20 }));
+    assert_eq!(pool.unmap_range(0x4000_0000, PAGE), Err(Refusal::NOT_THE_START));
+    assert_eq!(pool.unmap_range(0, 1 << 32), Ok(Cleared { removed: 20, given: 1 }));
+    assert_eq!(pool.unmap_range(0, 1 << 32), Ok(Cleared { removed: 0, given: 0 }));
+    // the frame's base is off by a page: 10,240 pieces
+    assert_eq!(pool.map_range(0x4000_0000, F + PAGE, 40 << 20, 3), Ok(21));
+    assert_eq!(pool.audit(), Ok(Audit { tables: 22, mappings: 10_240 }));
+    assert_eq!(pool.map_range(0x3FFF_F000, F, 2 * PAGE, 3), Err(Refusal::IN_USE));
+    assert_eq!(pool.map_range(0x8000_0000, F + PAGE, 40 << 20, 3), Err(Refusal::NO_TABLES));
+    for (address, frame, length, attributes, refusal) in [
+        (0, F, 0, 3, Refusal::SIZE),
+        (0, F, (1 << 32) + PAGE, 3, Refusal::SIZE),
+        (0, F, PAGE, 16, Refusal::ATTRIBUTES),
+        (u64::MAX - 4095, F, 2 * PAGE, 3, Refusal::RANGE),
+        (1, F, PAGE, 3, Refusal::ALIGNMENT),
+        (0, P - PAGE, 2 * PAGE, 3, Refusal::IN_POOL),
+    ] {
+        assert_eq!(pool.map_range(address, frame, length, attributes), Err(refusal));
+    }
+    assert_eq!(pool.setup().free, 2);
+    let mut pool = Pool::owned(3, P, 4, K16).unwrap();
+    assert_eq!(pool.map_range(0, F, PAGE, 3), Err(Refusal::SIZE));
+    assert_eq!(pool.map_range(0, F, 40 << 20, 3), Ok(2));
+    assert_eq!(pool.audit(), Ok(Audit { tables: 3, mappings: 513 }));
+    assert_eq!(pool.unmap_range(0, 40 << 20), Ok(Cleared { removed: 513, given: 2 }));
+}
+
 #[cfg(feature = "std")]
 #[test]
 fn a_refusal_is_an_error() {

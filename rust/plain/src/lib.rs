@@ -13,14 +13,18 @@
 //!
 //! No call panics, whatever the numbers and the memory are, and a refusal leaves all lent memory as it was.
 
+#[macro_use]
+mod granule;
 mod entry;
 mod geometry;
 pub mod ledger;
+mod range;
 
 pub use entry::{frame_word, word_meaning, Frame};
 use entry::{read_frame, write_frame};
 use geometry::{entries, is_multiple, level_of, max_levels, page, place_of, region, sizes, space, MAX_LEVELS, MIN_LEVELS};
 pub use geometry::{sizes_of, GRANULES, LIMIT, MAX_TABLES, SIZES, SIZES_16};
+pub use range::{map_range, unmap_range, Cleared};
 
 /// The setup numbers of a pool.
 #[derive(Clone, Copy, Debug, Default, PartialEq, Eq)]
@@ -58,16 +62,6 @@ impl Setup {
             self.second_base + page::<BITS>() * (table - self.tables)
         }
     }
-}
-
-/// A function for the granule of a number. A number that names none is refused by either.
-macro_rules! of_granule {
-    ($number:expr, $function:ident($($argument:expr),*)) => {
-        match $number {
-            0x4000 => $function::<14>($($argument),*),
-            _ => $function::<12>($($argument),*),
-        }
-    };
 }
 
 /// The largest empty region around an address: that of the empty entry where a walk ended.

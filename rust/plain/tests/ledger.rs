@@ -20,7 +20,7 @@ fn regions(granule: u64) -> [u64; 3] {
     }
 }
 
-/// Goes through all histories of `more` further calls, each a map, an unmap or an add.
+/// Goes through all histories of `more` further calls, each a map, an unmap, a range of either or an add.
 fn histories(pool: &Pool, ledger: &Ledger, more: u32) {
     let Pool { setup, words, second, list } = pool;
     let [page, block, large] = regions(setup.granule);
@@ -42,6 +42,10 @@ fn histories(pool: &Pool, ledger: &Ledger, more: u32) {
             histories(&Pool { setup, ..next }, &ledger, more - 1);
         }
     }
+    // the last two calls are no ranges
+    if more > 2 {
+        ranges(pool, ledger, more);
+    }
     for address in [0, page, block, large] {
         let (mut next, mut ledger) = (pool.clone(), ledger.clone());
         let (setup, answer) = unmap(*setup, &mut next.words, &mut next.second, &mut next.list, address);
@@ -58,6 +62,31 @@ fn histories(pool: &Pool, ledger: &Ledger, more: u32) {
     assert_eq!(answer, ledger.add(5 * page, 1, page / 8, next.list.len() as u64));
     if answer.is_ok() {
         histories(&Pool { setup, ..next }, &ledger, more - 1);
+    }
+}
+
+/// The same where the next call is a range, to be mapped or unmapped.
+fn ranges(pool: &Pool, ledger: &Ledger, more: u32) {
+    let Pool { setup, list, .. } = pool;
+    let [page, block, large] = regions(setup.granule);
+    for (address, frame, length) in
+        [(0, 0, block + page), (block - page, 9 * page, 2 * page), (0, page, 3 * page), (large - block, 9 * block, 2 * block)]
+    {
+        let (mut next, mut ledger) = (pool.clone(), ledger.clone());
+        let frame = (1 << 46) + frame;
+        let (setup, answer) = map_range(*setup, &mut next.words, &mut next.second, list, address, frame, length, 6);
+        assert_eq!(answer, ledger.map_range(address, frame, length, 6));
+        if answer.is_ok() {
+            histories(&Pool { setup, ..next }, &ledger, more - 1);
+        }
+    }
+    for (address, length) in [(0, 2 * block), (page, block - page), (page, 2 * block), (0, large.min(1 << 32))] {
+        let (mut next, mut ledger) = (pool.clone(), ledger.clone());
+        let (setup, answer) = unmap_range(*setup, &mut next.words, &mut next.second, &mut next.list, address, length);
+        assert_eq!(answer, ledger.unmap_range(address, length));
+        if matches!(answer, Ok(cleared) if cleared.removed > 0) {
+            histories(&Pool { setup, ..next }, &ledger, more - 1);
+        }
     }
 }
 

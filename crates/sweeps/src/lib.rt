@@ -1,0 +1,1 @@
+// Laws of unmapping a range mapping by mapping; no code.
