@@ -70,8 +70,10 @@ fn may_take(list: &[u32], tables: u32, way: [u32; 4], free: usize, need: usize) 
         if pool::among_four(way, c) {
             return false;
         }
-        if pool::among_four(taken, c) {
-            return false;
+        if i > 0 {
+            if pool::among_four(taken, c) {
+                return false;
+            }
         }
         taken[i] = c;
         i += 1;
@@ -79,41 +81,73 @@ fn may_take(list: &[u32], tables: u32, way: [u32; 4], free: usize, need: usize) 
     true
 }
 
-// The writes of a map: each missing table is taken from the end of the free list, top first, filled with zeros and then linked; the frame's word comes
-// last.
-fn map_plan(
+// The i-th write of a map: each missing table is taken from the end of the free list, top first, filled with zeros and then linked; the frame's word comes
+// last. `first` is the place of the entry where the walk ended.
+fn map_step(
     granule: u64,
     base: u64,
     tables: u16,
     base2: u64,
-    path: [u16; 4],
+    address: u64,
     list: &[u32],
     height: usize,
     word: u64,
-    table: u32,
+    first: usize,
     free: usize,
     need: usize,
-) -> [Step; plans::STEPS]
-    requires { ⌜ ((base ≤ physical) × (base2 ≤ physical)) × ((height + need ≤ 3) × (need ≤ free)) ⌝ }
-    ensures { λ r. ⌜ ((m : ℕ) → planned r ≡ mapWrites (granuleOf granule) (areaAt base tables base2 m) path (now (list .entry)) height word table free need) ⌝ }
+    i: usize,
+) -> Step
 {
-    let mut plan = [Step::Nothing; plans::STEPS];
-    let mut t = table;
-    let mut i = 0;
-    while i < need {
-        let c = pool::place(list, free - 1 - i);
-        let at = 3 - (height + need - i);
-        let place = pool::entry_place(granule, t, path[at]);
-        let value = links::table_word(granule, base, tables, base2, c);
-        plan[2 * i] = Step::Wipe { table: c };
-        plan[2 * i + 1] = Step::Store { place, value };
-        t = c;
-        i += 1;
+    let k = i / 2;
+    let place = map_place(granule, address, list, height, first, free, need, k);
+    if k == need {
+        return Step::Store { place, value: word };
     }
-    let at = 3 - height;
-    let place = pool::entry_place(granule, t, path[at]);
-    plan[2 * need] = Step::Store { place, value: word };
-    plan
+    let c = pool::place(list, free - 1 - k);
+    if i % 2 == 0 {
+        return Step::Wipe { table: c };
+    }
+    let value = links::table_word(granule, base, tables, base2, c);
+    Step::Store { place, value }
+}
+
+fn map_place(granule: u64, address: u64, list: &[u32], height: usize, first: usize, free: usize, need: usize, k: usize) -> usize
+{
+    if k == 0 {
+        return first;
+    }
+    let t = pool::place(list, free - k);
+    let index = indices::index_at(granule, address, height + need - k);
+    pool::entry_place(granule, t, index)
+}
+
+// The writes of a map, in their order.
+fn map_writes(
+    granule: u64,
+    words: &mut [u64],
+    second: &mut [u64],
+    base: u64,
+    tables: u16,
+    base2: u64,
+    address: u64,
+    list: &[u32],
+    height: usize,
+    word: u64,
+    place: usize,
+    free: usize,
+    need: usize,
+)
+{
+    let mut k = 0;
+    while k < need {
+        let s = map_step(granule, base, tables, base2, address, list, height, word, place, free, need, 2 * k);
+        plans::step_words(granule, words, second, s);
+        let s = map_step(granule, base, tables, base2, address, list, height, word, place, free, need, 2 * k + 1);
+        plans::step_words(granule, words, second, s);
+        k += 1;
+    }
+    let s = map_step(granule, base, tables, base2, address, list, height, word, place, free, need, 2 * need);
+    plans::step_words(granule, words, second, s);
 }
 
 // A refused map.
@@ -135,8 +169,9 @@ fn map_empty(
     address: u64,
     height: usize,
     word: u64,
-    way: [u32; 4],
+    way: &[u32; 4],
     left: usize,
+    place: usize,
 ) -> Mapped
     requires { ⌜ (goodSetup (granuleOf (s .granule)) s (length (now words)) (length (now words ++ now second)) (length (now list)) ≡ true) × ((height ≤ left) × (left ≤ 3)) ⌝ }
     ensures { λ r. ⌜ ((b k : ℕ) → word ≡ frameWord b height k
@@ -148,25 +183,24 @@ fn map_empty(
     if free < need {
         return map_refused(7, s);
     }
-    if !may_take(list, (s.tables + s.tables2) as u32, way, free, need) {
+    if !may_take(list, (s.tables + s.tables2) as u32, *way, free, need) {
         return map_refused(8, s);
     }
-    let path = indices::path_of(s.granule, address);
-    let at = 3 - left;
-    let plan = map_plan(
+    map_writes(
         s.granule,
+        words,
+        second,
         s.base,
         s.tables as u16,
         s.base2,
-        path,
+        address,
         list,
         height,
         word,
-        way[at],
+        place,
         free,
         need,
     );
-    plans::write_words(s.granule, words, second, plan);
     let rest = (free - need) as u64;
     Mapped {
         answer: MapAnswer::Taken(need as u64),
@@ -215,7 +249,7 @@ fn map_walk(
         return map_refused(met(s, &words[..], &second[..], height, address), s);
     }
     if left != height {
-        return map_empty(s, words, second, list, address, height, word, way, left);
+        return map_empty(s, words, second, list, address, height, word, &way, left, place);
     }
     pool::put(words, second, place, word);
     Mapped {

@@ -39,8 +39,8 @@ fn count_freed<'a>(
     granule: u64,
     words: &'a [u64],
     second: &'a [u64],
-    way: [u32; 4],
-    path: [u16; 4],
+    way: &[u32; 4],
+    address: u64,
     left: usize,
     top: usize,
 ) -> usize
@@ -52,7 +52,7 @@ fn count_freed<'a>(
     while h < top {
         let at = 3 - h;
         let t = way[at];
-        let i = path[at];
+        let i = indices::index_at(granule, address, h);
         if !contents::only_entry(granule, words, second, t, i) {
             return h - left;
         }
@@ -61,35 +61,50 @@ fn count_freed<'a>(
     top - left
 }
 
-// The writes of an unmap: the frame's word becomes 0; then, for each table that comes free, its parent's entry becomes 0, and after that the table goes
+// The i-th write of an unmap: the frame's word becomes 0; then, for each table that comes free, its parent's entry becomes 0, and after that the table goes
 // on the free list.
-fn unmap_plan(
+fn unmap_step(granule: u64, way: &[u32; 4], address: u64, left: usize, free: usize, i: usize) -> Step
+{
+    if i > 0 {
+        if i % 2 == 0 {
+            let k = i / 2 - 1;
+            let at = 3 - (left + k);
+            return Step::Give { place: free + k, table: way[at] };
+        }
+    }
+    let h = left + (i + 1) / 2;
+    let at = 3 - h;
+    let index = indices::index_at(granule, address, h);
+    let place = pool::entry_place(granule, way[at], index);
+    Step::Store { place, value: 0 }
+}
+
+// The writes of an unmap, in their order.
+fn unmap_writes(
     granule: u64,
-    way: [u32; 4],
-    path: [u16; 4],
+    words: &mut [u64],
+    second: &mut [u64],
+    list: &mut [u32],
+    way: &[u32; 4],
+    address: u64,
     left: usize,
     free: usize,
     given: usize,
-) -> [Step; plans::STEPS]
-    requires { ⌜ (left + given ≤ 3) × (free ≤ mostTables) ⌝ }
-    ensures { λ r. ⌜ planned r ≡ unmapWrites (granuleOf granule) way path left free given ⌝ }
+)
 {
-    let mut plan = [Step::Nothing; plans::STEPS];
-    let at = 3 - left;
-    let place = pool::entry_place(granule, way[at], path[at]);
-    plan[0] = Step::Store { place, value: 0 };
+    let s = unmap_step(granule, way, address, left, free, 0);
+    plans::step_words(granule, words, second, s);
+    plans::step_list(list, s);
     let mut k = 0;
     while k < given {
-        let at = 3 - (left + k);
-        let table = way[at];
-        let up = at - 1;
-        let place = pool::entry_place(granule, way[up], path[up]);
-        let next = free + k;
-        plan[2 * k + 1] = Step::Store { place, value: 0 };
-        plan[2 * k + 2] = Step::Give { place: next, table };
+        let s = unmap_step(granule, way, address, left, free, 2 * k + 1);
+        plans::step_words(granule, words, second, s);
+        plans::step_list(list, s);
+        let s = unmap_step(granule, way, address, left, free, 2 * k + 2);
+        plans::step_words(granule, words, second, s);
+        plans::step_list(list, s);
         k += 1;
     }
-    plan
 }
 
 // A refused unmap.
@@ -124,7 +139,7 @@ fn unmap_more(
     address: u64,
     frame: u64,
     attributes: u64,
-    way: [u32; 4],
+    way: &[u32; 4],
     left: usize,
 ) -> Unmapped
     requires { ⌜ (goodSetup (granuleOf (s .granule)) s (length (now words)) (length (now words ++ now second)) (length (now list)) ≡ true) × ((left < s .levels - 1) × ((address % sizeAt (granuleOf (s .granule)) left ≡ 0) × (onlyEntry (granuleOf (s .granule)) (now words ++ now second) (atHeight way left) (atHeight (pathOf (granuleOf (s .granule)) address) left) ≡ true))) ⌝ }
@@ -132,16 +147,14 @@ fn unmap_more(
         ≡ unmapAt (granuleOf (s .granule)) (pool s (now (words .entry) ++ now (second .entry)) (length (now (words .entry))) (now (list .entry))) address (stop (Frame frame attributes) left way) (Frame frame attributes) ⌝ }
 {
     let size = indices::size_at(s.granule, left);
-    let path = indices::path_of(s.granule, address);
     let top = (s.levels - 1) as usize;
-    let given = count_freed(s.granule, &words[..], &second[..], way, path, left + 1, top) + 1;
+    let given = count_freed(s.granule, &words[..], &second[..], way, address, left + 1, top) + 1;
     let free = s.free + given as u64;
     let most = s.tables + s.tables2 - 1;
     if free > most {
         return unmap_refused(8, s);
     }
-    let plan = unmap_plan(s.granule, way, path, left, s.free as usize, given);
-    plans::write_all(s.granule, words, second, list, plan);
+    unmap_writes(s.granule, words, second, list, way, address, left, s.free as usize, given);
     Unmapped {
         answer: UnmapAnswer::Given {
             frame,
@@ -183,7 +196,7 @@ fn unmap_frame(
     address: u64,
     frame: u64,
     attributes: u64,
-    way: [u32; 4],
+    way: &[u32; 4],
     left: usize,
     place: usize,
 ) -> Unmapped
@@ -259,7 +272,7 @@ pub fn unmap(
             address,
             base,
             attributes,
-            way,
+            &way,
             left,
             place,
         ),
