@@ -13,13 +13,11 @@ use borrow.Author.Tests.{le-leb}
 use Rattle.path.specs.Geometry.{Granule, Sane, physical, atLevel}
 use Rattle.path.specs.Areas.{Area}
 use Rattle.path.specs.Paths.{indexAt, pathOf}
-use Rattle.path.specs.Laws.{level-some}
-use Rattle.path.specs.PathLaws.{path-of-at}
 use Rattle.entry.specs.Words.{tableWord}
 use Rattle.model.specs.Walk.{slot, atHeight}
 use Rattle.model.specs.Writes.{Write, store, wipe, Memory, memory, perform, performAll, mapWrites}
 use Rattle.plans.specs.Plan.{IsWrite}
-use Rattle.plans.specs.Steps.{starts-with, goes-on, words-next}
+use Rattle.plans.specs.Steps.{starts-with, goes-on, words-next, index-known}
 use Rattle.maps.specs.Parts.{lastTaken}
 
 module _ (G : Granule) (area : Area) (path list : List ℕ) (g word : ℕ) where
@@ -123,7 +121,7 @@ module _ (G : Granule) (list : List ℕ) (a g t f n k : ℕ) where
       → i ≡ atLevel G (n - k + g) (indexAt G a (n - k + g)) → place ≡ slot G u i
       → place ≡ slot G (lastTaken list t f k) (atHeight (pathOf G a) (n - k + g))
   place-later S {u} {i} h l d e p =
-      p ∙ (λ j. slot G ((d ∙ last k h) j) ((e ∙ level-some G l _ ∙ sym (path-of-at G a (omega (arith, S)))) j))
+      p ∙ (λ j. slot G ((d ∙ last k h) j) (index-known S a (n - k + g) l e j))
     where
       last : (k : ℕ) → 0 < k → getD list (f - k) 0 ≡ lastTaken list t f k
       last zero h = absurd (omega arith)

@@ -201,17 +201,7 @@ fn map_empty(
     if !may_take(list, (s.tables + s.tables2) as u32, way, free, need) {
         return map_refused(8, s);
     }
-    map_writes(
-        s,
-        words,
-        second,
-        list,
-        address,
-        height,
-        word,
-        place,
-        need,
-    );
+    map_writes(s, words, second, list, address, height, word, place, need);
     let rest = (free - need) as u64;
     Mapped {
         answer: MapAnswer::Taken(need as u64),
@@ -260,7 +250,18 @@ fn map_walk(
         return map_refused(met(s, &words[..], &second[..], height, address), s);
     }
     if left != height {
-        return map_empty(s, words, second, list, address, height, word, way, left, place);
+        return map_empty(
+            s,
+            words,
+            second,
+            list,
+            address,
+            height,
+            word,
+            way,
+            left,
+            place,
+        );
     }
     pool::put(words, second, place, word);
     Mapped {

@@ -1,10 +1,15 @@
--- Carrying out the writes of a call, one after the other.
-use Prim.Native.Nat.{ℕ, zero, suc, _+_}
+-- Carrying out the writes of a call, one after the other; the index by which an entry on the path is written.
+use Prim.Native.Nat.{ℕ, zero, suc, _+_, _<_}
 use mathlib.Core.Path.{_≡_, refl, sym, ap, _∙_}
 use mathlib.Core.List.{List, [], _∷_}
 use native.Mathlib.Numerals.{add-one}
+use native.Mathlib.Omega.{arith}
 use lib.ListN.{take, drop}
-use Rattle.path.specs.Geometry.{Granule}
+use Rattle.path.specs.Geometry.{Granule, Sane, atLevel}
+use Rattle.path.specs.Paths.{indexAt, pathOf}
+use Rattle.path.specs.Laws.{level-some}
+use Rattle.path.specs.PathLaws.{path-of-at}
+use Rattle.model.specs.Walk.{atHeight}
 use Rattle.model.specs.Writes.{Write, store, wipe, give, Memory, memory, perform, performAll}
 use Rattle.plans.specs.Plan.{IsWrite}
 
@@ -48,11 +53,9 @@ module _ (G : Granule) where
         ∙ rw add-one (ap (λ (m : Memory). m .words) (sym (next ws i (memory v₀ l) h)))
 
     -- words and free list after one write more
-    pub both-next : (m : Memory) {v l u k : List ℕ} → memory v l ≡ performAll G (take i ws) m
-        → ((l : List ℕ) → u ≡ perform G w (memory v l) .words)
-        → ((v : List ℕ) → k ≡ perform G w (memory v l) .list)
-        → memory u k ≡ performAll G (take (i + 1) ws) m
-    both-next m {v} {l} before one two =
-        (λ j. memory (one l j) (two v j))
-        ∙ ap (perform G w) before
-        ∙ rw add-one (sym (next ws i m h))
+    pub both-next : (m : Memory) {n o : Memory} → n ≡ performAll G (take i ws) m → o ≡ perform G w n → o ≡ performAll G (take (i + 1) ws) m
+    both-next m before one = one ∙ ap (perform G w) before ∙ rw add-one (sym (next ws i m h))
+
+-- the index of the path's entry, as the code has it
+pub index-known : {G : Granule} → Sane G → (a h : ℕ) {i : ℕ} → h < G .most → i ≡ atLevel G h (indexAt G a h) → i ≡ atHeight (pathOf G a) h
+index-known {G} S a h l e = e ∙ level-some G l _ ∙ sym (path-of-at G a (omega (arith, S)))

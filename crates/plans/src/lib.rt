@@ -27,7 +27,7 @@ pub fn step_words(granule: u64, words: &mut [u64], second: &mut [u64], s: Step)
 }
 
 // A step's write to the free list.
-pub fn step_list(list: &mut [u32], s: Step)
+fn step_list(list: &mut [u32], s: Step)
     ensures { λ _. ⌜ ((G : Granule) (w : List ℕ) → now (list .exit) ≡ perform G (writeOf s) (memory w (now (list .entry))) .list) ⌝ }
 {
     match s {
@@ -35,4 +35,14 @@ pub fn step_list(list: &mut [u32], s: Step)
         Step::Store { .. } => {}
         Step::Wipe { .. } => {}
     }
+}
+
+// A step's write, to the words or to the free list.
+pub fn step_all(granule: u64, words: &mut [u64], second: &mut [u64], list: &mut [u32], s: Step)
+    ensures { λ _. ⌜ ((k : ℕ) → length (now (words .entry)) ≡ entries (granuleOf granule) * k
+        → memory (now (words .exit) ++ now (second .exit)) (now (list .exit))
+        ≡ perform (granuleOf granule) (writeOf s) (memory (now (words .entry) ++ now (second .entry)) (now (list .entry)))) ⌝ }
+{
+    step_words(granule, words, second, s);
+    step_list(list, s);
 }
