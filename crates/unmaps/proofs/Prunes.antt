@@ -76,16 +76,17 @@ module _ (G : Granule) (way path : List ℕ) where
             ∙ ap (λ (x : ℕ). store x 0 ∷ give (f + i / 2) (atHeight way (h + i / 2)) ∷ pruneWrites G way path (suc (h + i / 2)) (suc (f + i / 2)) (n - i / 2 - 1))
             (sym (p ∙ ap (λ (g : ℕ). slot G (atHeight way g) (atHeight path g)) up)))
 
-    pub is-give : {place table : ℕ} → 0 < i → i % 2 ≡ 0 → i ≤ 2 * n → place ≡ f + (i / 2 - 1) → table ≡ getD way (3 - (h + (i + 1) / 2 - 1)) 0
+    pub is-give : {place table : ℕ} → 0 < i → i % 2 ≡ 0 → i ≤ 2 * n → place ≡ f + (h + (i + 1) / 2 - h - 1) → table ≡ getD way (3 - (h + (i + 1) / 2 - 1)) 0
         → IsWrite (unmapWrites G way path h f n) i (give place table)
     is-give {place} {table} some even m p t =
         let k : ℕ = i / 2 - 1 in
         let twice : i ≡ 2 * (i / 2 - 1) + 1 + 1 = omega arith in
+        let next : f + (h + (i + 1) / 2 - h - 1) ≡ f + (i / 2 - 1) = omega arith in
         let own : 3 - (h + (i + 1) / 2 - 1) ≡ 3 - (h + (i / 2 - 1)) = omega arith in
         starts-with (unmapWrites G way path h f n) i
         (ap (λ (j : ℕ). drop j (unmapWrites G way path h f n)) twice
         ∙ goes-on (unmapWrites G way path h f n) (2 * k + 1) (from-next k (omega arith))
-        ∙ (λ j. give (sym p j) (sym (t ∙ ap (λ (g : ℕ). getD way g 0) own) j) ∷ pruneWrites G way path (suc (h + k)) (suc (f + k)) (n - k - 1)))
+        ∙ (λ j. give (sym (p ∙ next) j) (sym (t ∙ ap (λ (g : ℕ). getD way g 0) own) j) ∷ pruneWrites G way path (suc (h + k)) (suc (f + k)) (n - k - 1)))
 
 -- carrying the writes out, two for each table
 module _ (G : Granule) (ws : List Write) (m₀ : Memory) where

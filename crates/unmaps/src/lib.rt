@@ -80,7 +80,7 @@ fn unmap_step(
         if i % 2 == 0 {
             let at = 3 - (height - 1);
             let table = way[at];
-            let place = free + (i / 2 - 1);
+            let place = free + (height - left - 1);
             return Step::Give { place, table };
         }
     }

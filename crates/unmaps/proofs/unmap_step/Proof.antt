@@ -33,6 +33,9 @@ element-copy-out-table c = omega arith
 sub-place : tie.Need-sub-place
 sub-place c = omega arith
 
+sub-place-2 : tie.Need-sub-place-2
+sub-place-2 c = omega arith
+
 add-place : tie.Need-add-place
 add-place c = omega (arith, granule-sane (c .before .before .before .args .granule))
 
@@ -76,6 +79,7 @@ unmap-step-spec =
     mul-table
     element-copy-out-table
     sub-place
+    sub-place-2
     add-place
     returns
     sub-at-3
