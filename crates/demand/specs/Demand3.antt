@@ -17,6 +17,7 @@ use Rattle.model.specs.Listing.{listW}
 use Rattle.model.specs.Ledger.{Ledger, region, regionsNeeded, freeTables, Entered, entered, formatL, addL, queryL, mapL, unmapL, auditL, listL}
 use Rattle.model.specs.Holes.{IsHole}
 use Rattle.laws.specs.Lists.{Distinct}
+use Rattle.image.specs.Images.{saveW, saveL}
 use Rattle.demand.specs.Holds.{Holds}
 use Rattle.demand.specs.Pages.{Paged}
 
@@ -27,6 +28,8 @@ pub data Ask : Type 0 where
   audit : Ask
   -- start, and how many places each of the two runs has; what is written is part of the answer
   listFrom : ℕ → ℕ → ℕ → Ask
+  -- how many bytes the run for the image has; what is written is part of the answer
+  saveTo : ℕ → Ask
 
 -- a call and its arguments, whatever they are
 pub data Call : Type 0 where
@@ -61,11 +64,13 @@ abbrev pub askW : Granule → Pool → Ask → Answer
 askW G p (query a) = queryW G p a
 askW G p audit = auditW G p
 askW G p (listFrom a places entries) = listW G p a places entries
+askW G p (saveTo room) = saveW G p room
 
 abbrev pub askL : Granule → Ledger → Ask → Answer
 askL G A (query a) = queryL G A a
 askL G A audit = auditL G A
 askL G A (listFrom a places entries) = listL G A a places entries
+askL G A (saveTo room) = saveL G A room
 
 -- one call on a pool
 abbrev pub stepW : Granule → Pool → Call → Done

@@ -12,10 +12,16 @@ pub mod Unmaps
 pub mod Others
 pub mod Pages
 pub mod Listings
+pub mod Saves
 pub mod Demand3
 pub mod Adds
 pub mod Rest
 pub mod Theorem
+pub mod Members
+pub mod Held
+pub mod Remade
+pub mod RoundTrip
+pub mod Restores
 pub mod Story
 pub mod Clauses
 pub mod ClauseLaws

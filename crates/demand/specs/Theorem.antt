@@ -22,6 +22,8 @@ use Rattle.model.specs.Sound.{mappingsOf}
 use Rattle.model.specs.Ledger.{Ledger, ledger, withLive, anyOverlap, coverOf, dropAt, freeTables, tablesLacking, Entered, entered, formatL, addL, queryOf, queryL, mapL, unmapOf, unmapL, auditL, sorted, listL}
 use Rattle.model.specs.Listing.{fromOn, listedOf}
 use Rattle.model.specs.ListingLaws.{lists-not}
+use Rattle.image.specs.Layout.{blocksFor, imageOf}
+use Rattle.image.specs.Images.{saved, badImage, recordOf, granuleWord, savedIn, saveL}
 use Rattle.demand.specs.Holds.{ledgerOf, Holds}
 use Rattle.demand.specs.Sims.{Sim, holds-sim, sim-holds}
 use Rattle.demand.specs.Queries.{own, ledger-is, pool-good, query-own}
@@ -31,7 +33,8 @@ use Rattle.demand.specs.Others.{fresh-sim, audit-own, accepted-holds}
 use Rattle.demand.specs.Adds.{add-step}
 use Rattle.demand.specs.Rest.{rests-own}
 use Rattle.demand.specs.Listings.{list-alike}
-use Rattle.demand.specs.Demand3.{Ask, query, audit, listFrom, Call, formatC, addC, mapC, unmapC, askC, askW, askL, goOn, stepW, stepL, answersW, answersL, poolAfter, ledgerAfter, Rests, Demand3}
+use Rattle.demand.specs.Saves.{save-alike}
+use Rattle.demand.specs.Demand3.{Ask, query, audit, listFrom, saveTo, Call, formatC, addC, mapC, unmapC, askC, askW, askL, goOn, stepW, stepL, answersW, answersL, poolAfter, ledgerAfter, Rests, Demand3}
 
 module _ (G : Granule) (Z : Sane G) where
   -- one call, by the pool's own ledger
@@ -95,6 +98,7 @@ module _ (G : Granule) (Z : Sane G) where
     ask-own (query a) = query-own G Z I tt a
     ask-own audit = audit-own G Z I
     ask-own (listFrom a places entries) = list-alike G Z (sim-holds G Z (own-sim G Z I)) a places entries
+    ask-own (saveTo room) = save-alike G Z (sim-holds G Z (own-sim G Z I)) room
 
     step-own : (c : Call) → Alike G Z (stepW G p c) (stepL G (own G Z I) c)
     step-own (formatC l r) = format-step l r
@@ -157,7 +161,7 @@ module _ (G : Granule) (Z : Sane G) where
   other f e = let z = f e in omega arith
 
   ask-never-eight : (A : Ledger) (q : Ask) → askL G A q ≢ refused 8
-  unfolding queryL auditL listL
+  unfolding queryL auditL listL savedIn saveL
   ask-never-eight A (query a) = go (leb (spaceOf G (A .levels)) a) (coverOf a (A .live))
     where
       go : (y : Bool) (m : Option Mapping) → cond y (refused 4) (queryOf G A a m) ≢ refused 8
@@ -171,6 +175,14 @@ module _ (G : Granule) (Z : Sane G) where
       go true true L = another 4 (λ e. omega arith)
       go true false L = lists-not G places L 8 []
       go false y L = another 1 (λ e. omega arith)
+  ask-never-eight A (saveTo room) = go (ltb room (512 * n)) (imageOf (A .levels) (granuleWord G) (map (recordOf G) (sorted (A .live))))
+    where
+      n : ℕ
+      n = 1 + blocksFor (length (sorted (A .live)))
+
+      go : (x : Bool) (image : List ℕ) → cond x (badImage n) (saved n image) ≢ refused 8
+      go true image = other (λ e. cc)
+      go false image = other (λ e. cc)
 
   never-eight : (A : Ledger) (c : Call) → stepL G A c .answer ≢ refused 8
   unfolding formatL addL mapL unmapL unmapOf

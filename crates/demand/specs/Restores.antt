@@ -1,0 +1,181 @@
+-- Restore: on a pool that holds a ledger it does what the ledger says, and what was saved is restored.
+use mathlib.Core.Path.{_≡_, refl, ap, sym, _∙_, subst}
+use mathlib.Core.Bool.{true}
+use mathlib.Core.Option.{none}
+use mathlib.Core.List.{List, [], _∷_, map, List·Memᴰ, List·Memᴰ·head as here, List·Memᴰ·tail as there}
+use Prim.Native.Nat.{ℕ, _≤_}
+use native.Mathlib.Omega.{arith}
+use lib.ListN.{length}
+use Rattle.path.specs.Geometry.{Granule, Sane, granuleOf}
+use Rattle.path.specs.Areas.{Area, areaOf, total}
+use Rattle.path.specs.Laws.{granule-sane, setup-good}
+use Rattle.model.specs.Answers.{Answer, answered, refusal, formatted, took, audited, Mapping, Pool, Done}
+use Rattle.model.specs.Calls.{formatW}
+use Rattle.model.specs.Audit.{auditW}
+use Rattle.model.specs.Sound.{Each, mappingsOf, WellFormed, OffTables}
+use Rattle.model.specs.MappingLaws.{pool-well}
+use Rattle.model.specs.Ledger.{Ledger, ledger, Entered, formatL}
+use Rattle.model.specs.ListingLaws.{climbing-distinct, pool-climbs}
+use Rattle.image.specs.Layout.{Rec, blocksFor, imageOf, Reading, recordsIn, badIn, readImage, Savable}
+use Rattle.image.specs.LayoutLaws.{readingOf, reading-records, reading-sound, read-back}
+use Rattle.image.specs.Images.{FewEntries, saved, restored, accepted, meant, recordOf, granuleWord, saveW, Came, came, mapPool, mapLedger, restoreOne, restoreRecs, restoreFrom, readInto, restoreW, enterFrom, restoreL}
+use Rattle.image.specs.RecordLaws.{saved-is, pool-savable, few-entries}
+use Rattle.image.specs.RestoreLaws.{from-alike, from-whole, record-mapped}
+use Rattle.demand.specs.Holds.{Holds}
+use Rattle.demand.specs.Listings.{good, sound}
+use Rattle.demand.specs.Others.{accepted-holds}
+use Rattle.demand.specs.Demand3.{Call, formatC, goOn, stepL, answersL, ledgerAfter, Demand3}
+use Rattle.demand.specs.Theorem.{step-holds, demand3, from-format}
+use Rattle.demand.specs.Members.{SameMembers}
+use Rattle.demand.specs.Saves.{few-mappings}
+use Rattle.demand.specs.RoundTrip.{RoundTrip}
+use Rattle.demand.specs.Remade.{mapOf, onto, onto-members, remade-ledger, same-answers}
+
+module _ (G : Granule) (Z : Sane G) where
+  -- ---- words and ledger
+
+  -- into a pool that holds an empty ledger, or any other, whatever the image
+  pub read-alike : (fresh : Pool) (empty : Ledger) (R : Reading) → Holds G fresh empty
+      → (restoreFrom G (mapPool G) fresh fresh R .answer ≡ restoreFrom G (mapLedger G) empty empty R .answer)
+      × Holds G (restoreFrom G (mapPool G) fresh fresh R .after) (restoreFrom G (mapLedger G) empty empty R .after)
+  read-alike fresh empty R H = from-alike G (mapPool G) (mapLedger G) (Holds G) (λ p A m K. step-holds G Z K (mapOf m)) fresh fresh empty empty R H H
+
+  -- Restore is the ledger's restore. Where format's tests refuse, the setup from before goes on, as after a refused format.
+  pub restore-step : {p : Pool} {A : Ledger} → Holds G p A → (levels : ℕ) (area : Area) (image : List ℕ)
+      → let d = goOn p (restoreW G levels area (p .words) (p .cut) (p .list) image) (formatW G levels area (p .words) (p .cut) (p .list) .answer) in
+      (d .answer ≡ restoreL G A levels area image .answer) × Holds G (d .after) (restoreL G A levels area image .after)
+  unfolding restoreW restoreL
+  restore-step {p} {A} H levels area image = go (F .answer) (E .answer) refl refl (step-holds G Z H (formatC levels area))
+    where
+      F : Done
+      F = formatW G levels area (p .words) (p .cut) (p .list)
+
+      E : Entered
+      E = formatL G A levels area
+
+      go : (a b : Answer) → F .answer ≡ a → E .answer ≡ b → (goOn p F a .answer ≡ E .answer) × Holds G (goOn p F a .after) (E .after)
+          → (goOn p (readInto G levels image F a) a .answer ≡ enterFrom G levels image E b .answer)
+          × Holds G (goOn p (readInto G levels image F a) a .after) (enterFrom G levels image E b .after)
+      go (answered v) (answered w) x y (e, h) = read-alike (F .after) (E .after) (readImage levels (granuleWord G) image) h
+      go (refusal k v) (refusal j w) x y (e, h) = (e, h)
+      go (answered v) (refusal j w) x y (e, h) = let z : _≡_ {A = ℕ} 0 1 = cc in absurd (omega arith)
+      go (refusal k v) (answered w) x y (e, h) = let z : _≡_ {A = ℕ} 0 1 = cc in absurd (omega arith)
+
+  -- Demand 3 from a restore, accepted or refused, whatever the memory was and whatever the image, where format's tests accept: the ledger is that of the
+  -- records that were mapped, and after a refusal it is empty.
+  pub from-restore : (levels : ℕ) (area : Area) (ws : List ℕ) (cut : ℕ) (list image : List ℕ) → formatW G levels area ws cut list .answer ≡ formatted → (cs : List Call)
+      → Demand3 G (restoreW G levels area ws cut list image .after)
+      (restoreFrom G (mapLedger G) (ledger levels area []) (ledger levels area []) (readImage levels (granuleWord G) image) .after) cs
+  unfolding restoreW
+  from-restore levels area ws cut list image f cs = demand3 G Z (subst (λ (a : Answer). Holds G (readInto G levels image D a .after) after) (sym f) (read-alike (D .after) empty R fresh .1)) cs
+    where
+      D : Done
+      D = formatW G levels area ws cut list
+
+      empty : Ledger
+      empty = ledger levels area []
+
+      R : Reading
+      R = readImage levels (granuleWord G) image
+
+      after : Ledger
+      after = restoreFrom G (mapLedger G) empty empty R .after
+
+      fresh : Holds G (D .after) empty
+      fresh = from-format G Z levels area ws cut list f [] .after 0 .holds
+
+  -- ---- the round trip
+
+  -- records of well-formed mappings whose maps are all accepted
+  recs-made : (A : Ledger) (R : List Mapping) → Each (WellFormed G) R
+      → ((a : Answer) → List·Memᴰ a (answersL G A (map mapOf R)) → (t : ℕ) × (a ≡ took t))
+      → restoreRecs G (mapLedger G) A (map (recordOf G) R) ≡ came restored (ledgerAfter G A (map mapOf R))
+  unfolding restoreRecs
+  recs-made A [] w f = refl
+  recs-made A (m ∷ R) w f =
+      let (t, e) = f (stepL G A (mapOf m) .answer) (here refl) in
+      let one : restoreOne G (mapLedger G) A (meant G (recordOf G m)) ≡ mapLedger G A m = record-mapped G (mapLedger G) Z A m (w m (here refl)) in
+      let takes : accepted (mapLedger G A m .answer) ≡ true = ap accepted e in
+      rw (one, takes) (recs-made (stepL G A (mapOf m) .after) R (λ k i. w k (there i)) (λ a i. f a (there i)))
+
+  -- What a pool that holds a ledger saved reads back as the records of its mappings, in rising order, and no block of it is bad.
+  pub saved-read : FewEntries G → {p : Pool} {A : Ledger} → Holds G p A → (room n : ℕ) (image : List ℕ) → saveW G p room ≡ saved n image
+      → (recordsIn (readImage (A .levels) (granuleWord G) image) ≡ map (recordOf G) (mappingsOf G p)) × (badIn (readImage (A .levels) (granuleWord G) image) ≡ none)
+  saved-read small {p} {A} H room n image e = (ap recordsIn read ∙ reading-records (blocksFor (length rs)) rs refl, ap badIn read ∙ reading-sound (blocksFor (length rs)) rs)
+    where
+      rs : List Rec
+      rs = map (recordOf G) (mappingsOf G p)
+
+      S : Savable (A .levels) (granuleWord G) rs
+      S = subst (λ (x : ℕ). Savable x (granuleWord G) rs) (H .levels-are) (pool-savable Z p (setup-good (H .good)) (few-mappings G Z H small))
+
+      read : readImage (A .levels) (granuleWord G) image ≡ readingOf (blocksFor (length rs)) rs
+      read = ap (readImage (A .levels) (granuleWord G)) (saved-is G p (good G Z H) (sound G Z H) room n image e ∙ ap (λ (x : ℕ). imageOf x (granuleWord G) rs) (H .levels-are)) ∙ read-back (A .levels) (granuleWord G) rs S
+
+  -- What a pool that holds a ledger saved, read with the same levels into memory with at least as many tables, in any split, and no frame under them.
+  pub round-trip : FewEntries G → {p : Pool} {A : Ledger} → Holds G p A → (room n : ℕ) (image : List ℕ) → saveW G p room ≡ saved n image
+      → (area : Area) (ws : List ℕ) (cut : ℕ) (list : List ℕ) → formatW G (A .levels) area ws cut list .answer ≡ formatted
+      → total (A .area) ≤ total area → ((m : Mapping) → List·Memᴰ m (A .live) → OffTables G area m)
+      → RoundTrip G p A area (restoreW G (A .levels) area ws cut list image)
+  unfolding restoreW
+  round-trip small {p} {A} H room n image e area ws cut list f l off =
+      subst (λ (a : Answer). RoundTrip G p A area (readInto G (A .levels) image D a)) (sym f) (record {
+        answer = alike .0 ∙ ap (λ (c : Came Ledger). c .answer) entered-all;
+        live = onto L [];
+        same = members;
+        holds = held;
+        query = same-answers G Z H area (onto L []) held members;
+      })
+    where
+      L : List Mapping
+      L = mappingsOf G p
+
+      D : Done
+      D = formatW G (A .levels) area ws cut list
+
+      empty : Ledger
+      empty = ledger (A .levels) area []
+
+      R : Reading
+      R = readImage (A .levels) (granuleWord G) image
+
+      fresh : Holds G (D .after) empty
+      fresh = from-format G Z (A .levels) area ws cut list f [] .after 0 .holds
+
+      well : Each (WellFormed G) L
+      well = pool-well Z p (setup-good (H .good))
+
+      M : ((a : Answer) → List·Memᴰ a (answersL G empty (map mapOf L)) → (t : ℕ) × (a ≡ took t)) × (ledgerAfter G empty (map mapOf L) ≡ ledger (A .levels) area (onto L []))
+      M = remade-ledger G Z H area L l off (climbing-distinct 0 L (pool-climbs Z p (setup-good (H .good)))) (λ m. (H .listed m, H .live m))
+
+      -- by the ledger all of them are entered
+      entered-all : restoreFrom G (mapLedger G) empty empty R ≡ came restored (ledger (A .levels) area (onto L []))
+      entered-all =
+          let (records, sound) = saved-read small H room n image e in
+          from-whole G (mapLedger G) empty empty R (ledger (A .levels) area (onto L [])) sound
+          (ap (restoreRecs G (mapLedger G) empty) records ∙ recs-made empty L well (M .0) ∙ ap (came restored) (M .1))
+
+      alike : (restoreFrom G (mapPool G) (D .after) (D .after) R .answer ≡ restoreFrom G (mapLedger G) empty empty R .answer)
+          × Holds G (restoreFrom G (mapPool G) (D .after) (D .after) R .after) (restoreFrom G (mapLedger G) empty empty R .after)
+      alike = read-alike (D .after) empty R fresh
+
+      held : Holds G (restoreFrom G (mapPool G) (D .after) (D .after) R .after) (ledger (A .levels) area (onto L []))
+      held = subst (Holds G (restoreFrom G (mapPool G) (D .after) (D .after) R .after)) (ap (λ (c : Came Ledger). c .after) entered-all) (alike .1)
+
+      members : SameMembers (onto L []) (A .live)
+      members x = (λ i. H .listed x (onto-members L x .0 i), λ i. onto-members L x .1 (H .live x i))
+
+  -- So with what a pool that the audit accepts saved.
+  pub audited-round-trip : FewEntries G → (p : Pool) (t m : ℕ) → auditW G p ≡ audited t m → (room n : ℕ) (image : List ℕ) → saveW G p room ≡ saved n image
+      → (area : Area) (ws : List ℕ) (cut : ℕ) (list : List ℕ) → formatW G (p .numbers .levels) area ws cut list .answer ≡ formatted
+      → total (areaOf (p .numbers)) ≤ total area → Each (OffTables G area) (mappingsOf G p)
+      → RoundTrip G p (ledger (p .numbers .levels) (areaOf (p .numbers)) (mappingsOf G p)) area (restoreW G (p .numbers .levels) area ws cut list image)
+  audited-round-trip small p t m e room n image s area ws cut list f l off = round-trip small (accepted-holds G Z p t m e) room n image s area ws cut list f l off
+
+-- ---- both granules: the one that a number names
+
+pub round-trip-of : (number : ℕ) {p : Pool} {A : Ledger} → Holds (granuleOf number) p A → (room n : ℕ) (image : List ℕ) → saveW (granuleOf number) p room ≡ saved n image
+    → (area : Area) (ws : List ℕ) (cut : ℕ) (list : List ℕ) → formatW (granuleOf number) (A .levels) area ws cut list .answer ≡ formatted
+    → total (A .area) ≤ total area → ((m : Mapping) → List·Memᴰ m (A .live) → OffTables (granuleOf number) area m)
+    → RoundTrip (granuleOf number) p A area (restoreW (granuleOf number) (A .levels) area ws cut list image)
+round-trip-of number = round-trip (granuleOf number) (granule-sane number) (few-entries number)
