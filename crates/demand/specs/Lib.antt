@@ -25,6 +25,7 @@ pub mod Held
 pub mod Remade
 pub mod RoundTrip
 pub mod Restores
+pub mod Parts
 pub mod Story
 pub mod ClauseLaws
 pub mod Good
