@@ -49,7 +49,7 @@ format-by-ledger number ws cut list levels area d e = record {
 }
 
 -- a format is accepted, or refused with 1
-format-either : (G : Granule) (levels : ℕ) (area : Area) (ws : List ℕ) (cut : ℕ) (list : List ℕ)
+pub format-either : (G : Granule) (levels : ℕ) (area : Area) (ws : List ℕ) (cut : ℕ) (list : List ℕ)
     → (formatW G levels area ws cut list .answer ≡ formatted) ⊎ (formatW G levels area ws cut list .answer ≡ refused 1)
 unfolding formatW
 format-either G levels area ws cut list = go (goodNumbers G levels area cut (length ws) (length list))
