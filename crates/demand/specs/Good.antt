@@ -18,7 +18,7 @@ use Rattle.model.specs.LeftLaws.{map-leaves, unmap-leaves, leaves-good}
 use Rattle.model.specs.Refusals.{Breaks}
 use Rattle.model.specs.RefusalLaws.{good-keeps, unbroken-good}
 use Rattle.image.specs.Layout.{readImage}
-use Rattle.image.specs.Images.{Came, granuleWord, mapPool, restoreFrom, readInto, restoreW}
+use Rattle.image.specs.Images.{granuleWord, mapPool, readInto, restoreW}
 use Rattle.image.specs.RestoreLaws.{from-alike}
 use Rattle.demand.specs.Demand3.{Call, formatC, restoreC, addC, mapC, unmapC, askC, goOn, goBack, stepW, poolAfter}
 

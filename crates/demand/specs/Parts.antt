@@ -1,22 +1,21 @@
 -- A restore is its parts, one after the other: its format, the maps of its records, and where it is refused the format again.
-use mathlib.Core.Path.{_≡_, refl, ap, sym, _∙_, subst}
+use mathlib.Core.Path.{_≡_, refl, ap, sym, _∙_}
 use mathlib.Core.Bool.{Bool, true, false, cond, false≢true}
 use mathlib.Core.List.{List, [], _∷_, _++_, map}
-use mathlib.Core.Option.{none}
 use Prim.Native.Nat.{ℕ, _-_, _*_}
 use native.Mathlib.Omega.{arith}
 use lib.ListN.{length, replicate, length-replicate}
 use Rattle.laws.specs.Lists.{down}
 use Rattle.laws.specs.ListLaws.{length-down}
 use Rattle.path.specs.Geometry.{Granule, Sane, entries}
-use Rattle.path.specs.Areas.{Area, areaOf, total}
+use Rattle.path.specs.Areas.{Area, total}
 use Rattle.path.specs.Numbers.{noSetup, setupOf, goodNumbers}
 use Rattle.path.specs.Laws.{good-numbers}
 use Rattle.model.specs.Answers.{Answer, formatted, refused, Mapping, Pool, pool, Done, done, refuse}
 use Rattle.model.specs.Calls.{formatW}
 use Rattle.model.specs.LeftLaws.{Kept, map-leaves, leaves-kept}
 use Rattle.model.specs.Ledger.{Ledger, ledger, Entered, entered, formatL}
-use Rattle.image.specs.Layout.{Rec, Reading, recordsIn, badIn, readImage}
+use Rattle.image.specs.Layout.{Rec, Reading, recordsIn, readImage}
 use Rattle.image.specs.Images.{restored, accepted, Meant, means, means-none, meant, granuleWord, Came, came, mapPool, mapLedger, restoreOne, restoreRecs, restoreFrom, readInto, restoreW, enterFrom, restoreL}
 use Rattle.image.specs.RestoreLaws.{from-flat, from-accepted}
 use Rattle.demand.specs.Sims.{Sim}

@@ -11,7 +11,7 @@ use Rattle.path.specs.Geometry.{Granule, heightOf}
 use Rattle.entry.specs.Words.{frameAt}
 use Rattle.entry.specs.declared.Entry.{Entry}
 use Rattle.entry.specs.declared.Entry.the-variants.{Empty, Table, Frame, Damaged}
-use Rattle.model.specs.Answers.{Answer, refused, Mapping}
+use Rattle.model.specs.Answers.{refused, Mapping}
 use Rattle.image.specs.Layout.{Rec, baseOf, Reading, recordsIn, badIn}
 use Rattle.image.specs.Images.{accepted, Meant, means, means-none, framedAt, meant, Came, came, restoreOne, restoreRecs, restoreFrom}
 use Rattle.image.specs.RestoreLaws.{lastly, from-flat}

@@ -2,20 +2,19 @@
 use mathlib.Core.Path.{_≡_, refl, ap, sym, _∙_, subst}
 use mathlib.Core.Logic.{_≢_, _⊎_, inl, inr, ⊎-elim}
 use mathlib.Core.Bool.{Bool, true, false, cond}
-use mathlib.Core.List.{List, [], _∷_, map, List·Memᴰ, List·Memᴰ·not-nil, List·Memᴰ·cases-cons}
+use mathlib.Core.List.{List, [], _∷_, map}
 use mathlib.Core.Option.{Option, some, none}
 use Prim.Native.Nat.{ℕ, zero, suc, _+_, _-_, _*_, _%_, _≤_, _<_}
 use native.Mathlib.Omega.{arith}
 use lib.Dec.{ltb, leb, eqb}
 use lib.ListN.{length, take, replicate}
 use Rattle.laws.specs.Lists.{down}
-use borrow.Author.Tests.{leb-true, leb-false, eqb-true}
 use Rattle.path.specs.Geometry.{Granule, granuleOf, entries, pageSize, sizeAt, spaceOf, physical, heightOf, Sane}
 use Rattle.path.specs.Laws.{granule-sane, good-numbers}
 use Rattle.path.specs.Areas.{Area, areaOf, oneRegion, withSecond, total, GoodArea, meetsArea}
 use Rattle.path.specs.Numbers.{noSetup, setupOf, goodNumbers, goodAdding, GoodNumbers}
 use Rattle.model.specs.Answers.{Answer, answered, refusal, formatted, added, took, gave, found, audited, refused, Mapping, mapping, Pool, pool, Done, done, refuse}
-use Rattle.model.specs.Calls.{walkTo, formatW, formatN, queryW, mapTests, mapAt, mapW, unmapTests, unmapAt, unmapW}
+use Rattle.model.specs.Calls.{formatW, formatN, queryW, mapTests, unmapTests}
 use Rattle.model.specs.Audit.{auditW, noneInside}
 use Rattle.model.specs.GranuleLaws.{format-accepted}
 use Rattle.model.specs.Sound.{mappingsOf}
@@ -27,8 +26,8 @@ use Rattle.image.specs.Images.{saved, badImage, recordOf, granuleWord, savedIn,
 use Rattle.image.specs.RestoreLaws.{from-alike}
 use Rattle.demand.specs.Holds.{ledgerOf, Holds}
 use Rattle.demand.specs.Sims.{Sim, holds-sim, sim-holds}
-use Rattle.demand.specs.Queries.{own, ledger-is, pool-good, query-own}
-use Rattle.demand.specs.Maps.{Alike, ledgerMap, own-sim}
+use Rattle.demand.specs.Queries.{own, ledger-is, query-own}
+use Rattle.demand.specs.Maps.{Alike, own-sim}
 use Rattle.demand.specs.Steps.{map-step, unmap-step}
 use Rattle.demand.specs.Others.{fresh-sim, audit-own, accepted-holds}
 use Rattle.demand.specs.Adds.{add-step}

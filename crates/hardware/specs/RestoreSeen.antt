@@ -1,6 +1,6 @@
 -- A restore's single writes are those of its parts, one after the other, and carried out they leave what it left.
 use mathlib.Core.Path.{_≡_, refl, ap, sym, _∙_}
-use mathlib.Core.Logic.{_≢_, _⊎_, inl, inr, ⊎-elim}
+use mathlib.Core.Logic.{_≢_, _⊎_, ⊎-elim}
 use mathlib.Core.Bool.{Bool, true, false, cond, false≢true}
 use mathlib.Core.List.{List, [], _∷_, _++_, map}
 use Prim.Native.Nat.{ℕ}
@@ -20,7 +20,7 @@ use Rattle.demand.specs.Demand3.{Call, formatC, restoreC, addC, mapC, unmapC, a
 use Rattle.demand.specs.Parts.{restore-leaves, restore-enters}
 use Rattle.demand.specs.ClauseLaws.{format-either}
 use Rattle.demand.specs.Restores.{restored-not-one}
-use Rattle.hardware.specs.Machine.{accepts, tablesIn, pastOne, formatPlan, partPlan, planEach, wrote, writesOf, writesThrough, OfParts}
+use Rattle.hardware.specs.Machine.{accepts, tablesIn, pastOne, formatPlan, partPlan, planEach, writesOf, writesThrough, OfParts}
 use Rattle.hardware.specs.Plans.{perform-append}
 use Rattle.hardware.specs.Views.{Carried, map-view, map-carries, format-view, format-carries}
 
