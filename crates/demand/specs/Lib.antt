@@ -12,7 +12,9 @@ pub mod Unmaps
 pub mod Pages
 pub mod Listings
 pub mod Steps
+pub mod Saves
 pub mod Demand3
+pub mod Refused
 pub mod RangeWays
 pub mod RangeMaps
 pub mod RangeUnmaps
@@ -20,7 +22,13 @@ pub mod Others
 pub mod Adds
 pub mod Rest
 pub mod Theorem
-pub mod Story
 pub mod Clauses
+pub mod Members
+pub mod Held
+pub mod Remade
+pub mod RoundTrip
+pub mod Restores
+pub mod Parts
+pub mod Story
 pub mod ClauseLaws
 pub mod Good

@@ -19,10 +19,10 @@ use Rattle.demand.specs.Holds.{Holds}
 use Rattle.demand.specs.Pages.{Paged}
 
 module _ (G : Granule) (Z : Sane G) {p : Pool} {A : Ledger} (H : Holds G p A) where
-  good : goodPool G p ≡ true
+  pub good : goodPool G p ≡ true
   good = setup-good (H .good)
 
-  sound : soundTree (ofPool G p) ≡ true
+  pub sound : soundTree (ofPool G p) ≡ true
   sound = wf-tree G p (record { tree = H .sound .tree; once = H .sound .once })
 
   -- the ledger's order is that of the tree

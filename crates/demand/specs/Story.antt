@@ -17,9 +17,8 @@ use Rattle.model.specs.Calls.{mapTests, mapW}
 use Rattle.model.specs.Audit.{noneInside}
 use Rattle.model.specs.Ledger.{Ledger, ledger, withLive, anyOverlap, tablesNeeded, tablesLacking, freeTables, Entered, entered, addL, mapL}
 use Rattle.demand.specs.Holds.{Holds}
-use Rattle.demand.specs.Sims.{Sim, holds-sim}
-use Rattle.demand.specs.Queries.{own, ledger-is}
-use Rattle.demand.specs.Maps.{ledgerMap, tests-fine, count-is}
+use Rattle.demand.specs.Maps.{ledgerMap, tests-fine}
+use Rattle.demand.specs.Held.{held-count}
 use Rattle.demand.specs.Demand3.{addC, mapC, stepW, stepL}
 use Rattle.demand.specs.Theorem.{map-other, step-holds}
 
@@ -120,11 +119,5 @@ module _ (G : Granule) (Z : Sane G) where
       tests : mapTests G (B .levels) (B .area) a b size k ≡ 0
       tests = tests-with G (A .levels) (A .area) (withSecond (A .area) q m) a b size k (before .0) apart
 
-      I : Sim G Z p A
-      I = holds-sim G Z H
-
-      all : suc (p .numbers .free + tablesNeeded G (A .levels) (A .live)) ≡ total (A .area)
-      all = subst (λ (C : Ledger). suc (p .numbers .free + tablesNeeded G (C .levels) (C .live)) ≡ total (C .area)) (sym (ledger-is G Z I)) (count-is G Z I tt tt)
-
       free : freeTables G B ≡ p .numbers .free + m
-      free = omega (arith, all, new .0)
+      free = omega (arith, held-count G Z H, new .0)

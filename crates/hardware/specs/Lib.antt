@@ -9,6 +9,7 @@ pub mod Watch
 pub mod MapSeen
 pub mod UnmapSeen
 pub mod RangeSeen
+pub mod RestoreSeen
 pub mod Theorem
 pub mod Meanings
 pub mod Examples

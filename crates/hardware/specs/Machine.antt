@@ -22,7 +22,7 @@ use Rattle.path.specs.Areas.{Area, areaOf, total, tableAt}
 use Rattle.path.specs.Paths.{pathOf}
 use Rattle.path.specs.declared.Setup.{Setup}
 use Rattle.entry.specs.Words.{frameWord}
-use Rattle.model.specs.Answers.{Mapping, mapping, Answer, accepts, tablesIn, Pool, Done}
+use Rattle.model.specs.Answers.{Mapping, mapping, Answer, answered, refusal, accepts, tablesIn, Pool, Done}
 use Rattle.model.specs.Walk.{slot, atHeight}
 use Rattle.model.specs.Writes.{Write, store, wipe, give, memory, performAll, mapWrites, unmapWrites}
 use Rattle.model.specs.Calls.{walkTo, unmapW}
@@ -30,7 +30,7 @@ use Rattle.model.specs.Ranges.{pieces, pagesOf, mapPiece}
 use Rattle.model.specs.Ledger.{Ledger, holdsAddress, coverOf}
 use Rattle.demand.specs.Holds.{Holds}
 use Rattle.model.specs.Adds.{lent}
-use Rattle.demand.specs.Demand3.{Call, formatC, addC, mapC, unmapC, mapRangeC, unmapRangeC, askC, parts, stepW, stepL, poolAfter, ledgerAfter}
+use Rattle.demand.specs.Demand3.{Call, formatC, restoreC, addC, mapC, unmapC, mapRangeC, unmapRangeC, askC, parts, stepW, stepL, poolAfter, ledgerAfter}
 
 -- ---- the hardware
 
@@ -281,7 +281,10 @@ unfoldable pub singles : Granule → List Write → List Write
 singles G [] = []
 singles G (w ∷ ws) = single G w ++ singles G ws
 
--- the single writes of a map that takes t tables, and of an unmap that gives back t
+-- the single writes of a format, of a map that takes t tables, and of an unmap that gives back t
+abbrev pub formatPlan : Pool → Area → List Write
+formatPlan p area = zerosFrom 0 (length (p .words)) ++ placesFrom 0 (total area)
+
 abbrev pub mapPlan : Granule → Pool → Mapping → ℕ → List Write
 mapPlan G p m t =
     let g = heightOf G (m .size) in
@@ -298,9 +301,21 @@ planEach call plan p [] = []
 planEach call plan p (x ∷ xs) =
     (let answer = call p x .answer in cond (accepts answer) (plan p x (tablesIn answer)) []) ++ planEach call plan (call p x .after) xs
 
--- the single writes of an accepted call that takes or gives back t tables; a range's are those of its pieces, or of its pages
+-- a restore's parts are formats and maps
+abbrev pub partPlan : Granule → Pool → Call → ℕ → List Write
+partPlan G p (formatC levels area) t = formatPlan p area
+partPlan G p (restoreC levels area image) t = []
+partPlan G p (addC q m second rest) t = []
+partPlan G p (mapC a b size k) t = mapPlan G p (mapping a b size k) t
+partPlan G p (unmapC a) t = []
+partPlan G p (mapRangeC a b len k) t = []
+partPlan G p (unmapRangeC a len) t = []
+partPlan G p (askC q) t = []
+
+-- the single writes of a call that takes or gives back t tables; a restore's are those of its parts, a range's those of its pieces, or of its pages
 abbrev pub plan : Granule → Pool → Call → ℕ → List Write
-plan G p (formatC levels area) t = zerosFrom 0 (length (p .words)) ++ placesFrom 0 (total area)
+plan G p (formatC levels area) t = formatPlan p area
+plan G p (restoreC levels area image) t = planEach (stepW G) (partPlan G) p (parts G (restoreC levels area image))
 plan G p (addC q m second rest) t = zerosFrom (p .cut) (entries G * m) ++ placesAbove (p .numbers .tables) (p .numbers .free) m
 plan G p (mapC a b size k) t = mapPlan G p (mapping a b size k) t
 plan G p (unmapC a) t = unmapPlan G p a t
@@ -308,13 +323,30 @@ plan G p (mapRangeC a b len k) t = planEach (mapPiece G) (mapPlan G) p (pieces G
 plan G p (unmapRangeC a len) t = planEach (unmapW G) (unmapPlan G) p (pagesOf G a len)
 plan G p (askC q) t = []
 
--- a refused call writes nothing
+-- no refusal, or one past 1, which comes with nothing more
+abbrev pub pastOne : Answer → Bool
+pastOne (answered values) = true
+pastOne (refusal k []) = cond (eqb k 1) false true
+pastOne (refusal k (x ∷ values)) = true
+
+-- whether a call that answers so has written: not where it is refused, but for a restore, which 1 alone keeps from writing
+abbrev pub wrote : Call → Answer → Bool
+wrote (formatC levels area) r = accepts r
+wrote (restoreC levels area image) r = pastOne r
+wrote (addC q m second rest) r = accepts r
+wrote (mapC a b size k) r = accepts r
+wrote (unmapC a) r = accepts r
+wrote (mapRangeC a b len k) r = accepts r
+wrote (unmapRangeC a len) r = accepts r
+wrote (askC q) r = accepts r
+
 abbrev pub writesOf : Granule → Pool → Call → List Write
-writesOf G p c = let answer = stepW G p c .answer in cond (accepts answer) (plan G p c (tablesIn answer)) []
+writesOf G p c = let answer = stepW G p c .answer in cond (wrote c answer) (plan G p c (tablesIn answer)) []
 
 -- the memory that a call with this answer writes to: the pool's, and for an add that is accepted also the second run and the longer list that it is lent
 abbrev pub writtenTo : Pool → Call → Answer → Pool
 writtenTo p (formatC levels area) r = p
+writtenTo p (restoreC levels area image) r = p
 writtenTo p (addC q m second rest) r = cond (accepts r) (lent p second rest) p
 writtenTo p (mapC a b size k) r = p
 writtenTo p (unmapC a) r = p
@@ -375,10 +407,11 @@ pub record InTurn (G : Granule) (p : Pool) (live : ℕ → List Mapping) (ws : L
   -- after each write every address reads by the parts that are done: each of them changes what is read at once
   pub reads : (j : ℕ) (mem : ℕ → ℕ) → Stands G (areaOf (p .numbers)) (wordsAfter G p (take j ws)) mem → Reads G (p .numbers) (λ _. mem) (live (done j))
 
--- a call whose writes change what is read at once: any but a range, whose parts do so in turn, and format, which clears the words one after the other, so
--- that its addresses fault in turn
+-- a call whose writes change what is read at once: any but a range, whose parts do so in turn, format, which clears the words one after the other, so that
+-- its addresses fault in turn, and restore, which begins with one
 abbrev pub AtOnce : Call → Type 0
 AtOnce (formatC levels area) = ⊥
+AtOnce (restoreC levels area image) = ⊥
 AtOnce (addC q m second rest) = Unit {0}
 AtOnce (mapC a b size k) = Unit {0}
 AtOnce (unmapC a) = Unit {0}
@@ -386,9 +419,22 @@ AtOnce (mapRangeC a b len k) = ⊥
 AtOnce (unmapRangeC a len) = ⊥
 AtOnce (askC q) = Unit {0}
 
+-- a call that uses no table again which it has emptied: any but a restore, whose maps take the tables that its format has cleared. A walk that is under way
+-- from before the one to after the other may read a table's new words for its old ones, as where a later call uses a table again.
+abbrev pub NoneAgain : Call → Type 0
+NoneAgain (formatC levels area) = Unit {0}
+NoneAgain (restoreC levels area image) = ⊥
+NoneAgain (addC q m second rest) = Unit {0}
+NoneAgain (mapC a b size k) = Unit {0}
+NoneAgain (unmapC a) = Unit {0}
+NoneAgain (mapRangeC a b len k) = Unit {0}
+NoneAgain (unmapRangeC a len) = Unit {0}
+NoneAgain (askC q) = Unit {0}
+
 -- a range
 abbrev pub Ranged : Call → Type 0
 Ranged (formatC levels area) = ⊥
+Ranged (restoreC levels area image) = ⊥
 Ranged (addC q m second rest) = ⊥
 Ranged (mapC a b size k) = ⊥
 Ranged (unmapC a) = ⊥
@@ -402,9 +448,10 @@ heldBy x none = false
 heldBy x (some m) = holdsAddress x m
 
 -- whether a call may change what an address reads: map those of its mapping, unmap those of the mapping that holds its address, a range those of the range,
--- format all, add none
+-- format and restore all, add none
 abbrev pub concerns : Ledger → Call → ℕ → Bool
 concerns A (formatC levels area) x = true
+concerns A (restoreC levels area image) x = true
 concerns A (addC q m second rest) x = false
 concerns A (mapC a b size k) x = holdsAddress x (mapping a b size k)
 concerns A (unmapC a) x = heldBy x (coverOf a (A .live))
@@ -428,9 +475,10 @@ pub record Machine (G : Granule) (p : Pool) (A : Ledger) (c : Call) : Type 0 whe
   -- after each of them, in whatever order they become visible, and while a walk is under way, the ledger is read, or the one after the call
   pub each-write : AtOnce c → Switch G (memoryOf G p c) (A .live) (stepL G A c .after .live) (writesOf G p c)
   pub any-order : AtOnce c → AnyOrder G (memoryOf G p c) (A .live) (stepL G A c .after .live) (writesOf G p c)
-  pub overtaken : Overtaken G (memoryOf G p c) (A .live) (stepL G A c .after .live) (writesOf G p c)
-  -- a range that is accepted is its pieces, or its pages; after each write what is read is the ledger after the first so many of them
-  pub by-parts : Ranged c → accepts (stepW G p c .answer) ≡ true → OfParts G p A c
+  pub overtaken : NoneAgain c → Overtaken G (memoryOf G p c) (A .live) (stepL G A c .after .live) (writesOf G p c)
+  -- a call that writes is its parts: a restore its format, its maps, and where it is refused the format again; a range its pieces, or its pages,
+  pub by-parts : wrote c (stepW G p c .answer) ≡ true → OfParts G p A c
+  -- and after each write of a range what is read is the ledger after the first so many of them
   pub in-turn : Ranged c → InTurn G p (λ i. ledgerAfter G A (take i (parts G c)) .live) (writesOf G p c)
   -- and outside the mapping or the range concerned the two ledgers say the same
   pub outside : (x : ℕ) → concerns A c x ≡ false → told (stepL G A c .after .live) x ≡ told (A .live) x

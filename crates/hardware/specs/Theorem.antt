@@ -2,7 +2,7 @@
 use mathlib.Core.Path.{_≡_, refl, ap, sym, _∙_, subst}
 use mathlib.Core.Logic.{_≢_, inl}
 use mathlib.Core.Bool.{Bool, true, false, cond, false≢true}
-use mathlib.Core.List.{List, [], _∷_, _++_, map}
+use mathlib.Core.List.{List, [], _∷_, _++_, map, append-nil}
 use Prim.Native.Nat.{ℕ, zero, suc, _+_, _-_, _*_, _<_}
 use native.Mathlib.Omega.{arith}
 use native.Mathlib.Nat.{mul-add}
@@ -38,9 +38,9 @@ use Rattle.demand.specs.Maps.{own-sim}
 use Rattle.demand.specs.RangeMaps.{pieces-left, map-range-step, map-range-parts}
 use Rattle.demand.specs.RangeUnmaps.{pages-left, unmap-range-step, unmap-range-parts}
 use Rattle.demand.specs.Theorem.{step-alike, after-sim}
-use Rattle.demand.specs.Demand3.{Call, formatC, addC, mapC, unmapC, mapRangeC, unmapRangeC, askC, askW, goBack, mapOf, parts, stepW, stepL, ledgerAfter}
-use Rattle.hardware.specs.Machine.{told, Stands, Reads, zerosFrom, placesFrom, placesAbove, plan, writesOf, writtenTo, memoryOf, wordsAfter, visible}
-use Rattle.hardware.specs.Machine.{mapPlan, unmapPlan, planEach, writesThrough, Switch, InTurn, Overtaken, AtOnce, Ranged, concerns, OfParts, Machine, Promise}
+use Rattle.demand.specs.Demand3.{Call, formatC, restoreC, addC, mapC, unmapC, mapRangeC, unmapRangeC, askC, askW, goBack, mapOf, parts, stepW, stepL, poolAfter, ledgerAfter}
+use Rattle.hardware.specs.Machine.{told, Stands, Reads, zerosFrom, placesFrom, placesAbove, plan, wrote, writesOf, writtenTo, memoryOf, wordsAfter, visible}
+use Rattle.hardware.specs.Machine.{mapPlan, unmapPlan, planEach, writesThrough, Switch, InTurn, Overtaken, AtOnce, NoneAgain, Ranged, concerns, OfParts, Machine, Promise}
 use Rattle.hardware.specs.Trees.{Within, within-same}
 use Rattle.hardware.specs.Plans.{Each, each-append, each-take, each-visible, each-zeros, Beyond, beyond-leave, places-beyond, left, Sound, Clears, clears-sound, places-clear}
 use Rattle.hardware.specs.Views.{no-write, MapView, map-takes, map-refuses, map-view, UnmapView, unmap-gives, unmap-refuses, unmap-view}
@@ -50,10 +50,12 @@ use Rattle.hardware.specs.Watch.{Seen, at-rest, overtaken-up, overtaken-
 use Rattle.hardware.specs.MapSeen.{map-seen}
 use Rattle.hardware.specs.UnmapSeen.{unmap-seen, unmap-outside}
 use Rattle.hardware.specs.RangeSeen.{maps-overtaken, unmaps-overtaken, turn-none, turn-more, outside-not, gain-outside, drop-outside}
+use Rattle.hardware.specs.RestoreSeen.{restore-parts, restore-carried}
 
--- the live mappings after a call, by its answer
+-- the live mappings after a call, by its answer; those after a restore are not known by that
 abbrev liveBy : Granule → List Mapping → Call → Answer → List Mapping
 liveBy G L (formatC levels area) r = cond (accepts r) [] L
+liveBy G L (restoreC levels area image) r = []
 liveBy G L (addC q m second rest) r = L
 liveBy G L (mapC a b size k) r = cond (accepts r) (mapping a b size k ∷ L) L
 liveBy G L (unmapC a) r = cond (accepts r) (dropAt a L) L
@@ -61,14 +63,26 @@ liveBy G L (mapRangeC a b len k) r = cond (accepts r) (gain (pieces G a b len k)
 liveBy G L (unmapRangeC a len) r = cond (accepts r) (dropIn a len L) L
 liveBy G L (askC q) r = L
 
-live-by : (G : Granule) (A : Ledger) (c : Call) → stepL G A c .after .live ≡ liveBy G (A .live) c (stepL G A c .answer)
-live-by G A (formatC levels area) = format-live G A levels area
-live-by G A (addC q m second rest) = add-live G A q m (length second) (freeTables G A + length rest)
-live-by G A (mapC a b size k) = map-live G A a b size k
-live-by G A (unmapC a) = unmap-live G A a
-live-by G A (mapRangeC a b len k) = map-range-live G A a b len k
-live-by G A (unmapRangeC a len) = unmap-range-live G A a len
-live-by G A (askC q) = refl
+live-by : (G : Granule) (A : Ledger) (c : Call) → NoneAgain c → stepL G A c .after .live ≡ liveBy G (A .live) c (stepL G A c .answer)
+live-by G A (formatC levels area) n = format-live G A levels area
+live-by G A (restoreC levels area image) n = absurd n
+live-by G A (addC q m second rest) n = add-live G A q m (length second) (freeTables G A + length rest)
+live-by G A (mapC a b size k) n = map-live G A a b size k
+live-by G A (unmapC a) n = unmap-live G A a
+live-by G A (mapRangeC a b len k) n = map-range-live G A a b len k
+live-by G A (unmapRangeC a len) n = unmap-range-live G A a len
+live-by G A (askC q) n = refl
+
+-- a call that changes what is read at once uses no table again
+once-none : (c : Call) → AtOnce c → NoneAgain c
+once-none (formatC levels area) o = tt
+once-none (restoreC levels area image) o = o
+once-none (addC q m second rest) o = tt
+once-none (mapC a b size k) o = tt
+once-none (unmapC a) o = tt
+once-none (mapRangeC a b len k) o = tt
+once-none (unmapRangeC a len) o = tt
+once-none (askC q) o = tt
 
 module _ (G : Granule) (Z : Sane G) {p : Pool} {A : Ledger} (I : Sim G Z p A) where
   abbrev live : List Mapping
@@ -204,30 +218,31 @@ module _ (G : Granule) (Z : Sane G) {p : Pool} {A : Ledger} (I : Sim G Z p A) wh
 
   -- every call, by its answer
   abbrev By : Call → Done → Type 0
-  By c d = Seen G (writtenTo p c (d .answer)) live (liveBy G live c (d .answer)) (cond (accepts (d .answer)) (plan G p c (tablesIn (d .answer))) []) (AtOnce c)
+  By c d = Seen G (writtenTo p c (d .answer)) live (liveBy G live c (d .answer)) (cond (wrote c (d .answer)) (plan G p c (tablesIn (d .answer))) []) (AtOnce c)
 
-  seen : (c : Call) → By c (stepW G p c)
-  seen (formatC levels area) = go (stepW G p (formatC levels area)) (format-view G p levels area)
+  seen : (c : Call) → NoneAgain c → By c (stepW G p c)
+  seen (formatC levels area) n = go (stepW G p (formatC levels area)) (format-view G p levels area)
     where
       go : (d : Done) → FormatView G p levels area d → By (formatC levels area) d
       go d (format-clears N) = format-seen levels area N
       go d format-refuses = idle ⊥
-  seen (addC q m second rest) = go (addW G (lent p second rest) q m) (add-view G (lent p second rest) q m)
+  seen (restoreC levels area image) n = absurd n
+  seen (addC q m second rest) n = go (addW G (lent p second rest) q m) (add-view G (lent p second rest) q m)
     where
       go : (d : Done) → AddView G (lent p second rest) q m d → By (addC q m second rest) (goBack p d (d .answer))
       go d (add-grows a b c) = add-seen q m second rest (may-add G (lent p second rest) q m a .0 .one-yet .1)
       go d (add-refuses k) = idle (Unit {0})
-  seen (mapC a b size k) = go (stepW G p (mapC a b size k)) (map-view G p a b size k)
+  seen (mapC a b size k) n = go (stepW G p (mapC a b size k)) (map-view G p a b size k)
     where
       go : (d : Done) → MapView G p a b size k d → By (mapC a b size k) d
       go d (map-takes Y) = map-seen G Z I a b size k Y (Unit {0})
       go d (map-refuses j) = idle (Unit {0})
-  seen (unmapC a) = go (stepW G p (unmapC a)) (unmap-view G p a)
+  seen (unmapC a) n = go (stepW G p (unmapC a)) (unmap-view G p a)
     where
       go : (d : Done) → UnmapView G p a d → By (unmapC a) d
       go d (unmap-gives b k Y) = unmap-seen G Z I a b k Y (Unit {0})
       go d (unmap-refuses j v) = idle (Unit {0})
-  seen (mapRangeC a b len k) = go (mapRangeW G p a b len k) refl (map-range-view G p a b len k)
+  seen (mapRangeC a b len k) n = go (mapRangeW G p a b len k) refl (map-range-view G p a b len k)
     where
       ms : List Mapping
       ms = pieces G a b len k
@@ -245,7 +260,7 @@ module _ (G : Granule) (Z : Sane G) {p : Pool} {A : Ledger} (I : Sim G Z p A) wh
         overtaken = subst (λ (L : List Mapping). Overtaken G p live L (planEach (mapPiece G) (mapPlan G) p ms)) (gained _ (ap (λ (x : Done). x .answer) q)) (maps-overtaken G Z ms I);
       }
       go d q (range-refuses j) = idle ⊥
-  seen (unmapRangeC a len) = go (unmapRangeW G p a len) refl (unmap-range-view G p a len)
+  seen (unmapRangeC a len) n = go (unmapRangeW G p a len) refl (unmap-range-view G p a len)
     where
       xs : List ℕ
       xs = pagesOf G a len
@@ -263,12 +278,13 @@ module _ (G : Granule) (Z : Sane G) {p : Pool} {A : Ledger} (I : Sim G Z p A) wh
             (unmaps-overtaken G Z xs I (unmaps-carried G p xs));
       }
       go d q (range-stays j) = idle ⊥
-  seen (askC q) = idle-or (accepts (askW G p q)) (Unit {0})
+  seen (askC q) n = idle-or (accepts (askW G p q)) (Unit {0})
 
   -- and outside the mapping concerned
   elsewhere : (c : Call) (x : ℕ) → concerns (own G Z I) c x ≡ false → told (liveBy G live c (stepW G p c .answer)) x ≡ told live x
   unfolding coverOf
   elsewhere (formatC levels area) x e = let z : _≡_ {A = ℕ} 0 1 = cc in absurd (omega arith)
+  elsewhere (restoreC levels area image) x e = let z : _≡_ {A = ℕ} 0 1 = cc in absurd (omega arith)
   elsewhere (addC q m second rest) x e = refl
   elsewhere (mapC a b size k) x e = go (accepts (stepW G p (mapC a b size k) .answer))
     where
@@ -297,28 +313,42 @@ module _ (G : Granule) (Z : Sane G) {p : Pool} {A : Ledger} (I : Sim G Z p A) wh
   elsewhere (askC q) x e = refl
 
   -- the ledger's mappings after the call
-  after-is : (c : Call) → liveBy G live c (stepW G p c .answer) ≡ stepL G (own G Z I) c .after .live
-  after-is c = ap (liveBy G live c) (step-alike G Z (own-sim G Z I) c .answer) ∙ sym (live-by G (own G Z I) c)
+  after-is : (c : Call) → NoneAgain c → liveBy G live c (stepW G p c .answer) ≡ stepL G (own G Z I) c .after .live
+  after-is c n = ap (liveBy G live c) (step-alike G Z (own-sim G Z I) c .answer) ∙ sym (live-by G (own G Z I) c n)
 
-  seen-own : (c : Call) → Seen G (memoryOf G p c) live (stepL G (own G Z I) c .after .live) (writesOf G p c) (AtOnce c)
-  seen-own c = subst (λ (L : List Mapping). Seen G (memoryOf G p c) live L (writesOf G p c) (AtOnce c)) (after-is c) (seen c)
+  seen-own : (c : Call) → NoneAgain c → Seen G (memoryOf G p c) live (stepL G (own G Z I) c .after .live) (writesOf G p c) (AtOnce c)
+  seen-own c n = subst (λ (L : List Mapping). Seen G (memoryOf G p c) live L (writesOf G p c) (AtOnce c)) (after-is c n) (seen c n)
+
+  outside-own : (c : Call) (x : ℕ) → concerns (own G Z I) c x ≡ false → told (stepL G (own G Z I) c .after .live) x ≡ told live x
+  outside-own c x e = ap (λ (L : List Mapping). told L x) (sym (after-is c (not-all c e))) ∙ elsewhere c x e
+    where
+      -- a restore concerns every address
+      not-all : (c : Call) → concerns (own G Z I) c x ≡ false → NoneAgain c
+      not-all (formatC levels area) e = tt
+      not-all (restoreC levels area image) e = let z : _≡_ {A = ℕ} 0 1 = cc in absurd (omega arith)
+      not-all (addC q m second rest) e = tt
+      not-all (mapC a b size k) e = tt
+      not-all (unmapC a) e = tt
+      not-all (mapRangeC a b len k) e = tt
+      not-all (unmapRangeC a len) e = tt
+      not-all (askC q) e = tt
 
   -- by the ledger that the pool holds
-  seen-by : (c : Call) → Seen G (memoryOf G p c) (A .live) (stepL G A c .after .live) (writesOf G p c) (AtOnce c)
-  seen-by c = subst (λ (B : Ledger). Seen G (memoryOf G p c) (B .live) (stepL G B c .after .live) (writesOf G p c) (AtOnce c)) (sym (ledger-is G Z I)) (seen-own c)
+  seen-by : (c : Call) → NoneAgain c → Seen G (memoryOf G p c) (A .live) (stepL G A c .after .live) (writesOf G p c) (AtOnce c)
+  seen-by c n = subst (λ (B : Ledger). Seen G (memoryOf G p c) (B .live) (stepL G B c .after .live) (writesOf G p c) (AtOnce c)) (sym (ledger-is G Z I)) (seen-own c n)
 
   rest-by : (mem : ℕ → ℕ) → Stands G (areaOf (p .numbers)) (p .words) mem → Reads G (p .numbers) (λ _. mem) (A .live)
   rest-by mem S = subst (λ (B : Ledger). Reads G (p .numbers) (λ _. mem) (B .live)) (sym (ledger-is G Z I)) (at-rest G Z I mem S)
 
   outside-by : (c : Call) (x : ℕ) → concerns A c x ≡ false → told (stepL G A c .after .live) x ≡ told (A .live) x
-  outside-by c = subst (λ (B : Ledger). (x : ℕ) → concerns B c x ≡ false → told (stepL G B c .after .live) x ≡ told (B .live) x) (sym (ledger-is G Z I))
-      (λ x e. ap (λ (L : List Mapping). told L x) (sym (after-is c)) ∙ elsewhere c x e)
+  outside-by c = subst (λ (B : Ledger). (x : ℕ) → concerns B c x ≡ false → told (stepL G B c .after .live) x ≡ told (B .live) x) (sym (ledger-is G Z I)) (outside-own c)
 
 -- ---- ranges, part by part
 
 -- a part of a range: a map, or an unmap
 abbrev Small : Call → Type 0
 Small (formatC levels area) = ⊥
+Small (restoreC levels area image) = ⊥
 Small (addC q m second rest) = ⊥
 Small (mapC a b size k) = Unit {0}
 Small (unmapC a) = Unit {0}
@@ -328,6 +358,7 @@ Small (askC q) = ⊥
 
 small-leaves : (G : Granule) (p : Pool) (c : Call) → Small c → Leaves G p (stepW G p c .after)
 small-leaves G p (formatC levels area) s = absurd s
+small-leaves G p (restoreC levels area image) s = absurd s
 small-leaves G p (addC q m second rest) s = absurd s
 small-leaves G p (mapC a b size k) s = map-leaves G p a b size k
 small-leaves G p (unmapC a) s = unmap-leaves G p a
@@ -338,6 +369,7 @@ small-leaves G p (askC q) s = absurd s
 -- it writes to the pool, and changes what is read at once
 small-here : (G : Granule) (p : Pool) (c : Call) → Small c → (memoryOf G p c ≡ p) × AtOnce c
 small-here G p (formatC levels area) s = absurd s
+small-here G p (restoreC levels area image) s = absurd s
 small-here G p (addC q m second rest) s = absurd s
 small-here G p (mapC a b size k) s = (refl, tt)
 small-here G p (unmapC a) s = (refl, tt)
@@ -365,8 +397,8 @@ module _ (G : Granule) (Z : Sane G) where
       let (h, o) = small-here G p c (s .0) in
       let K = leaves-kept (small-leaves G p c (s .0)) in
       turn-more G p (stepW G p c .after) (λ i. ledgerAfter G A (take i (c ∷ cs)) .live) (writesOf G p c) (writesThrough G (stepW G p c .after) cs) (K .levels) (K .area)
-      (subst (λ (q : Pool). performAll G (writesOf G p c) (memory (q .words) (q .list)) ≡ memory (stepW G p c .after .words) (stepW G p c .after .list)) h (writes-carried G p c))
-      (subst (λ (q : Pool). Switch G q (A .live) (stepL G A c .after .live) (writesOf G p c)) h (seen-by G Z I c .each-write o))
+      (subst (λ (q : Pool). performAll G (writesOf G p c) (memory (q .words) (q .list)) ≡ memory (stepW G p c .after .words) (stepW G p c .after .list)) h (writes-carried G p (restore-carried G Z I) c))
+      (subst (λ (q : Pool). Switch G q (A .live) (stepL G A c .after .live) (writesOf G p c)) h (seen-by G Z I c (once-none c o) .each-write o))
       (turns cs (s .1) (step-alike G Z I c .sim))
 
 -- the writes of the pieces, and of the pages, are those of their calls
@@ -390,11 +422,9 @@ module _ (G : Granule) (Z : Sane G) {p : Pool} {A : Ledger} (I : Sim G Z p A) wh
   abbrev Turns : Call → Done → Type 0
   Turns c d = InTurn G p (λ i. ledgerAfter G A (take i (parts G c)) .live) (cond (accepts (d .answer)) (plan G p c (tablesIn (d .answer))) [])
 
-  abbrev Made : Call → Done → Type 0
-  Made c d = accepts (d .answer) ≡ true → OfParts G p A c
-
   range-turns : (c : Call) → Ranged c → InTurn G p (λ i. ledgerAfter G A (take i (parts G c)) .live) (writesOf G p c)
   range-turns (formatC levels area) r = absurd r
+  range-turns (restoreC levels area image) r = absurd r
   range-turns (addC q m second rest) r = absurd r
   range-turns (mapC a b size k) r = absurd r
   range-turns (unmapC a) r = absurd r
@@ -414,12 +444,21 @@ module _ (G : Granule) (Z : Sane G) {p : Pool} {A : Ledger} (I : Sim G Z p A) wh
       go d (range-stays j) = none-turn G p A (parts G (unmapRangeC a len)) [] refl (rest-by G Z I)
   range-turns (askC q) r = absurd r
 
-  range-parts : (c : Call) → Ranged c → accepts (stepW G p c .answer) ≡ true → OfParts G p A c
-  range-parts (formatC levels area) r e = absurd r
-  range-parts (addC q m second rest) r e = absurd r
-  range-parts (mapC a b size k) r e = absurd r
-  range-parts (unmapC a) r e = absurd r
-  range-parts (mapRangeC a b len k) r e = go (mapRangeW G p a b len k) refl (map-range-view G p a b len k)
+  -- a call that is one by itself is its parts
+  one-part : (c : Call) → parts G c ≡ c ∷ [] → OfParts G p A c
+  one-part c e = record {
+    writes = sym (append-nil (writesOf G p c)) ∙ ap (writesThrough G p) (sym e);
+    leaves = ap (poolAfter G p) (sym e);
+    enters = ap (ledgerAfter G A) (sym e);
+  }
+
+  parts-of : (c : Call) → wrote c (stepW G p c .answer) ≡ true → OfParts G p A c
+  parts-of (formatC levels area) e = one-part (formatC levels area) refl
+  parts-of (restoreC levels area image) e = restore-parts G Z I levels area image e
+  parts-of (addC q m second rest) e = one-part (addC q m second rest) refl
+  parts-of (mapC a b size k) e = one-part (mapC a b size k) refl
+  parts-of (unmapC a) e = one-part (unmapC a) refl
+  parts-of (mapRangeC a b len k) e = go (mapRangeW G p a b len k) refl (map-range-view G p a b len k)
     where
       c : Call
       c = mapRangeC a b len k
@@ -431,7 +470,7 @@ module _ (G : Granule) (Z : Sane G) {p : Pool} {A : Ledger} (I : Sim G Z p A) wh
         enters = map-range-parts G Z I a b len k _ (ap (λ (x : Done). x .answer) q);
       }
       go d q (range-refuses j) = absurd (false≢true (sym (ap (λ (x : Done). accepts (x .answer)) q) ∙ e))
-  range-parts (unmapRangeC a len) r e = go (unmapRangeW G p a len) refl (unmap-range-view G p a len)
+  parts-of (unmapRangeC a len) e = go (unmapRangeW G p a len) refl (unmap-range-view G p a len)
     where
       c : Call
       c = unmapRangeC a len
@@ -443,16 +482,16 @@ module _ (G : Granule) (Z : Sane G) {p : Pool} {A : Ledger} (I : Sim G Z p A) wh
         enters = unmap-range-parts G Z I a len _ _ (ap (λ (x : Done). x .answer) q);
       }
       go d q (range-stays j) = absurd (false≢true (sym (ap (λ (x : Done). accepts (x .answer)) q) ∙ e))
-  range-parts (askC q) r e = absurd r
+  parts-of (askC q) e = one-part (askC q) refl
 
   pub machine : (c : Call) → Machine G p A c
   machine c = record {
     rest = rest-by G Z I;
-    whole = writes-carried G p c;
-    each-write = seen-by G Z I c .each-write;
-    any-order = seen-by G Z I c .any-order;
-    overtaken = seen-by G Z I c .overtaken;
-    by-parts = range-parts c;
+    whole = writes-carried G p (restore-carried G Z I) c;
+    each-write = λ o. seen-by G Z I c (once-none c o) .each-write o;
+    any-order = λ o. seen-by G Z I c (once-none c o) .any-order o;
+    overtaken = λ n. seen-by G Z I c n .overtaken;
+    by-parts = parts-of c;
     in-turn = range-turns c;
     outside = outside-by G Z I c;
   }

@@ -33,13 +33,13 @@ use Rattle.model.specs.Ranges.{mapRangeTests, unmapRangeTests, pieces, pagesOf,
 use Rattle.model.specs.LeftLaws.{perform-append}
 use Rattle.model.specs.RangeMapped.{MapRangeView, range-takes, range-refuses, map-range-view}
 use Rattle.model.specs.RangeUnmapped.{UnmapRangeView, range-clears, range-stays, unmap-range-view}
-use Rattle.demand.specs.Demand3.{Call, formatC, addC, mapC, unmapC, mapRangeC, unmapRangeC, askC, askW, goOn, goBack, stepW}
-use Rattle.hardware.specs.Machine.{zerosFrom, placesFrom, placesAbove, mapPlan, unmapPlan, planEach, plan, writesOf, writtenTo, memoryOf}
+use Rattle.demand.specs.Demand3.{Call, formatC, restoreC, addC, mapC, unmapC, mapRangeC, unmapRangeC, askC, askW, goOn, goBack, stepW}
+use Rattle.hardware.specs.Machine.{zerosFrom, placesFrom, placesAbove, mapPlan, unmapPlan, planEach, plan, wrote, writesOf, writtenTo, memoryOf}
 use Rattle.hardware.specs.Plans.{Each, InRange, zeros-carried, singles-carried, places-carried, above-carried, map-range, prune-range}
 
 -- the single writes of a call that came to d
 abbrev writesBy : Granule → Pool → Call → Done → List Write
-writesBy G p c d = cond (accepts (d .answer)) (plan G p c (tablesIn (d .answer))) []
+writesBy G p c d = cond (wrote c (d .answer)) (plan G p c (tablesIn (d .answer))) []
 
 -- carried out, they leave what it left
 abbrev Carries : Granule → Pool → Call → Done → Type 0
@@ -295,17 +295,21 @@ module _ (G : Granule) (p : Pool) where
   unmap-range-carries a len d (range-clears B) = unmaps-carried G p (pagesOf G a len)
   unmap-range-carries a len d (range-stays j) = refl
 
-  -- a call's single writes are what it does to the lent memory, whatever the pool
-  pub writes-carried : (c : Call)
-      → performAll G (writesOf G p c) (memory (memoryOf G p c .words) (memoryOf G p c .list)) ≡ memory (stepW G p c .after .words) (stepW G p c .after .list)
+  -- a call's single writes are what it does to the lent memory, whatever the pool; a restore's are its parts'
+  abbrev pub Carried : Call → Type 0
+  Carried c =
+      performAll G (writesOf G p c) (memory (memoryOf G p c .words) (memoryOf G p c .list)) ≡ memory (stepW G p c .after .words) (stepW G p c .after .list)
+
+  pub writes-carried : ((levels : ℕ) (area : Area) (image : List ℕ) → Carried (restoreC levels area image)) → (c : Call) → Carried c
   unfolding performAll
-  writes-carried (formatC levels area) = format-carries G p levels area _ (format-view G p levels area)
-  writes-carried (addC q m second rest) = add-carries G p q m second rest _ (add-view G (lent p second rest) q m)
-  writes-carried (mapC a b size k) = map-carries G p a b size k _ (map-view G p a b size k)
-  writes-carried (unmapC a) = unmap-carries G p a _ (unmap-view G p a)
-  writes-carried (mapRangeC a b len k) = map-range-carries a b len k _ (map-range-view G p a b len k)
-  writes-carried (unmapRangeC a len) = unmap-range-carries a len _ (unmap-range-view G p a len)
-  writes-carried (askC q) = ap (λ (ws : List Write). performAll G ws (memory (p .words) (p .list))) (no-write (accepts (askW G p q)))
+  writes-carried f (formatC levels area) = format-carries G p levels area _ (format-view G p levels area)
+  writes-carried f (restoreC levels area image) = f levels area image
+  writes-carried f (addC q m second rest) = add-carries G p q m second rest _ (add-view G (lent p second rest) q m)
+  writes-carried f (mapC a b size k) = map-carries G p a b size k _ (map-view G p a b size k)
+  writes-carried f (unmapC a) = unmap-carries G p a _ (unmap-view G p a)
+  writes-carried f (mapRangeC a b len k) = map-range-carries a b len k _ (map-range-view G p a b len k)
+  writes-carried f (unmapRangeC a len) = unmap-range-carries a len _ (unmap-range-view G p a len)
+  writes-carried f (askC q) = ap (λ (ws : List Write). performAll G ws (memory (p .words) (p .list))) (no-write (accepts (askW G p q)))
 
 -- ---- the ledger after a call, by its answer
 

@@ -18,6 +18,7 @@ use Rattle.model.specs.Sound.{Rising, mappingsOf}
 use Rattle.model.specs.MappingLaws.{rising-within, pool-rises, pool-within, pool-well}
 use Rattle.model.specs.Ledger.{Ledger, ledger, withLive, anyOverlap, coverOf, dropAt, tablesLacking, freeTables, Entered, entered, mapL, unmapOf, unmapL, queryOf, queryL, auditL}
 use Rattle.demand.specs.Holds.{Holds}
+use Rattle.demand.specs.Held.{rising-one}
 use Rattle.demand.specs.Sims.{holds-sim}
 use Rattle.demand.specs.Maps.{tests-fine}
 use Rattle.demand.specs.Others.{accepted-holds}
@@ -26,24 +27,6 @@ use Rattle.demand.specs.Theorem.{rests, step-holds, from-format}
 use Rattle.upstream.specs.State.{Has, StartsAt, Overlap, Within, OverlapsVmem, SameMappings, SameConstants, Mappable, MapPre, Wf, Maps, UnmapPre, Unmaps, Queries}
 use Rattle.model.specs.LedgerLaws.{any-overlap, cover-some, cover-none}
 use Rattle.upstream.specs.Facts.{drop-has}
-
--- of mappings that rise, two that share a byte are one
-rising-one : (lo hi : ℕ) (l : List Mapping) → Rising lo hi l → (m k : Mapping) → List·Memᴰ m l → List·Memᴰ k l → Overlap (m .at) (m .size) (k .at) (k .size) → m ≡ k
-unfolding Rising
-rising-one lo hi [] r m k i j o = absurd (List·Memᴰ·not-nil i)
-rising-one lo hi (x ∷ l) r m k i j o = go (List·Memᴰ·cases-cons i) (List·Memᴰ·cases-cons j) (rising-one (x .at + x .size) hi l (r .1) m k)
-  where
-    end : {y : Mapping} → y ≡ x → y .at + y .size ≡ x .at + x .size
-    end e = ap (λ (z : Mapping). z .at + z .size) e
-
-    later : (y : Mapping) → List·Memᴰ y l → x .at + x .size ≤ y .at
-    later y i = rising-within (x .at + x .size) hi l (r .1) y i .0
-
-    go : (m ≡ x) ⊎ List·Memᴰ m l → (k ≡ x) ⊎ List·Memᴰ k l → (List·Memᴰ m l → List·Memᴰ k l → Overlap (m .at) (m .size) (k .at) (k .size) → m ≡ k) → m ≡ k
-    go (inl e) (inl f) ih = e ∙ sym f
-    go (inl e) (inr j) ih = absurd (omega (arith, later k j, o .1, end e))
-    go (inr i) (inl f) ih = absurd (omega (arith, later m i, o .0, end f))
-    go (inr i) (inr j) ih = ih i j o
 
 -- the trait's `view`: the pool's numbers, and the mappings in its words
 abbrev pub view : Granule → Pool → Ledger

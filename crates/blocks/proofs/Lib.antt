@@ -1,0 +1,5 @@
+pub mod Words
+pub mod Sums
+pub mod Turns
+pub mod Blocks
+pub mod Stores

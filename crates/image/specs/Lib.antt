@@ -1,0 +1,13 @@
+pub mod Bytes
+pub mod ByteLaws
+pub mod Check
+pub mod CheckLaws
+pub mod Layout
+pub mod LayoutLaws
+pub mod Exact
+pub mod Damage
+pub mod ImageCases
+pub mod Images
+pub mod RecordLaws
+pub mod RestoreLaws
+pub mod RestoreCases
