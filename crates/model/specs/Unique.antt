@@ -16,13 +16,16 @@ use Rattle.model.specs.declared.Mapped.{Mapped}
 use Rattle.model.specs.declared.UnmapAnswer.{UnmapAnswer}
 use Rattle.model.specs.declared.UnmapAnswer.the-variants as U
 use Rattle.model.specs.declared.Unmapped.{Unmapped}
+use Rattle.model.specs.declared.UnmapRangeAnswer.{UnmapRangeAnswer}
+use Rattle.model.specs.declared.UnmapRangeAnswer.the-variants as R
+use Rattle.model.specs.declared.RangeUnmapped.{RangeUnmapped}
 use Rattle.model.specs.declared.QueryAnswer.{QueryAnswer}
 use Rattle.model.specs.declared.QueryAnswer.the-variants as Q
 use Rattle.model.specs.declared.AuditAnswer.{AuditAnswer}
 use Rattle.model.specs.declared.AuditAnswer.the-variants as A
 use Rattle.model.specs.declared.ListAnswer.{ListAnswer}
 use Rattle.model.specs.declared.ListAnswer.the-variants as L
-use Rattle.model.specs.Answers.{Mapping, mapping, Answer, found, saysFormat, saysAdd, saysMap, saysUnmap, saysQuery, saysAudit, saysList, Pool, Done, left, formatDid, addDid, mapDid, unmapDid, Listed, listDid}
+use Rattle.model.specs.Answers.{Mapping, mapping, Answer, found, saysFormat, saysAdd, saysMap, saysUnmap, saysUnmapRange, saysQuery, saysAudit, saysList, Pool, Done, left, formatDid, addDid, mapDid, unmapDid, unmapRangeDid, Listed, listDid}
 
 pub format-unique : (a b : FormatAnswer) → saysFormat a ≡ saysFormat b → a ≡ b
 format-unique F.Done F.Done e = refl
@@ -46,6 +49,12 @@ unmap-unique (U.Hole c z) (U.Refused j) e = cc
 unmap-unique (U.Refused j) (U.Given b s k t) e = cc
 unmap-unique (U.Refused j) (U.Hole c z) e = cc
 unmap-unique (U.Refused j) (U.Refused k) e = cc
+
+pub unmap-range-unique : (a b : UnmapRangeAnswer) → saysUnmapRange a ≡ saysUnmapRange b → a ≡ b
+unmap-range-unique (R.Removed m t) (R.Removed m′ t′) e = cc
+unmap-range-unique (R.Removed m t) (R.Refused k) e = cc
+unmap-range-unique (R.Refused j) (R.Removed m t) e = cc
+unmap-range-unique (R.Refused j) (R.Refused k) e = cc
 
 -- the values of a mapping tell it
 pub found-same : (m k : Mapping) → found m ≡ found k → m ≡ k
@@ -95,7 +104,7 @@ list-unique (L.Refused j) (L.Refused k) p q r s e = cc
 pub listed-unique : (a b : ListAnswer) (p q r s : List ℕ) → listDid a p q ≡ listDid b r s → (a ≡ b) × ((p ≡ r) × (q ≡ s))
 listed-unique a b p q r s e = (list-unique a b p q r s (ap (λ (l : Listed). l .answer) e), (ap (λ (l : Listed). l .places) e, ap (λ (l : Listed). l .entries) e))
 
--- Format, the adding call, map and unmap hand back an answer with a setup, and change the lent memory: equal promises give equal records and equal
+-- Format, the adding call, map and unmap, of a mapping or of a range, hand back an answer with a setup, and change the lent memory: equal promises give equal records and equal
 -- memory, run by run.
 told :
     {A B : Type 0} (says : A → Answer) → ((x y : A) → says x ≡ says y → x ≡ y) → (both : A → Setup → B)
@@ -119,3 +128,6 @@ module _ (a b c d l m : List ℕ) where
 
   pub unmapped-unique : (x y : Unmapped) → unmapDid x a b l ≡ unmapDid y c d m → (x ≡ y) × ((a ≡ c) × (b ≡ d) × (l ≡ m))
   unmapped-unique x y = told saysUnmap unmap-unique (λ a s. record { answer = a; setup = s })
+
+  pub range-unmapped-unique : (x y : RangeUnmapped) → unmapRangeDid x a b l ≡ unmapRangeDid y c d m → (x ≡ y) × ((a ≡ c) × (b ≡ d) × (l ≡ m))
+  range-unmapped-unique x y = told saysUnmapRange unmap-range-unique (λ a s. record { answer = a; setup = s })
