@@ -305,13 +305,7 @@ pub fn list<'a>(
 
 // Writes the blocks of records of a pool's mappings, so many of them, from block 1 on: a page of mappings to a block, each from the base that the one before it
 // answered.
-fn records_save<'a>(
-    s: Setup,
-    words: &'a [u64],
-    second: &'a [u64],
-    image: &mut [u8],
-    count: u64,
-)
+fn records_save<'a>(s: Setup, words: &'a [u64], second: &'a [u64], image: &mut [u8], count: u64)
     requires { ⌜ SaveFit s (now words ++ now second) (length (now words)) (length (now second)) (length (now image)) count ⌝ }
     ensures { λ _. ⌜ now (image .exit) ≡ placed (now (image .entry)) 512 (bytesOfBlocks (recBlocks (blocksFor count) 1
         (map (recordOf (granuleOf (s .granule))) (treeOf s (now (words .entry) ++ now (second .entry)) .mappings)))) ⌝ }
