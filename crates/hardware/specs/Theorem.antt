@@ -69,6 +69,22 @@ once-none (mapC a b size k) o = tt
 once-none (unmapC a) o = tt
 once-none (askC q) o = tt
 
+-- a call that is one by itself is its parts
+one-part : (G : Granule) (p : Pool) (A : Ledger) (c : Call) → parts G c ≡ c ∷ [] → OfParts G p A c
+one-part G p A c e = record {
+  writes = sym (append-nil (writesOf G p c)) ∙ ap (writesThrough G p) (sym e);
+  leaves = ap (poolAfter G p) (sym e);
+  enters = ap (ledgerAfter G A) (sym e);
+}
+
+parts-of : (G : Granule) (Z : Sane G) {p : Pool} {A : Ledger} → Sim G Z p A → (c : Call) → wrote c (stepW G p c .answer) ≡ true → OfParts G p A c
+parts-of G Z {p} {A} I (formatC levels area) e = one-part G p A (formatC levels area) refl
+parts-of G Z I (restoreC levels area image) e = restore-parts G Z I levels area image e
+parts-of G Z {p} {A} I (addC q m second rest) e = one-part G p A (addC q m second rest) refl
+parts-of G Z {p} {A} I (mapC a b size k) e = one-part G p A (mapC a b size k) refl
+parts-of G Z {p} {A} I (unmapC a) e = one-part G p A (unmapC a) refl
+parts-of G Z {p} {A} I (askC q) e = one-part G p A (askC q) refl
+
 module _ (G : Granule) (Z : Sane G) {p : Pool} {A : Ledger} (I : Sim G Z p A) where
   abbrev live : List Mapping
   live = map (shown G Z) (I .L)
@@ -201,22 +217,6 @@ module _ (G : Granule) (Z : Sane G) {p : Pool} {A : Ledger} (I : Sim G Z p A) wh
         overtaken = λ seen mem S a. idle (Unit {0}) .overtaken (λ _. []) mem (λ h. unseen (visible (seen h) new) (each-visible (Beyond (p .cut)) (seen h) new beyond) (mem h) (S h)) a;
       }
 
-  -- a call is its parts
-  one-part : (c : Call) → parts G c ≡ c ∷ [] → OfParts G p (own G Z I) c
-  one-part c e = record {
-    writes = sym (append-nil (writesOf G p c)) ∙ ap (writesThrough G p) (sym e);
-    leaves = ap (poolAfter G p) (sym e);
-    enters = ap (ledgerAfter G (own G Z I)) (sym e);
-  }
-
-  parts-own : (c : Call) → wrote c (stepW G p c .answer) ≡ true → OfParts G p (own G Z I) c
-  parts-own (formatC levels area) e = one-part (formatC levels area) refl
-  parts-own (restoreC levels area image) e = restore-parts G Z (own-sim G Z I) levels area image e
-  parts-own (addC q m second rest) e = one-part (addC q m second rest) refl
-  parts-own (mapC a b size k) e = one-part (mapC a b size k) refl
-  parts-own (unmapC a) e = one-part (unmapC a) refl
-  parts-own (askC q) e = one-part (askC q) refl
-
   -- every call, by its answer
   abbrev By : Call → Done → Type 0
   By c d = Seen G (writtenTo p c (d .answer)) live (liveBy live c (d .answer)) (cond (wrote c (d .answer)) (plan G p c (tablesIn (d .answer))) []) (AtOnce c)
@@ -286,7 +286,7 @@ module _ (G : Granule) (Z : Sane G) {p : Pool} {A : Ledger} (I : Sim G Z p A) wh
     each-write = λ o. S (once-none c o) .each-write o;
     any-order = λ o. S (once-none c o) .any-order o;
     overtaken = λ n. S n .overtaken;
-    by-parts = parts-own c;
+    by-parts = parts-of G Z (own-sim G Z I) c;
     outside = outside-own c;
   }
     where
