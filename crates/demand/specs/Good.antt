@@ -1,5 +1,5 @@
 -- A good pool stays good: make any sequence of calls, with any arguments, on any pool that keeps the rules of refusal 1, be it sound or damaged.
-use mathlib.Core.Path.{_≡_, refl, subst}
+use mathlib.Core.Path.{_≡_, refl, ap, subst}
 use mathlib.Core.Bool.{Bool, true, false, cond}
 use mathlib.Core.List.{List, [], _∷_}
 use Prim.Native.Nat.{ℕ, _-_}
@@ -9,7 +9,7 @@ use Rattle.path.specs.Geometry.{Granule}
 use Rattle.path.specs.Areas.{Area, total}
 use Rattle.path.specs.Numbers.{noSetup, setupOf, goodNumbers}
 use Rattle.path.specs.Laws.{setup-good}
-use Rattle.model.specs.Answers.{formatted, Pool, pool, Done, done, refuse}
+use Rattle.model.specs.Answers.{Answer, answered, refusal, formatted, Mapping, Pool, pool, Done, done, refuse}
 use Rattle.model.specs.Calls.{goodPool, formatW}
 use Rattle.model.specs.AuditLaws.{format-audit, audit-counts}
 use Rattle.model.specs.Adds.{lent, addW}
@@ -17,7 +17,10 @@ use Rattle.model.specs.AddLaws.{AddView, add-grows, add-refuses, add-view, may-
 use Rattle.model.specs.LeftLaws.{map-leaves, unmap-leaves, leaves-good}
 use Rattle.model.specs.Refusals.{Breaks}
 use Rattle.model.specs.RefusalLaws.{good-keeps, unbroken-good}
-use Rattle.demand.specs.Demand3.{Call, formatC, addC, mapC, unmapC, askC, goOn, goBack, stepW, poolAfter}
+use Rattle.image.specs.Layout.{readImage}
+use Rattle.image.specs.Images.{granuleWord, mapPool, readInto, restoreW}
+use Rattle.image.specs.RestoreLaws.{from-alike}
+use Rattle.demand.specs.Demand3.{Call, formatC, restoreC, addC, mapC, unmapC, askC, goOn, goBack, stepW, poolAfter}
 
 module _ (G : Granule) where
   -- an accepted format leaves a good pool, a refused one the pool from before
@@ -35,6 +38,29 @@ module _ (G : Granule) where
       go true e = subst (λ (y : Bool). goodPool G (left y .after) ≡ true) e (fresh e)
       go false e = g
 
+  -- a restore that formats maps into a good pool, or leaves the one that format left
+  restore-good : (p : Pool) (levels : ℕ) (area : Area) (image : List ℕ) → goodPool G p ≡ true → goodPool G (stepW G p (restoreC levels area image) .after) ≡ true
+  unfolding restoreW
+  restore-good p levels area image g = go (F .answer) (format-good p levels area g)
+    where
+      F : Done
+      F = formatW G levels area (p .words) (p .cut) (p .list)
+
+      -- a pool with itself, and good
+      Kept : Pool → Pool → Type 0
+      Kept q r = (q ≡ r) × (goodPool G q ≡ true)
+
+      mapped : (q r : Pool) (m : Mapping) → Kept q r → (mapPool G q m .answer ≡ mapPool G r m .answer) × Kept (mapPool G q m .after) (mapPool G r m .after)
+      mapped q r m (e, h) = (
+        ap (λ (x : Pool). mapPool G x m .answer) e,
+        (ap (λ (x : Pool). mapPool G x m .after) e, leaves-good (map-leaves G q (m .at) (m .frame) (m .size) (m .attributes)) h),
+      )
+
+      go : (a : Answer) → goodPool G (goOn p F a .after) ≡ true → goodPool G (goOn p (readInto G levels image F a) a .after) ≡ true
+      go (refusal k v) h = h
+      go (answered v) h =
+          from-alike G (mapPool G) (mapPool G) Kept mapped (F .after) (F .after) (F .after) (F .after) (readImage levels (granuleWord G) image) (refl, h) (refl, h) .1 .1
+
   -- an accepted add leaves a good pool, a refused one the pool from before
   add-good-step : (p : Pool) (q m : ℕ) (second rest : List ℕ) → goodPool G p ≡ true → goodPool G (stepW G p (addC q m second rest) .after) ≡ true
   add-good-step p q m second rest g = go (addW G (lent p second rest) q m) (add-view G (lent p second rest) q m)
@@ -45,6 +71,7 @@ module _ (G : Granule) where
 
   pub stays-good : (p : Pool) (c : Call) → goodPool G p ≡ true → goodPool G (stepW G p c .after) ≡ true
   stays-good p (formatC l r) g = format-good p l r g
+  stays-good p (restoreC l r image) g = restore-good p l r image g
   stays-good p (addC q m second rest) g = add-good-step p q m second rest g
   stays-good p (mapC a b s k) g = leaves-good (map-leaves G p a b s k) g
   stays-good p (unmapC a) g = leaves-good (unmap-leaves G p a) g

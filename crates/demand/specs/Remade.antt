@@ -19,14 +19,10 @@ use Rattle.model.specs.Ledger.{Ledger, ledger, withLive, anyOverlap, tablesNeed
 use Rattle.model.specs.LedgerLaws.{any-overlap}
 use Rattle.demand.specs.Holds.{Holds}
 use Rattle.demand.specs.Maps.{Fine}
-use Rattle.demand.specs.Demand3.{Call, mapC, queryC, stepL, answersL, ledgerAfter}
+use Rattle.demand.specs.Demand3.{mapOf, queryC, stepL, answersL, ledgerAfter}
 use Rattle.demand.specs.Theorem.{step-holds}
 use Rattle.demand.specs.Members.{SameMembers, AllIn, Apart, same-query, needed-more, needed-within}
 use Rattle.demand.specs.Held.{held-apart, held-count}
-
--- the call that maps m
-abbrev pub mapOf : Mapping → Call
-mapOf m = mapC (m .at) (m .frame) (m .size) (m .attributes)
 
 -- a ledger takes a mapping: no test refuses it, it overlaps no live one, and lacks no more tables than are free
 pub record Accepts (G : Granule) (A : Ledger) (m : Mapping) : Type 0 where

@@ -1,6 +1,7 @@
--- Restore: on a pool that holds a ledger it does what the ledger says, and what was saved is restored.
+-- Restore: after one, whatever the memory was, words and ledger answer alike; and what was saved is restored.
 use mathlib.Core.Path.{_≡_, refl, ap, sym, _∙_, subst}
-use mathlib.Core.Bool.{true}
+use mathlib.Core.Logic.{_≢_, ⊎-elim}
+use mathlib.Core.Bool.{true, false}
 use mathlib.Core.Option.{none}
 use mathlib.Core.List.{List, [], _∷_, map, List·Memᴰ, List·Memᴰ·head as here, List·Memᴰ·tail as there}
 use Prim.Native.Nat.{ℕ, _≤_}
@@ -9,80 +10,83 @@ use lib.ListN.{length}
 use Rattle.path.specs.Geometry.{Granule, Sane, granuleOf}
 use Rattle.path.specs.Areas.{Area, areaOf, total}
 use Rattle.path.specs.Laws.{granule-sane, setup-good}
-use Rattle.model.specs.Answers.{Answer, answered, refusal, formatted, took, audited, Mapping, Pool, Done}
+use Rattle.model.specs.Answers.{Answer, formatted, refused, took, audited, Mapping, Pool, Done, done}
 use Rattle.model.specs.Calls.{formatW}
 use Rattle.model.specs.Audit.{auditW}
 use Rattle.model.specs.Sound.{Each, mappingsOf, WellFormed, OffTables}
 use Rattle.model.specs.MappingLaws.{pool-well}
-use Rattle.model.specs.Ledger.{Ledger, ledger, Entered, formatL}
+use Rattle.model.specs.Ledger.{Ledger, ledger}
 use Rattle.model.specs.ListingLaws.{climbing-distinct, pool-climbs}
 use Rattle.image.specs.Layout.{Rec, blocksFor, imageOf, Reading, recordsIn, badIn, readImage, Savable}
 use Rattle.image.specs.LayoutLaws.{readingOf, reading-records, reading-sound, read-back}
-use Rattle.image.specs.Images.{FewEntries, saved, restored, accepted, meant, recordOf, granuleWord, saveW, Came, came, mapPool, mapLedger, restoreOne, restoreRecs, restoreFrom, readInto, restoreW, enterFrom, restoreL}
+use Rattle.image.specs.Images.{FewEntries, saved, restored, accepted, meant, recordOf, granuleWord, saveW, Came, came, mapPool, mapLedger, restoreOne, restoreRecs, restoreFrom, readInto, restoreW}
 use Rattle.image.specs.RecordLaws.{saved-is, pool-savable, few-entries}
-use Rattle.image.specs.RestoreLaws.{from-alike, from-whole, record-mapped}
+use Rattle.image.specs.RestoreLaws.{from-whole, record-mapped}
 use Rattle.demand.specs.Holds.{Holds}
 use Rattle.demand.specs.Listings.{good, sound}
 use Rattle.demand.specs.Others.{accepted-holds}
-use Rattle.demand.specs.Demand3.{Call, formatC, goOn, stepL, answersL, ledgerAfter, Demand3}
-use Rattle.demand.specs.Theorem.{step-holds, demand3, from-format}
+use Rattle.demand.specs.Demand3.{Call, mapOf, stepL, answersL, ledgerAfter, Demand3}
+use Rattle.demand.specs.Sims.{holds-sim, sim-holds}
+use Rattle.demand.specs.Theorem.{read-alike, map-never, demand3, from-format}
 use Rattle.demand.specs.Members.{SameMembers}
 use Rattle.demand.specs.Saves.{few-mappings}
+use Rattle.demand.specs.Clauses.{ledgerIn}
+use Rattle.demand.specs.Refused.{from-why, from-refused, meant-other}
 use Rattle.demand.specs.RoundTrip.{RoundTrip}
-use Rattle.demand.specs.Remade.{mapOf, onto, onto-members, remade-ledger, same-answers}
+use Rattle.demand.specs.Remade.{onto, onto-members, remade-ledger, same-answers}
 
 module _ (G : Granule) (Z : Sane G) where
   -- ---- words and ledger
 
-  -- into a pool that holds an empty ledger, or any other, whatever the image
-  pub read-alike : (fresh : Pool) (empty : Ledger) (R : Reading) → Holds G fresh empty
+  -- the records of an image in a pool that holds a ledger
+  read-holds : {fresh : Pool} {empty : Ledger} → Holds G fresh empty → (R : Reading)
       → (restoreFrom G (mapPool G) fresh fresh R .answer ≡ restoreFrom G (mapLedger G) empty empty R .answer)
       × Holds G (restoreFrom G (mapPool G) fresh fresh R .after) (restoreFrom G (mapLedger G) empty empty R .after)
-  read-alike fresh empty R H = from-alike G (mapPool G) (mapLedger G) (Holds G) (λ p A m K. step-holds G Z K (mapOf m)) fresh fresh empty empty R H H
+  read-holds H R = let (e, J) = read-alike G Z (holds-sim G Z H) R in (e, sim-holds G Z J)
 
-  -- Restore is the ledger's restore. Where format's tests refuse, the setup from before goes on, as after a refused format.
-  pub restore-step : {p : Pool} {A : Ledger} → Holds G p A → (levels : ℕ) (area : Area) (image : List ℕ)
-      → let d = goOn p (restoreW G levels area (p .words) (p .cut) (p .list) image) (formatW G levels area (p .words) (p .cut) (p .list) .answer) in
-      (d .answer ≡ restoreL G A levels area image .answer) × Holds G (d .after) (restoreL G A levels area image .after)
-  unfolding restoreW restoreL
-  restore-step {p} {A} H levels area image = go (F .answer) (E .answer) refl refl (step-holds G Z H (formatC levels area))
-    where
-      F : Done
-      F = formatW G levels area (p .words) (p .cut) (p .list)
+  -- A restore whose format is accepted, whatever the memory was and whatever the image.
+  module _ (levels : ℕ) (area : Area) (ws : List ℕ) (cut : ℕ) (list image : List ℕ) (f : formatW G levels area ws cut list .answer ≡ formatted) where
+    abbrev D : Done
+    D = formatW G levels area ws cut list
 
-      E : Entered
-      E = formatL G A levels area
+    abbrev empty : Ledger
+    empty = ledger levels area []
 
-      go : (a b : Answer) → F .answer ≡ a → E .answer ≡ b → (goOn p F a .answer ≡ E .answer) × Holds G (goOn p F a .after) (E .after)
-          → (goOn p (readInto G levels image F a) a .answer ≡ enterFrom G levels image E b .answer)
-          × Holds G (goOn p (readInto G levels image F a) a .after) (enterFrom G levels image E b .after)
-      go (answered v) (answered w) x y (e, h) = read-alike (F .after) (E .after) (readImage levels (granuleWord G) image) h
-      go (refusal k v) (refusal j w) x y (e, h) = (e, h)
-      go (answered v) (refusal j w) x y (e, h) = let z : _≡_ {A = ℕ} 0 1 = cc in absurd (omega arith)
-      go (refusal k v) (answered w) x y (e, h) = let z : _≡_ {A = ℕ} 0 1 = cc in absurd (omega arith)
+    abbrev R : Reading
+    R = readImage levels (granuleWord G) image
 
-  -- Demand 3 from a restore, accepted or refused, whatever the memory was and whatever the image, where format's tests accept: the ledger is that of the
-  -- records that were mapped, and after a refusal it is empty.
-  pub from-restore : (levels : ℕ) (area : Area) (ws : List ℕ) (cut : ℕ) (list image : List ℕ) → formatW G levels area ws cut list .answer ≡ formatted → (cs : List Call)
-      → Demand3 G (restoreW G levels area ws cut list image .after)
-      (restoreFrom G (mapLedger G) (ledger levels area []) (ledger levels area []) (readImage levels (granuleWord G) image) .after) cs
-  unfolding restoreW
-  from-restore levels area ws cut list image f cs = demand3 G Z (subst (λ (a : Answer). Holds G (readInto G levels image D a .after) after) (sym f) (read-alike (D .after) empty R fresh .1)) cs
-    where
-      D : Done
-      D = formatW G levels area ws cut list
+    abbrev C : Came Pool
+    C = restoreFrom G (mapPool G) (D .after) (D .after) R
 
-      empty : Ledger
-      empty = ledger levels area []
+    fresh : Holds G (D .after) empty
+    fresh = from-format G Z levels area ws cut list f [] .after 0 .holds
 
-      R : Reading
-      R = readImage levels (granuleWord G) image
+    restore-is : restoreW G levels area ws cut list image ≡ done (C .answer) (C .after)
+    unfolding restoreW
+    restore-is = ap (readInto G levels image D) f
 
-      after : Ledger
-      after = restoreFrom G (mapLedger G) empty empty R .after
+    -- it holds the ledger of the records that were mapped, and after a refusal the empty one
+    pub restored-holds : Holds G (restoreW G levels area ws cut list image .after) (ledgerIn G levels area image)
+    restored-holds = subst (λ (d : Done). Holds G (d .after) (ledgerIn G levels area image)) (sym restore-is) (read-holds fresh R .1)
 
-      fresh : Holds G (D .after) empty
-      fresh = from-format G Z levels area ws cut list f [] .after 0 .holds
+    -- so that demand 3 goes on from there
+    pub from-restore : (cs : List Call) → Demand3 G (restoreW G levels area ws cut list image .after) (ledgerIn G levels area image) cs
+    from-restore cs = demand3 G Z restored-holds cs
+
+    -- it is not refused with 1
+    pub restored-not-one : restoreW G levels area ws cut list image .answer ≢ refused 1
+    restored-not-one e =
+        ⊎-elim (λ (x, i, w). meant-other G x 1 (omega arith) (omega arith) w) (λ (B, m, w). map-never G Z B (m .at) (m .frame) (m .size) (m .attributes) 1 (omega arith) (omega arith) w)
+        (from-why G (mapLedger G) empty empty R 1 (sym (read-holds fresh R .0) ∙ ap (λ (d : Done). d .answer) (sym restore-is) ∙ e))
+
+    -- and refused it leaves what format left, and no mapping
+    pub restored-empty : accepted (restoreW G levels area ws cut list image .answer) ≡ false
+        → (restoreW G levels area ws cut list image .after ≡ D .after) × (ledgerIn G levels area image ≡ empty)
+    restored-empty e =
+        let q : accepted (C .answer) ≡ false = ap (λ (d : Done). accepted (d .answer)) (sym restore-is) ∙ e in (
+          ap (λ (d : Done). d .after) restore-is ∙ from-refused G (mapPool G) (D .after) (D .after) R q,
+          from-refused G (mapLedger G) empty empty R (ap accepted (sym (read-holds fresh R .0)) ∙ q),
+        )
 
   -- ---- the round trip
 
@@ -157,7 +161,7 @@ module _ (G : Granule) (Z : Sane G) where
 
       alike : (restoreFrom G (mapPool G) (D .after) (D .after) R .answer ≡ restoreFrom G (mapLedger G) empty empty R .answer)
           × Holds G (restoreFrom G (mapPool G) (D .after) (D .after) R .after) (restoreFrom G (mapLedger G) empty empty R .after)
-      alike = read-alike (D .after) empty R fresh
+      alike = read-holds fresh R
 
       held : Holds G (restoreFrom G (mapPool G) (D .after) (D .after) R .after) (ledger (A .levels) area (onto L []))
       held = subst (Holds G (restoreFrom G (mapPool G) (D .after) (D .after) R .after)) (ap (λ (c : Came Ledger). c .after) entered-all) (alike .1)

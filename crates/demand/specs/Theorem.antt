@@ -2,78 +2,52 @@
 use mathlib.Core.Path.{_≡_, refl, ap, sym, _∙_, subst}
 use mathlib.Core.Logic.{_≢_, _⊎_, inl, inr, ⊎-elim}
 use mathlib.Core.Bool.{Bool, true, false, cond}
-use mathlib.Core.List.{List, [], _∷_, map, List·Memᴰ, List·Memᴰ·not-nil, List·Memᴰ·cases-cons}
+use mathlib.Core.List.{List, [], _∷_, map}
 use mathlib.Core.Option.{Option, some, none}
 use Prim.Native.Nat.{ℕ, zero, suc, _+_, _-_, _*_, _%_, _≤_, _<_}
 use native.Mathlib.Omega.{arith}
 use lib.Dec.{ltb, leb, eqb}
 use lib.ListN.{length, take, replicate}
 use Rattle.laws.specs.Lists.{down}
-use borrow.Author.Tests.{leb-true, leb-false, eqb-true}
 use Rattle.path.specs.Geometry.{Granule, granuleOf, entries, pageSize, sizeAt, spaceOf, physical, heightOf, Sane}
 use Rattle.path.specs.Laws.{granule-sane, good-numbers}
 use Rattle.path.specs.Areas.{Area, areaOf, oneRegion, withSecond, total, GoodArea, meetsArea}
 use Rattle.path.specs.Numbers.{noSetup, setupOf, goodNumbers, goodAdding, GoodNumbers}
-use Rattle.model.specs.Answers.{Answer, formatted, added, took, gave, found, audited, refused, Mapping, mapping, Pool, pool, Done, done, refuse}
-use Rattle.model.specs.Calls.{walkTo, formatW, formatN, queryW, mapTests, mapAt, mapW, unmapTests, unmapAt, unmapW}
+use Rattle.model.specs.Answers.{Answer, answered, refusal, formatted, added, took, gave, found, audited, refused, Mapping, mapping, Pool, pool, Done, done, refuse}
+use Rattle.model.specs.Calls.{formatW, formatN, queryW, mapTests, unmapTests}
 use Rattle.model.specs.Audit.{auditW, noneInside}
 use Rattle.model.specs.GranuleLaws.{format-accepted}
 use Rattle.model.specs.Sound.{mappingsOf}
 use Rattle.model.specs.Ledger.{Ledger, ledger, withLive, anyOverlap, coverOf, dropAt, freeTables, tablesLacking, Entered, entered, formatL, addL, queryOf, queryL, mapL, unmapOf, unmapL, auditL, sorted, listL}
 use Rattle.model.specs.Listing.{fromOn, listedOf}
 use Rattle.model.specs.ListingLaws.{lists-not}
-use Rattle.image.specs.Layout.{blocksFor, imageOf}
-use Rattle.image.specs.Images.{saved, badImage, recordOf, granuleWord, savedIn, saveL}
+use Rattle.image.specs.Layout.{blocksFor, imageOf, Reading, readImage}
+use Rattle.image.specs.Images.{saved, badImage, recordOf, granuleWord, savedIn, saveL, mapPool, mapLedger, restoreFrom, readInto, restoreW, enterFrom, restoreL}
+use Rattle.image.specs.RestoreLaws.{from-alike}
 use Rattle.demand.specs.Holds.{ledgerOf, Holds}
 use Rattle.demand.specs.Sims.{Sim, holds-sim, sim-holds}
-use Rattle.demand.specs.Queries.{own, ledger-is, pool-good, query-own}
-use Rattle.demand.specs.Maps.{Alike, ledgerMap, own-sim, tests-fine, map-alike}
-use Rattle.demand.specs.Unmaps.{unmap-alike}
+use Rattle.demand.specs.Queries.{own, ledger-is, query-own}
+use Rattle.demand.specs.Maps.{Alike, own-sim}
+use Rattle.demand.specs.Steps.{map-step, unmap-step}
 use Rattle.demand.specs.Others.{fresh-sim, audit-own, accepted-holds}
 use Rattle.demand.specs.Adds.{add-step}
 use Rattle.demand.specs.Rest.{rests-own}
 use Rattle.demand.specs.Listings.{list-alike}
 use Rattle.demand.specs.Saves.{save-alike}
-use Rattle.demand.specs.Demand3.{Ask, query, audit, listFrom, saveTo, Call, formatC, addC, mapC, unmapC, askC, askW, askL, goOn, stepW, stepL, answersW, answersL, poolAfter, ledgerAfter, Rests, Demand3}
+use Rattle.demand.specs.Refused.{from-why}
+use Rattle.demand.specs.Demand3.{Ask, query, audit, listFrom, saveTo, Call, formatC, restoreC, addC, mapC, unmapC, askC, askW, askL, goOn, stepW, stepL, answersW, answersL, poolAfter, ledgerAfter, OfImage, Rests, Demand3}
 
 module _ (G : Granule) (Z : Sane G) where
+  -- the records of an image in a pool that holds a ledger, whatever the image
+  pub read-alike : {fresh : Pool} {empty : Ledger} → Sim G Z fresh empty → (R : Reading)
+      → (restoreFrom G (mapPool G) fresh fresh R .answer ≡ restoreFrom G (mapLedger G) empty empty R .answer)
+      × Sim G Z (restoreFrom G (mapPool G) fresh fresh R .after) (restoreFrom G (mapLedger G) empty empty R .after)
+  read-alike {fresh} {empty} I R =
+      from-alike G (mapPool G) (mapLedger G) (Sim G Z) (λ p A m K. let S = map-step G Z K (m .at) (m .frame) (m .size) (m .attributes) in (S .answer, S .sim))
+      fresh fresh empty empty R I I
+
   -- one call, by the pool's own ledger
   module _ {p : Pool} {A : Ledger} (I : Sim G Z p A) where
-    map-step : (a b size k : ℕ) → Alike G Z (mapW G p a b size k) (mapL G (own G Z I) a b size k)
-    unfolding mapW mapL
-    map-step a b size k = rw (pool-good G Z I) (go (eqb (mapTests G (p .numbers .levels) (areaOf (p .numbers)) a b size k) 0) refl)
-      where
-        no : ℕ
-        no = mapTests G (p .numbers .levels) (areaOf (p .numbers)) a b size k
-
-        go : (y : Bool) → eqb no 0 ≡ y
-            → Alike G Z (cond y (mapAt G p a b (heightOf G size) k (walkTo G p (heightOf G size) a) (walkTo G p (heightOf G size) a .entry)) (refuse no p))
-            (cond y (ledgerMap G (own G Z I) a b size k) (entered (refused no) (own G Z I)))
-        go true e = map-alike G Z I a b size k (tests-fine G (p .numbers .levels) (areaOf (p .numbers)) a b size k (eqb-true no 0 e)) tt tt (walkTo G p (heightOf G size) a .entry) refl
-        go false e = record { answer = refl; sim = own-sim G Z I }
-
-    -- unmap's tests say that the address is in the space
-    pub in-space : (a : ℕ) → unmapTests G (p .numbers .levels) a ≡ 0 → a < spaceOf G (p .numbers .levels)
-    unfolding unmapTests
-    in-space a e = go (leb (spaceOf G (p .numbers .levels)) a) refl e
-      where
-        go : (y : Bool) → leb (spaceOf G (p .numbers .levels)) a ≡ y → _≡_ {A = ℕ} (cond y 4 (cond (eqb (a % pageSize G) 0) 0 5)) 0 → a < spaceOf G (p .numbers .levels)
-        go true q e = absurd (omega arith)
-        go false q e = leb-false (spaceOf G (p .numbers .levels)) a q
-
-    unmap-step : (a : ℕ) → Alike G Z (unmapW G p a) (unmapL G (own G Z I) a)
-    unfolding unmapW unmapL
-    unmap-step a = rw (pool-good G Z I) (go (eqb (unmapTests G (p .numbers .levels) a) 0) refl)
-      where
-        no : ℕ
-        no = unmapTests G (p .numbers .levels) a
-
-        go : (y : Bool) → eqb no 0 ≡ y
-            → Alike G Z (cond y (unmapAt G p a (walkTo G p 0 a) (walkTo G p 0 a .entry)) (refuse no p))
-            (cond y (unmapOf G (own G Z I) a (coverOf a (own G Z I .live))) (entered (refused no) (own G Z I)))
-        go true e = unmap-alike G Z I a (in-space a (eqb-true no 0 e)) tt tt (walkTo G p 0 a .entry) refl
-        go false e = record { answer = refl; sim = own-sim G Z I }
-
     format-step : (levels : ℕ) (area : Area) → Alike G Z (stepW G p (formatC levels area)) (formatL G (own G Z I) levels area)
     unfolding formatW formatL
     format-step levels area = go (goodNumbers G levels area (p .cut) (length (p .words)) (length (p .list))) refl
@@ -94,6 +68,24 @@ module _ (G : Granule) (Z : Sane G) where
         go : (y : Bool) → goodNumbers G levels area (p .cut) (length (p .words)) (length (p .list)) ≡ y → Alike G Z (goOn p (left (goodNumbers G levels area (p .cut) (length (p .words)) (length (p .list)))) (left (goodNumbers G levels area (p .cut) (length (p .words)) (length (p .list))) .answer)) (right (goodNumbers G levels area (entries G * areaOf (p .numbers) .tables) (entries G * total (areaOf (p .numbers))) (total (areaOf (p .numbers)))))
         go y e = rw (sym same) (on (goodNumbers G levels area (p .cut) (length (p .words)) (length (p .list))) refl)
 
+    -- a restore is a format, and then the records of its image in the pool that format leaves
+    restore-step : (levels : ℕ) (area : Area) (image : List ℕ) → Alike G Z (stepW G p (restoreC levels area image)) (restoreL G (own G Z I) levels area image)
+    unfolding restoreW restoreL
+    restore-step levels area image = go (F .answer) (E .answer) refl refl (format-step levels area)
+      where
+        F : Done
+        F = formatW G levels area (p .words) (p .cut) (p .list)
+
+        E : Entered
+        E = formatL G (own G Z I) levels area
+
+        go : (a b : Answer) → F .answer ≡ a → E .answer ≡ b → Alike G Z (goOn p F a) E
+            → Alike G Z (goOn p (readInto G levels image F a) a) (enterFrom G levels image E b)
+        go (answered v) (answered w) x y S = let (e, J) = read-alike (S .sim) (readImage levels (granuleWord G) image) in record { answer = e; sim = J }
+        go (refusal k v) (refusal j w) x y S = record { answer = S .answer; sim = S .sim }
+        go (answered v) (refusal j w) x y S = let e = S .answer in let z : _≡_ {A = ℕ} 0 1 = cc in absurd (omega arith)
+        go (refusal k v) (answered w) x y S = let e = S .answer in let z : _≡_ {A = ℕ} 0 1 = cc in absurd (omega arith)
+
     ask-own : (q : Ask) → askW G p q ≡ askL G (own G Z I) q
     ask-own (query a) = query-own G Z I tt a
     ask-own audit = audit-own G Z I
@@ -102,16 +94,17 @@ module _ (G : Granule) (Z : Sane G) where
 
     step-own : (c : Call) → Alike G Z (stepW G p c) (stepL G (own G Z I) c)
     step-own (formatC l r) = format-step l r
+    step-own (restoreC l r image) = restore-step l r image
     step-own (addC q m second rest) = add-step G Z I q m second rest
-    step-own (mapC a b s k) = map-step a b s k
-    step-own (unmapC a) = unmap-step a
+    step-own (mapC a b s k) = map-step G Z (own-sim G Z I) a b s k
+    step-own (unmapC a) = unmap-step G Z (own-sim G Z I) a
     step-own (askC q) = record { answer = ask-own q; sim = own-sim G Z I }
 
     pub step-alike : (c : Call) → Alike G Z (stepW G p c) (stepL G A c)
     step-alike c = subst (λ (B : Ledger). Alike G Z (stepW G p c) (stepL G B c)) (sym (ledger-is G Z I)) (step-own c)
 
     pub rests : Rests G p A
-    rests = subst (λ (B : Ledger). Rests G p B) (sym (ledger-is G Z I)) (rests-own G Z I (λ a. unmap-step a .answer))
+    rests = subst (λ (B : Ledger). Rests G p B) (sym (ledger-is G Z I)) (rests-own G Z I (λ a. unmap-step G Z (own-sim G Z I) a .answer))
 
   -- any sequence
   pub after-sim : (cs : List Call) {p : Pool} {A : Ledger} → Sim G Z p A → Sim G Z (poolAfter G p cs) (ledgerAfter G A cs)
@@ -184,9 +177,46 @@ module _ (G : Granule) (Z : Sane G) where
       go true image = other (λ e. cc)
       go false image = other (λ e. cc)
 
-  never-eight : (A : Ledger) (c : Call) → stepL G A c .answer ≢ refused 8
-  unfolding formatL addL mapL unmapL unmapOf
-  never-eight A (formatC l r) = either (goodNumbers G l r (entries G * A .area .tables) (entries G * total (A .area)) (total (A .area))) (entered formatted (ledger l r [])) (entered (refused 1) A) (other (λ e. cc)) (another 1 (λ e. omega arith))
+  format-never-eight : (A : Ledger) (l : ℕ) (r : Area) → formatL G A l r .answer ≢ refused 8
+  unfolding formatL
+  format-never-eight A l r = either (goodNumbers G l r (entries G * A .area .tables) (entries G * total (A .area)) (total (A .area))) (entered formatted (ledger l r [])) (entered (refused 1) A) (other (λ e. cc)) (another 1 (λ e. omega arith))
+
+  -- a map is refused with 2 to 7 or 11
+  pub map-never : (A : Ledger) (a b s k : ℕ) (x : ℕ) → (x ≢ 0) × (x ≢ 2) × (x ≢ 3) × (x ≢ 4) × (x ≢ 5) × (x ≢ 11) → (x ≢ 6) × (x ≢ 7) → mapL G A a b s k .answer ≢ refused x
+  unfolding mapL
+  map-never A a b s k x d f = go (eqb no 0) (anyOverlap a s (A .live)) (ltb (freeTables G A) need)
+    where
+      no : ℕ
+      no = mapTests G (A .levels) (A .area) a b s k
+
+      need : ℕ
+      need = tablesLacking G (A .levels) (A .live) (mapping a b s k)
+
+      go : (y o l : Bool)
+          → cond y (cond o (entered (refused 6) A) (cond l (entered (refused 7) A) (entered (took need) (withLive A (mapping a b s k ∷ A .live))))) (entered (refused no) A) .answer ≢ refused x
+      go true true l e = let z : x ≡ 6 = cc in f .0 z
+      go true false true e = let z : x ≡ 7 = cc in f .1 z
+      go true false false e = let z : _≡_ {A = ℕ} 0 1 = cc in omega arith
+      go false o l e = let z : no ≡ x = cc in map-other (A .levels) (A .area) a b s k x d z
+
+  -- nor does a restore, but where a record says it
+  restore-eight : (A : Ledger) (levels : ℕ) (area : Area) (image : List ℕ) → restoreL G A levels area image .answer ≡ refused 8 → OfImage G (restoreC levels area image)
+  unfolding restoreL
+  restore-eight A levels area image = go (E .answer) refl
+    where
+      E : Entered
+      E = formatL G A levels area
+
+      go : (a : Answer) → E .answer ≡ a → enterFrom G levels image E a .answer ≡ refused 8 → OfImage G (restoreC levels area image)
+      go (answered v) q e =
+          ⊎-elim (λ w. w) (λ (B, m, w). absurd (map-never B (m .at) (m .frame) (m .size) (m .attributes) 8 (omega arith) (omega arith) w))
+          (from-why G (mapLedger G) (E .after) (E .after) (readImage levels (granuleWord G) image) 8 e)
+      go (refusal k v) q e = absurd (format-never-eight A levels area e)
+
+  never-eight : (A : Ledger) (c : Call) → stepL G A c .answer ≡ refused 8 → OfImage G c
+  unfolding addL unmapL unmapOf
+  never-eight A (formatC l r) = format-never-eight A l r
+  never-eight A (restoreC l r image) = restore-eight A l r image
   never-eight A (addC q m second rest) =
       either (goodAdding G (A .levels) (A .area) q m (entries G * A .area .tables) (entries G * A .area .tables + length second) (freeTables G A + length rest))
       (cond (noneInside G (oneRegion q m) (A .live)) grew (entered (refused 11) A)) (entered (refused 1) A)
@@ -195,14 +225,7 @@ module _ (G : Granule) (Z : Sane G) where
     where
       grew : Entered
       grew = entered added (ledger (A .levels) (withSecond (A .area) q m) (A .live))
-  never-eight A (mapC a b s k) =
-      let no = mapTests G (A .levels) (A .area) a b s k in
-      let need = tablesLacking G (A .levels) (A .live) (mapping a b s k) in
-      let taken = entered (took need) (withLive A (mapping a b s k ∷ A .live)) in
-      either (eqb no 0) (ledgerMap G A a b s k) (entered (refused no) A)
-      (either (anyOverlap a s (A .live)) (entered (refused 6) A) (cond (ltb (freeTables G A) need) (entered (refused 7) A) taken) (other (λ e. cc))
-      (either (ltb (freeTables G A) need) (entered (refused 7) A) taken (other (λ e. cc)) (other (λ e. cc))))
-      (another no (map-other (A .levels) (A .area) a b s k 8 (omega arith)))
+  never-eight A (mapC a b s k) = map-never A a b s k 8 (omega arith) (omega arith)
   never-eight A (unmapC a) = either (eqb (unmapTests G (A .levels) a) 0) (unmapOf G A a (coverOf a (A .live))) (entered (refused (unmapTests G (A .levels) a)) A) (on (coverOf a (A .live))) (another (unmapTests G (A .levels) a) (unmap-other (A .levels) a))
     where
       on : (m : Option Mapping) → unmapOf G A a m .answer ≢ refused 8
@@ -210,15 +233,11 @@ module _ (G : Granule) (Z : Sane G) where
       on (some m) = either (eqb (m .at) a) (entered (gave (m .frame) (m .size) (m .attributes) (freeTables G (withLive A (dropAt a (A .live))) - freeTables G A)) (withLive A (dropAt a (A .live)))) (entered (refused 10) A) (other (λ e. cc)) (other (λ e. cc))
   never-eight A (askC q) = ask-never-eight A q
 
-  never : (A : Ledger) (cs : List Call) (a : Answer) → List·Memᴰ a (answersL G A cs) → a ≢ refused 8
-  never A [] a m = absurd (List·Memᴰ·not-nil m)
-  never A (c ∷ cs) a m = ⊎-elim (λ e q. never-eight A c (sym e ∙ q)) (never (stepL G A c .after) cs a) (List·Memᴰ·cases-cons m)
-
   -- demand 3
   pub demand3 : {p : Pool} {A : Ledger} → Holds G p A → (cs : List Call) → Demand3 G p A cs
   demand3 {p} {A} H cs = record {
     answers = answers-alike cs I;
-    sound = λ a m. never A cs a (subst (λ (l : List Answer). List·Memᴰ a l) (answers-alike cs I) m);
+    sound = λ before c later e q. never-eight (ledgerAfter G A before) c (sym (step-alike (after-sim before I) c .answer) ∙ q);
     after = λ j. rests (after-sim (take j cs) I);
   }
     where

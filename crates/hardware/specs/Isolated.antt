@@ -23,9 +23,9 @@ use Rattle.model.specs.Ledger.{Ledger, ledger, withLive, anyOverlap, holdsAddre
 use Rattle.demand.specs.Holds.{Holds}
 use Rattle.demand.specs.Sims.{holds-sim, sim-holds}
 use Rattle.demand.specs.Theorem.{after-sim, step-holds}
-use Rattle.demand.specs.Demand3.{Call, formatC, addC, mapC, unmapC, askC, auditC, stepW, stepL, poolAfter, ledgerAfter}
-use Rattle.hardware.specs.Machine.{Translation, saysOf, told, stage2, Stands, writesOf, accepts, memoryOf, wordsAfter, visible, AtOnce, Machine}
-use Rattle.hardware.specs.Theorem.{promise}
+use Rattle.demand.specs.Demand3.{Call, formatC, restoreC, addC, mapC, unmapC, askC, auditC, stepW, stepL, poolAfter, ledgerAfter}
+use Rattle.hardware.specs.Machine.{Translation, saysOf, told, stage2, Stands, writesOf, accepts, memoryOf, wordsAfter, visible, AtOnce, NoneAgain, Machine}
+use Rattle.hardware.specs.Theorem.{once-none, promise}
 use Rattle.hardware.specs.Views.{add-live}
 use Rattle.hardware.specs.Isolation.{Reaches, During, OffOwn, OffLater, Sealed, Held, InFrame, OffBoth, KeptApart, OffOther, Apart, Isolation}
 
@@ -62,6 +62,7 @@ first-visible (suc j) (w ∷ ws) = ap (λ (l : List Write). w ∷ l) (first-visi
 
 memory-numbers : (G : Granule) (p : Pool) (c : Call) → memoryOf G p c .numbers ≡ p .numbers
 memory-numbers G p (formatC levels area) = refl
+memory-numbers G p (restoreC levels area image) = refl
 memory-numbers G p (addC q n second rest) = go (accepts (stepW G p (addC q n second rest) .answer))
   where
     go : (y : Bool) → cond y (lent p second rest) p .numbers ≡ p .numbers
@@ -112,25 +113,27 @@ module _ (G : Granule) (Z : Sane G) {p : Pool} {A : Ledger} (H : Holds G p A) wh
   next-off : (c : Call) → stepL G A c .after .area ≡ A .area → (m : Mapping) → List·Memᴰ m (stepL G A c .after .live) → OffTables G (A .area) m
   next-off c e m i = subst (λ (r : Area). OffTables G r m) e (off-tables G Z (step-holds G Z H c .1) m i)
 
-  after-off : (c : Call) (m : Mapping) → List·Memᴰ m (stepL G A c .after .live) → OffTables G (A .area) m
+  after-off : (c : Call) → NoneAgain c → (m : Mapping) → List·Memᴰ m (stepL G A c .after .live) → OffTables G (A .area) m
   unfolding formatL
-  after-off (formatC levels area) m i = go (goodNumbers G levels area (entries G * A .area .tables) (entries G * total (A .area)) (total (A .area))) i
+  after-off (formatC levels area) o m i = go (goodNumbers G levels area (entries G * A .area .tables) (entries G * total (A .area)) (total (A .area))) i
     where
       go : (y : Bool) → List·Memᴰ m (cond y (entered formatted (ledger levels area [])) (entered (refused 1) A) .after .live) → OffTables G (A .area) m
       go true i = absurd (List·Memᴰ·not-nil i)
       go false i = off-tables G Z H m i
-  after-off (addC q n second rest) m i =
+  after-off (restoreC levels area image) o m i = absurd o
+  after-off (addC q n second rest) o m i =
       off-tables G Z H m (subst (λ (L : List Mapping). List·Memᴰ m L) (add-live G A q n (length second) (freeTables G A + length rest)) i)
-  after-off (mapC a b size k) m i = next-off (mapC a b size k) (map-area G A a b size k) m i
-  after-off (unmapC a) m i = next-off (unmapC a) (unmap-area G A a) m i
-  after-off (askC q) m i = off-tables G Z H m i
+  after-off (mapC a b size k) o m i = next-off (mapC a b size k) (map-area G A a b size k) m i
+  after-off (unmapC a) o m i = next-off (unmapC a) (unmap-area G A a) m i
+  after-off (askC q) o m i = off-tables G Z H m i
 
-  held-off : (c : Call) (m : Mapping) → Held G A c m → OffTables G (A .area) m
-  held-off c m = ⊎-elim (off-tables G Z H m) (after-off c m)
+  held-off : (c : Call) → NoneAgain c → (m : Mapping) → Held G A c m → OffTables G (A .area) m
+  held-off c n m = ⊎-elim (off-tables G Z H m) (after-off c n m)
 
   -- and of the tables after a call, but for format's
   later-off : (c : Call) → AtOnce c → (m : Mapping) → List·Memᴰ m (A .live) → OffTables G (stepL G A c .after .area) m
   later-off (formatC levels area) o m i = absurd o
+  later-off (restoreC levels area image) o m i = absurd o
   later-off (addC q n second rest) o m i =
       off-tables G Z (step-holds G Z H (addC q n second rest) .1) m
       (subst (λ (L : List Mapping). List·Memᴰ m L) (sym (add-live G A q n (length second) (freeTables G A + length rest))) i)
@@ -148,14 +151,14 @@ module _ (G : Granule) (Z : Sane G) {p : Pool} {A : Ledger} (H : Holds G p A) wh
       → (m : Mapping) × Held G A c m × InFrame m x → ¬ InArea T s x
   not-inside c T x e off (m, h, f) i = off m h (record { byte = x; starts = f .0; ends = f .1; inside = subst (λ (r : Area). InArea T r x) e i })
 
-  module _ (c : Call) {mem : ℕ → ℕ → ℕ} (D : During G p c mem) where
+  module _ (c : Call) (n : NoneAgain c) {mem : ℕ → ℕ → ℕ} (D : During G p c mem) where
     -- a walk under way, by the numbers of the pool
     told-either : (a : ℕ) → let t = stage2 G (p .numbers .levels) (p .numbers .base) mem a in (t ≡ told (A .live) a) ⊎ (t ≡ told (stepL G A c .after .live) a)
     told-either = subst
         (λ (s : Setup). ((h : ℕ) → Stands G (areaOf s) (wordsAfter G (memoryOf G p c) (visible (D .seen h) (writesOf G p c))) (mem h))
         → (a : ℕ) → let t = stage2 G (s .levels) (s .base) mem a in (t ≡ told (A .live) a) ⊎ (t ≡ told (stepL G A c .after .live) a))
         (memory-numbers G p c)
-        (promise G Z p A H [] c .overtaken (D .seen) mem)
+        (promise G Z p A H [] c .overtaken n (D .seen) mem)
         (D .shows)
 
     reached : (x : ℕ) → Reaches G (p .numbers) mem x → (m : Mapping) × Held G A c m × InFrame m x
@@ -166,7 +169,7 @@ module _ (G : Granule) (Z : Sane G) {p : Pool} {A : Ledger} (H : Holds G p A) wh
         (told-either (R .address)))
 
     off-own : OffOwn G p mem
-    off-own x R = not-inside c G x (H .area-is) (held-off c) (reached x R)
+    off-own x R = not-inside c G x (H .area-is) (held-off c n) (reached x R)
 
     off-later : AtOnce c → OffLater G p c mem
     off-later o x R = not-inside c G x (step-holds G Z H c .1 .area-is) (held-later c o) (reached x R)
@@ -174,13 +177,13 @@ module _ (G : Granule) (Z : Sane G) {p : Pool} {A : Ledger} (H : Holds G p A) wh
   seals : (c : Call) → Sealed G p c
   unfolding performAll
   seals c = record {
-    rest = λ mem S. off-own auditC (record { seen = λ _. []; shows = λ _. S });
-    each-write = λ j mem S. off-own c (record {
+    rest = λ mem S. off-own auditC tt (record { seen = λ _. []; shows = λ _. S });
+    each-write = λ n j mem S. off-own c n (record {
       seen = λ _. replicate j true;
       shows = λ _. subst (λ (ws : List Write). Stands G (areaOf (p .numbers)) (wordsAfter G (memoryOf G p c) ws) mem) (sym (first-visible j (writesOf G p c))) S;
     });
-    during = λ mem D. off-own c D;
-    later = λ o mem D. off-later c D o;
+    during = λ n mem D. off-own c n D;
+    later = λ o mem D. off-later c (once-none c o) D o;
   }
 
 -- ---- two guests
@@ -189,11 +192,11 @@ module _ (G : Granule) (Z : Sane G) {p : Pool} {A : Ledger} (H : Holds G p A) wh
 module _ {G K : Granule} (Y : Sane G) (Z : Sane K) {p q : Pool} {A B : Ledger} (H : Holds G p A) (J : Holds K q B) (c d : Call) where
   off-other : ((m : Mapping) → Held G A c m → OffBoth K B d m)
       → ((m k : Mapping) → Held G A c m → Held K B d k → (x : ℕ) → InFrame m x → ¬ InFrame k x)
-      → (mem : ℕ → ℕ → ℕ) → During G p c mem → OffOther G p K q B d mem
-  off-other tables frames mem D = record {
-    tables = λ x R. not-inside G Y H c K x (J .area-is) (λ m h. tables m h .0) (reached G Y H c D x R);
-    later-tables = λ x R. not-inside G Y H c K x (step-holds K Z J d .1 .area-is) (λ m h. tables m h .1) (reached G Y H c D x R);
-    frames = λ x R k i. let (m, h, f) = reached G Y H c D x R in frames m k h i x f;
+      → NoneAgain c → (mem : ℕ → ℕ → ℕ) → During G p c mem → OffOther G p K q B d mem
+  off-other tables frames n mem D = record {
+    tables = λ x R. not-inside G Y H c K x (J .area-is) (λ m h. tables m h .0) (reached G Y H c n D x R);
+    later-tables = λ x R. not-inside G Y H c K x (step-holds K Z J d .1 .area-is) (λ m h. tables m h .1) (reached G Y H c n D x R);
+    frames = λ x R k i. let (m, h, f) = reached G Y H c n D x R in frames m k h i x f;
   }
 
 -- ---- the promise

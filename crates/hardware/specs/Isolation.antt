@@ -2,6 +2,9 @@
 -- are translated to, by the hardware's walk of Machine, and nowhere else. So it can neither read nor change its own tables; and of two guests whose
 -- frames the host keeps apart, neither reaches the tables or the frames of the other.
 --
+-- A restore is taken part by part, its format and each of its maps, which are calls as well (`by-parts` of Machine): of those all of this holds, and of a walk
+-- that goes on from one part to another nothing is said.
+--
 -- Its tables are those of both regions. While an add is under way, the new tables are not yet a part of the pool, and no guest reaches them either.
 --
 -- In the middle of a call: any part of its single writes has become visible, in whatever order, and a walk reads the word of each level at a time of its
@@ -22,7 +25,7 @@ use Rattle.model.specs.Sound.{OffTables}
 use Rattle.model.specs.Ledger.{Ledger}
 use Rattle.demand.specs.Holds.{Holds}
 use Rattle.demand.specs.Demand3.{Call, stepW, stepL, poolAfter, ledgerAfter}
-use Rattle.hardware.specs.Machine.{Translation, stage2, Stands, writesOf, memoryOf, wordsAfter, visible, AtOnce}
+use Rattle.hardware.specs.Machine.{Translation, stage2, Stands, writesOf, memoryOf, wordsAfter, visible, AtOnce, NoneAgain}
 
 -- the guest of a pool reaches the byte x: some address is translated to it
 pub record Reaches (G : Granule) (s : Setup) (mem : ℕ → ℕ → ℕ) (x : ℕ) : Type 0 where
@@ -51,9 +54,9 @@ pub record Sealed (G : Granule) (p : Pool) (c : Call) : Type 0 where
   -- at rest
   pub rest : (mem : ℕ → ℕ) → Stands G (areaOf (p .numbers)) (p .words) mem → OffOwn G p (λ _. mem)
   -- after each single write of the call
-  pub each-write : (j : ℕ) (mem : ℕ → ℕ) → Stands G (areaOf (p .numbers)) (wordsAfter G (memoryOf G p c) (take j (writesOf G p c))) mem → OffOwn G p (λ _. mem)
+  pub each-write : NoneAgain c → (j : ℕ) (mem : ℕ → ℕ) → Stands G (areaOf (p .numbers)) (wordsAfter G (memoryOf G p c) (take j (writesOf G p c))) mem → OffOwn G p (λ _. mem)
   -- in whatever order they become visible, and while a walk is under way
-  pub during : (mem : ℕ → ℕ → ℕ) → During G p c mem → OffOwn G p mem
+  pub during : NoneAgain c → (mem : ℕ → ℕ → ℕ) → During G p c mem → OffOwn G p mem
   -- and so of the tables after the call, an add's new ones among them. (A format is the host's to make where no mapping is in use: it may place tables on
   -- frames of the mappings that it drops.)
   pub later : AtOnce c → (mem : ℕ → ℕ → ℕ) → During G p c mem → OffLater G p c mem
@@ -89,8 +92,8 @@ pub record OffOther (G : Granule) (p : Pool) (K : Granule) (q : Pool) (B : Ledge
 
 -- calls under way on both
 pub record Apart (G : Granule) (p : Pool) (A : Ledger) (c : Call) (K : Granule) (q : Pool) (B : Ledger) (d : Call) : Type 0 where
-  pub first : (mem : ℕ → ℕ → ℕ) → During G p c mem → OffOther G p K q B d mem
-  pub second : (mem : ℕ → ℕ → ℕ) → During K q d mem → OffOther K q G p A c mem
+  pub first : NoneAgain c → (mem : ℕ → ℕ → ℕ) → During G p c mem → OffOther G p K q B d mem
+  pub second : NoneAgain d → (mem : ℕ → ℕ → ℕ) → During K q d mem → OffOther K q G p A c mem
 
 -- ---- the promise
 

@@ -8,6 +8,7 @@ pub mod Views
 pub mod Watch
 pub mod MapSeen
 pub mod UnmapSeen
+pub mod RestoreSeen
 pub mod Theorem
 pub mod Meanings
 pub mod Examples

@@ -22,14 +22,14 @@ use Rattle.path.specs.Areas.{Area, areaOf, total, tableAt}
 use Rattle.path.specs.Paths.{pathOf}
 use Rattle.path.specs.declared.Setup.{Setup}
 use Rattle.entry.specs.Words.{frameWord}
-use Rattle.model.specs.Answers.{Mapping, mapping, Answer, answered, refusal, Pool}
+use Rattle.model.specs.Answers.{Mapping, mapping, Answer, answered, refusal, Pool, Done}
 use Rattle.model.specs.Walk.{slot, atHeight}
 use Rattle.model.specs.Writes.{Write, store, wipe, give, memory, performAll, mapWrites, unmapWrites}
 use Rattle.model.specs.Calls.{walkTo}
 use Rattle.model.specs.Ledger.{Ledger, holdsAddress, coverOf}
 use Rattle.demand.specs.Holds.{Holds}
 use Rattle.model.specs.Adds.{lent}
-use Rattle.demand.specs.Demand3.{Call, formatC, addC, mapC, unmapC, askC, stepW, stepL, poolAfter, ledgerAfter}
+use Rattle.demand.specs.Demand3.{Call, formatC, restoreC, addC, mapC, unmapC, askC, parts, stepW, stepL, poolAfter, ledgerAfter}
 
 -- ---- the hardware
 
@@ -295,26 +295,66 @@ abbrev pub tablesIn : Answer → ℕ
 tablesIn (answered values) = lastOf values
 tablesIn (refusal k values) = 0
 
--- the single writes of an accepted call that takes or gives back t tables
-abbrev pub plan : Granule → Pool → Call → ℕ → List Write
-plan G p (formatC levels area) t = zerosFrom 0 (length (p .words)) ++ placesFrom 0 (total area)
-plan G p (addC q m second rest) t = zerosFrom (p .cut) (entries G * m) ++ placesAbove (p .numbers .tables) (p .numbers .free) m
-plan G p (mapC a b size k) t =
-    let g = heightOf G size in
-    let o = walkTo G p g a in
+-- no refusal, or one past 1, which comes with nothing more
+abbrev pub pastOne : Answer → Bool
+pastOne (answered values) = true
+pastOne (refusal k []) = cond (eqb k 1) false true
+pastOne (refusal k (x ∷ values)) = true
+
+-- the single writes of a format, of a map that takes t tables, and of an unmap that gives back t
+abbrev pub formatPlan : Pool → Area → List Write
+formatPlan p area = zerosFrom 0 (length (p .words)) ++ placesFrom 0 (total area)
+
+abbrev pub mapPlan : Granule → Pool → Mapping → ℕ → List Write
+mapPlan G p m t =
+    let g = heightOf G (m .size) in
+    let o = walkTo G p g (m .at) in
     singles G
-    (mapWrites G (areaOf (p .numbers)) (pathOf G a) (p .list) g (frameWord b g k) (atHeight (o .tables) (o .left)) (p .numbers .free) t)
-plan G p (unmapC a) t =
-    let o = walkTo G p 0 a in singles G (unmapWrites G (o .tables) (pathOf G a) (o .left) (p .numbers .free) t)
+    (mapWrites G (areaOf (p .numbers)) (pathOf G (m .at)) (p .list) g (frameWord (m .frame) g (m .attributes)) (atHeight (o .tables) (o .left)) (p .numbers .free) t)
+
+abbrev pub unmapPlan : Granule → Pool → ℕ → ℕ → List Write
+unmapPlan G p a t = let o = walkTo G p 0 a in singles G (unmapWrites G (o .tables) (pathOf G a) (o .left) (p .numbers .free) t)
+
+-- those of calls made one after the other, each on what the last one left; one that is refused has none
+unfoldable pub planEach : {A : Type 0} → (Pool → A → Done) → (Pool → A → ℕ → List Write) → Pool → List A → List Write
+planEach call plan p [] = []
+planEach call plan p (x ∷ xs) =
+    (let answer = call p x .answer in cond (accepts answer) (plan p x (tablesIn answer)) []) ++ planEach call plan (call p x .after) xs
+
+-- a restore's parts are formats and maps
+abbrev pub partPlan : Granule → Pool → Call → ℕ → List Write
+partPlan G p (formatC levels area) t = formatPlan p area
+partPlan G p (restoreC levels area image) t = []
+partPlan G p (addC q m second rest) t = []
+partPlan G p (mapC a b size k) t = mapPlan G p (mapping a b size k) t
+partPlan G p (unmapC a) t = []
+partPlan G p (askC q) t = []
+
+-- the single writes of a call that takes or gives back t tables; a restore's are those of its parts
+abbrev pub plan : Granule → Pool → Call → ℕ → List Write
+plan G p (formatC levels area) t = formatPlan p area
+plan G p (restoreC levels area image) t = planEach (stepW G) (partPlan G) p (parts G (restoreC levels area image))
+plan G p (addC q m second rest) t = zerosFrom (p .cut) (entries G * m) ++ placesAbove (p .numbers .tables) (p .numbers .free) m
+plan G p (mapC a b size k) t = mapPlan G p (mapping a b size k) t
+plan G p (unmapC a) t = unmapPlan G p a t
 plan G p (askC q) t = []
 
--- a refused call writes nothing
+-- whether a call that answers so has written: not where it is refused, but for a restore, which 1 alone keeps from writing
+abbrev pub wrote : Call → Answer → Bool
+wrote (formatC levels area) r = accepts r
+wrote (restoreC levels area image) r = pastOne r
+wrote (addC q m second rest) r = accepts r
+wrote (mapC a b size k) r = accepts r
+wrote (unmapC a) r = accepts r
+wrote (askC q) r = accepts r
+
 abbrev pub writesOf : Granule → Pool → Call → List Write
-writesOf G p c = let answer = stepW G p c .answer in cond (accepts answer) (plan G p c (tablesIn answer)) []
+writesOf G p c = let answer = stepW G p c .answer in cond (wrote c answer) (plan G p c (tablesIn answer)) []
 
 -- the memory that a call with this answer writes to: the pool's, and for an add that is accepted also the second run and the longer list that it is lent
 abbrev pub writtenTo : Pool → Call → Answer → Pool
 writtenTo p (formatC levels area) r = p
+writtenTo p (restoreC levels area image) r = p
 writtenTo p (addC q m second rest) r = cond (accepts r) (lent p second rest) p
 writtenTo p (mapC a b size k) r = p
 writtenTo p (unmapC a) r = p
@@ -322,6 +362,11 @@ writtenTo p (askC q) r = p
 
 abbrev pub memoryOf : Granule → Pool → Call → Pool
 memoryOf G p c = writtenTo p c (stepW G p c .answer)
+
+-- the single writes of a sequence of calls
+abbrev pub writesThrough : Granule → Pool → List Call → List Write
+writesThrough G p [] = []
+writesThrough G p (c ∷ cs) = writesOf G p c ++ writesThrough G (stepW G p c .after) cs
 
 -- the pool's words after these writes
 abbrev pub wordsAfter : Granule → Pool → List Write → List ℕ
@@ -360,26 +405,46 @@ module _ (G : Granule) (p : Pool) (L L′ : List Mapping) (ws : List Write) wher
       (seen : ℕ → List Bool) (mem : ℕ → ℕ → ℕ) → ((h : ℕ) → Shows (visible (seen h) ws) (mem h))
       → (a : ℕ) → let t = stage2 G (p .numbers .levels) (p .numbers .base) mem a in (t ≡ told L a) ⊎ (t ≡ told L′ a)
 
--- a call whose writes change what is read at once: any but format, which clears the words one after the other, so that its addresses fault in turn
+-- a call whose writes change what is read at once: any but format, which clears the words one after the other, so that its addresses fault in turn, and
+-- restore, which begins with one
 abbrev pub AtOnce : Call → Type 0
 AtOnce (formatC levels area) = ⊥
+AtOnce (restoreC levels area image) = ⊥
 AtOnce (addC q m second rest) = Unit {0}
 AtOnce (mapC a b size k) = Unit {0}
 AtOnce (unmapC a) = Unit {0}
 AtOnce (askC q) = Unit {0}
+
+-- a call that uses no table again which it has emptied: any but a restore, whose maps take the tables that its format has cleared. A walk that is under way
+-- from before the one to after the other may read a table's new words for its old ones, as where a later call uses a table again.
+abbrev pub NoneAgain : Call → Type 0
+NoneAgain (formatC levels area) = Unit {0}
+NoneAgain (restoreC levels area image) = ⊥
+NoneAgain (addC q m second rest) = Unit {0}
+NoneAgain (mapC a b size k) = Unit {0}
+NoneAgain (unmapC a) = Unit {0}
+NoneAgain (askC q) = Unit {0}
 
 -- whether a mapping, if there is one, holds an address
 abbrev pub heldBy : ℕ → Option Mapping → Bool
 heldBy x none = false
 heldBy x (some m) = holdsAddress x m
 
--- whether a call may change what an address reads: map those of its range, unmap those of the mapping that holds its address, format all, add none
+-- whether a call may change what an address reads: map those of its range, unmap those of the mapping that holds its address, format and restore all, add none
 abbrev pub concerns : Ledger → Call → ℕ → Bool
 concerns A (formatC levels area) x = true
+concerns A (restoreC levels area image) x = true
 concerns A (addC q m second rest) x = false
 concerns A (mapC a b size k) x = holdsAddress x (mapping a b size k)
 concerns A (unmapC a) x = heldBy x (coverOf a (A .live))
 concerns A (askC q) x = false
+
+-- the call c on a pool p that holds the ledger A is its parts, one after the other, each on what the last one left: so are its single writes, what it leaves of
+-- the pool, and what it leaves of the ledger. Of each part what is promised of a call holds (`Promise`), since the parts before it are calls as well.
+pub record OfParts (G : Granule) (p : Pool) (A : Ledger) (c : Call) : Type 0 where
+  pub writes : writesOf G p c ≡ writesThrough G p (parts G c)
+  pub leaves : stepW G p c .after ≡ poolAfter G p (parts G c)
+  pub enters : stepL G A c .after ≡ ledgerAfter G A (parts G c)
 
 -- the call c on a pool p that holds the ledger A
 pub record Machine (G : Granule) (p : Pool) (A : Ledger) (c : Call) : Type 0 where
@@ -390,7 +455,9 @@ pub record Machine (G : Granule) (p : Pool) (A : Ledger) (c : Call) : Type 0 whe
   -- after each of them, in whatever order they become visible, and while a walk is under way, the ledger is read, or the one after the call
   pub each-write : AtOnce c → Switch G (memoryOf G p c) (A .live) (stepL G A c .after .live) (writesOf G p c)
   pub any-order : AtOnce c → AnyOrder G (memoryOf G p c) (A .live) (stepL G A c .after .live) (writesOf G p c)
-  pub overtaken : Overtaken G (memoryOf G p c) (A .live) (stepL G A c .after .live) (writesOf G p c)
+  pub overtaken : NoneAgain c → Overtaken G (memoryOf G p c) (A .live) (stepL G A c .after .live) (writesOf G p c)
+  -- a call that writes is its parts: a restore its format, its maps, and where it is refused the format again
+  pub by-parts : wrote c (stepW G p c .answer) ≡ true → OfParts G p A c
   -- and outside the mapping concerned the two say the same
   pub outside : (x : ℕ) → concerns A c x ≡ false → told (stepL G A c .after .live) x ≡ told (A .live) x
 

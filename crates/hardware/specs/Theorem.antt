@@ -2,7 +2,7 @@
 use mathlib.Core.Path.{_≡_, refl, ap, sym, _∙_, subst}
 use mathlib.Core.Logic.{_≢_, inl}
 use mathlib.Core.Bool.{Bool, true, false, cond}
-use mathlib.Core.List.{List, [], _∷_, _++_, map}
+use mathlib.Core.List.{List, [], _∷_, _++_, map, append-nil}
 use Prim.Native.Nat.{ℕ, zero, suc, _+_, _-_, _*_, _<_}
 use native.Mathlib.Omega.{arith}
 use native.Mathlib.Nat.{mul-add}
@@ -30,9 +30,9 @@ use Rattle.demand.specs.Sims.{Sim, holds-sim}
 use Rattle.demand.specs.Queries.{n, k₀, X, R, own, ledger-is, root-at}
 use Rattle.demand.specs.Maps.{own-sim}
 use Rattle.demand.specs.Theorem.{step-alike, after-sim}
-use Rattle.demand.specs.Demand3.{Call, formatC, addC, mapC, unmapC, askC, askW, goBack, stepW, stepL}
-use Rattle.hardware.specs.Machine.{told, Stands, Reads, zerosFrom, placesFrom, placesAbove, accepts, tablesIn, plan, writesOf, writtenTo, memoryOf, wordsAfter, visible}
-use Rattle.hardware.specs.Machine.{AtOnce, concerns, Machine, Promise}
+use Rattle.demand.specs.Demand3.{Call, formatC, restoreC, addC, mapC, unmapC, askC, askW, goBack, parts, stepW, stepL, poolAfter, ledgerAfter}
+use Rattle.hardware.specs.Machine.{told, Stands, Reads, zerosFrom, placesFrom, placesAbove, accepts, tablesIn, plan, wrote, writesOf, writtenTo, memoryOf, writesThrough, wordsAfter, visible}
+use Rattle.hardware.specs.Machine.{AtOnce, NoneAgain, concerns, OfParts, Machine, Promise}
 use Rattle.hardware.specs.Trees.{Within, within-same}
 use Rattle.hardware.specs.Plans.{Each, each-append, each-take, each-visible, each-zeros, Beyond, beyond-leave, places-beyond, left, Sound, Clears, clears-sound, places-clear}
 use Rattle.hardware.specs.Views.{no-write, MapView, map-takes, map-refuses, map-view, UnmapView, unmap-gives, unmap-refuses, unmap-view}
@@ -40,22 +40,50 @@ use Rattle.hardware.specs.Views.{FormatView, format-clears, format-refus
 use Rattle.hardware.specs.Views.{writes-carried, map-live, unmap-live, format-live, add-live}
 use Rattle.hardware.specs.Watch.{Seen, at-rest, overtaken-up, overtaken-down}
 use Rattle.hardware.specs.MapSeen.{map-seen}
+use Rattle.hardware.specs.RestoreSeen.{restore-parts, restore-carried}
 use Rattle.hardware.specs.UnmapSeen.{unmap-seen, unmap-outside}
 
--- the live mappings after a call, by its answer
+-- the live mappings after a call, by its answer; those after a restore are not known by that
 abbrev liveBy : List Mapping → Call → Answer → List Mapping
 liveBy L (formatC levels area) r = cond (accepts r) [] L
+liveBy L (restoreC levels area image) r = []
 liveBy L (addC q m second rest) r = L
 liveBy L (mapC a b size k) r = cond (accepts r) (mapping a b size k ∷ L) L
 liveBy L (unmapC a) r = cond (accepts r) (dropAt a L) L
 liveBy L (askC q) r = L
 
-live-by : (G : Granule) (A : Ledger) (c : Call) → stepL G A c .after .live ≡ liveBy (A .live) c (stepL G A c .answer)
-live-by G A (formatC levels area) = format-live G A levels area
-live-by G A (addC q m second rest) = add-live G A q m (length second) (freeTables G A + length rest)
-live-by G A (mapC a b size k) = map-live G A a b size k
-live-by G A (unmapC a) = unmap-live G A a
-live-by G A (askC q) = refl
+live-by : (G : Granule) (A : Ledger) (c : Call) → NoneAgain c → stepL G A c .after .live ≡ liveBy (A .live) c (stepL G A c .answer)
+live-by G A (formatC levels area) n = format-live G A levels area
+live-by G A (restoreC levels area image) n = absurd n
+live-by G A (addC q m second rest) n = add-live G A q m (length second) (freeTables G A + length rest)
+live-by G A (mapC a b size k) n = map-live G A a b size k
+live-by G A (unmapC a) n = unmap-live G A a
+live-by G A (askC q) n = refl
+
+-- a call that changes what is read at once uses no table again
+pub once-none : (c : Call) → AtOnce c → NoneAgain c
+once-none (formatC levels area) o = tt
+once-none (restoreC levels area image) o = o
+once-none (addC q m second rest) o = tt
+once-none (mapC a b size k) o = tt
+once-none (unmapC a) o = tt
+once-none (askC q) o = tt
+
+-- a call that is one by itself is its parts
+one-part : (G : Granule) (p : Pool) (A : Ledger) (c : Call) → parts G c ≡ c ∷ [] → OfParts G p A c
+one-part G p A c e = record {
+  writes = sym (append-nil (writesOf G p c)) ∙ ap (writesThrough G p) (sym e);
+  leaves = ap (poolAfter G p) (sym e);
+  enters = ap (ledgerAfter G A) (sym e);
+}
+
+parts-of : (G : Granule) (Z : Sane G) {p : Pool} {A : Ledger} → Sim G Z p A → (c : Call) → wrote c (stepW G p c .answer) ≡ true → OfParts G p A c
+parts-of G Z {p} {A} I (formatC levels area) e = one-part G p A (formatC levels area) refl
+parts-of G Z I (restoreC levels area image) e = restore-parts G Z I levels area image e
+parts-of G Z {p} {A} I (addC q m second rest) e = one-part G p A (addC q m second rest) refl
+parts-of G Z {p} {A} I (mapC a b size k) e = one-part G p A (mapC a b size k) refl
+parts-of G Z {p} {A} I (unmapC a) e = one-part G p A (unmapC a) refl
+parts-of G Z {p} {A} I (askC q) e = one-part G p A (askC q) refl
 
 module _ (G : Granule) (Z : Sane G) {p : Pool} {A : Ledger} (I : Sim G Z p A) where
   abbrev live : List Mapping
@@ -191,35 +219,37 @@ module _ (G : Granule) (Z : Sane G) {p : Pool} {A : Ledger} (I : Sim G Z p A) wh
 
   -- every call, by its answer
   abbrev By : Call → Done → Type 0
-  By c d = Seen G (writtenTo p c (d .answer)) live (liveBy live c (d .answer)) (cond (accepts (d .answer)) (plan G p c (tablesIn (d .answer))) []) (AtOnce c)
+  By c d = Seen G (writtenTo p c (d .answer)) live (liveBy live c (d .answer)) (cond (wrote c (d .answer)) (plan G p c (tablesIn (d .answer))) []) (AtOnce c)
 
-  seen : (c : Call) → By c (stepW G p c)
-  seen (formatC levels area) = go (stepW G p (formatC levels area)) (format-view G p levels area)
+  seen : (c : Call) → NoneAgain c → By c (stepW G p c)
+  seen (formatC levels area) n = go (stepW G p (formatC levels area)) (format-view G p levels area)
     where
       go : (d : Done) → FormatView G p levels area d → By (formatC levels area) d
       go d (format-clears N) = format-seen levels area N
       go d format-refuses = idle ⊥
-  seen (addC q m second rest) = go (addW G (lent p second rest) q m) (add-view G (lent p second rest) q m)
+  seen (restoreC levels area image) n = absurd n
+  seen (addC q m second rest) n = go (addW G (lent p second rest) q m) (add-view G (lent p second rest) q m)
     where
       go : (d : Done) → AddView G (lent p second rest) q m d → By (addC q m second rest) (goBack p d (d .answer))
       go d (add-grows a b c) = add-seen q m second rest (may-add G (lent p second rest) q m a .0 .one-yet .1)
       go d (add-refuses k) = idle (Unit {0})
-  seen (mapC a b size k) = go (stepW G p (mapC a b size k)) (map-view G p a b size k)
+  seen (mapC a b size k) n = go (stepW G p (mapC a b size k)) (map-view G p a b size k)
     where
       go : (d : Done) → MapView G p a b size k d → By (mapC a b size k) d
       go d (map-takes Y) = map-seen G Z I a b size k Y (Unit {0})
       go d (map-refuses j) = idle (Unit {0})
-  seen (unmapC a) = go (stepW G p (unmapC a)) (unmap-view G p a)
+  seen (unmapC a) n = go (stepW G p (unmapC a)) (unmap-view G p a)
     where
       go : (d : Done) → UnmapView G p a d → By (unmapC a) d
       go d (unmap-gives b k Y) = unmap-seen G Z I a b k Y (Unit {0})
       go d (unmap-refuses j v) = idle (Unit {0})
-  seen (askC q) = idle-or (accepts (askW G p q)) (Unit {0})
+  seen (askC q) n = idle-or (accepts (askW G p q)) (Unit {0})
 
   -- and outside the mapping concerned
   elsewhere : (c : Call) (x : ℕ) → concerns (own G Z I) c x ≡ false → told (liveBy live c (stepW G p c .answer)) x ≡ told live x
   unfolding coverOf
   elsewhere (formatC levels area) x e = let z : _≡_ {A = ℕ} 0 1 = cc in absurd (omega arith)
+  elsewhere (restoreC levels area image) x e = let z : _≡_ {A = ℕ} 0 1 = cc in absurd (omega arith)
   elsewhere (addC q m second rest) x e = refl
   elsewhere (mapC a b size k) x e = go (accepts (stepW G p (mapC a b size k) .answer))
     where
@@ -234,21 +264,34 @@ module _ (G : Granule) (Z : Sane G) {p : Pool} {A : Ledger} (I : Sim G Z p A) wh
   elsewhere (askC q) x e = refl
 
   -- the ledger's mappings after the call
-  after-is : (c : Call) → liveBy live c (stepW G p c .answer) ≡ stepL G (own G Z I) c .after .live
-  after-is c = ap (liveBy live c) (step-alike G Z (own-sim G Z I) c .answer) ∙ sym (live-by G (own G Z I) c)
+  after-is : (c : Call) → NoneAgain c → liveBy live c (stepW G p c .answer) ≡ stepL G (own G Z I) c .after .live
+  after-is c n = ap (liveBy live c) (step-alike G Z (own-sim G Z I) c .answer) ∙ sym (live-by G (own G Z I) c n)
+
+  outside-own : (c : Call) (x : ℕ) → concerns (own G Z I) c x ≡ false → told (stepL G (own G Z I) c .after .live) x ≡ told live x
+  outside-own c x e = ap (λ (L : List Mapping). told L x) (sym (after-is c (not-all c x e))) ∙ elsewhere c x e
+    where
+      -- a restore concerns every address
+      not-all : (c : Call) (x : ℕ) → concerns (own G Z I) c x ≡ false → NoneAgain c
+      not-all (formatC levels area) x e = tt
+      not-all (restoreC levels area image) x e = let z : _≡_ {A = ℕ} 0 1 = cc in absurd (omega arith)
+      not-all (addC q m second rest) x e = tt
+      not-all (mapC a b size k) x e = tt
+      not-all (unmapC a) x e = tt
+      not-all (askC q) x e = tt
 
   machine-own : (c : Call) → Machine G p (own G Z I) c
   machine-own c = record {
     rest = at-rest G Z I;
-    whole = writes-carried G p c;
-    each-write = S .each-write;
-    any-order = S .any-order;
-    overtaken = S .overtaken;
-    outside = λ x e. ap (λ (L : List Mapping). told L x) (sym (after-is c)) ∙ elsewhere c x e;
+    whole = writes-carried G p (restore-carried G Z I) c;
+    each-write = λ o. S (once-none c o) .each-write o;
+    any-order = λ o. S (once-none c o) .any-order o;
+    overtaken = λ n. S n .overtaken;
+    by-parts = parts-of G Z (own-sim G Z I) c;
+    outside = outside-own c;
   }
     where
-      S : Seen G (memoryOf G p c) live (stepL G (own G Z I) c .after .live) (writesOf G p c) (AtOnce c)
-      S = subst (λ (L : List Mapping). Seen G (memoryOf G p c) live L (writesOf G p c) (AtOnce c)) (after-is c) (seen c)
+      S : NoneAgain c → Seen G (memoryOf G p c) live (stepL G (own G Z I) c .after .live) (writesOf G p c) (AtOnce c)
+      S n = subst (λ (L : List Mapping). Seen G (memoryOf G p c) live L (writesOf G p c) (AtOnce c)) (after-is c n) (seen c n)
 
   pub machine : (c : Call) → Machine G p A c
   machine c = subst (λ (B : Ledger). Machine G p B c) (sym (ledger-is G Z I)) (machine-own c)

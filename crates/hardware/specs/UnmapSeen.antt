@@ -35,7 +35,7 @@ use Rattle.demand.specs.Carried.{A}
 use Rattle.demand.specs.Sims.{Sim}
 use Rattle.demand.specs.Queries.{area, n, k₀, al, X, R, few, walk-ended, entry-frame}
 use Rattle.demand.specs.Unmaps.{low, way-is, loose, carried, dropped}
-use Rattle.demand.specs.Theorem.{in-space}
+use Rattle.demand.specs.Steps.{in-space}
 use Rattle.hardware.specs.Machine.{told, heldBy, Stands, Reads, singles, wordsAfter}
 use Rattle.hardware.specs.Trees.{Within, within-both, within-less, Cut, cut}
 use Rattle.hardware.specs.Mixed.{place}

@@ -29,13 +29,13 @@ use Rattle.model.specs.Ledger.{Entered, entered, formatL, addL, mapL, unmapOf, 
 use Rattle.model.specs.Audit.{noneInside}
 use Rattle.model.specs.Adds.{lent, grown, addW}
 use Rattle.model.specs.AddLaws.{AddView, add-grows, add-refuses, add-view, may-add}
-use Rattle.demand.specs.Demand3.{Call, formatC, addC, mapC, unmapC, askC, askW, goOn, goBack, stepW}
-use Rattle.hardware.specs.Machine.{zerosFrom, placesFrom, placesAbove, accepts, tablesIn, plan, writesOf, writtenTo, memoryOf}
+use Rattle.demand.specs.Demand3.{Call, formatC, restoreC, addC, mapC, unmapC, askC, askW, goOn, goBack, stepW}
+use Rattle.hardware.specs.Machine.{zerosFrom, placesFrom, placesAbove, accepts, tablesIn, plan, wrote, writesOf, writtenTo, memoryOf}
 use Rattle.hardware.specs.Plans.{Each, InRange, perform-append, zeros-carried, singles-carried, places-carried, above-carried, map-range, prune-range}
 
 -- the single writes of a call that came to d
 abbrev writesBy : Granule → Pool → Call → Done → List Write
-writesBy G p c d = cond (accepts (d .answer)) (plan G p c (tablesIn (d .answer))) []
+writesBy G p c d = cond (wrote c (d .answer)) (plan G p c (tablesIn (d .answer))) []
 
 -- carried out, they leave what it left
 abbrev Carries : Granule → Pool → Call → Done → Type 0
@@ -260,15 +260,19 @@ module _ (G : Granule) (p : Pool) where
             ∙ above-carried G (p .numbers .tables) m (p .numbers .free) (grown G p₁ q m .words) (p₁ .list)
             (omega (arith, N .places-are, may-add G p₁ q m a .1, g .one-yet .1))
 
-  -- a call's single writes are what it does to the lent memory, whatever the pool
-  pub writes-carried : (c : Call)
-      → performAll G (writesOf G p c) (memory (memoryOf G p c .words) (memoryOf G p c .list)) ≡ memory (stepW G p c .after .words) (stepW G p c .after .list)
+  -- a call's single writes are what it does to the lent memory, whatever the pool; a restore's are its parts'
+  abbrev pub Carried : Call → Type 0
+  Carried c =
+      performAll G (writesOf G p c) (memory (memoryOf G p c .words) (memoryOf G p c .list)) ≡ memory (stepW G p c .after .words) (stepW G p c .after .list)
+
+  pub writes-carried : ((levels : ℕ) (area : Area) (image : List ℕ) → Carried (restoreC levels area image)) → (c : Call) → Carried c
   unfolding performAll
-  writes-carried (formatC levels area) = format-carries levels area _ (format-view levels area)
-  writes-carried (addC q m second rest) = add-carries q m second rest _ (add-view G (lent p second rest) q m)
-  writes-carried (mapC a b size k) = map-carries a b size k _ (map-view a b size k)
-  writes-carried (unmapC a) = unmap-carries a _ (unmap-view a)
-  writes-carried (askC q) = ap (λ (ws : List Write). performAll G ws (memory (p .words) (p .list))) (no-write (accepts (askW G p q)))
+  writes-carried f (formatC levels area) = format-carries levels area _ (format-view levels area)
+  writes-carried f (restoreC levels area image) = f levels area image
+  writes-carried f (addC q m second rest) = add-carries q m second rest _ (add-view G (lent p second rest) q m)
+  writes-carried f (mapC a b size k) = map-carries a b size k _ (map-view a b size k)
+  writes-carried f (unmapC a) = unmap-carries a _ (unmap-view a)
+  writes-carried f (askC q) = ap (λ (ws : List Write). performAll G ws (memory (p .words) (p .list))) (no-write (accepts (askW G p q)))
 
 -- ---- the ledger after a call, by its answer
 
