@@ -23,7 +23,7 @@ ghost use Rattle.model.specs.Listing.{listW, leaves};
 ghost use Rattle.image.specs.Images.{saysSave, saveDid, imaged, saveW, restoreDid, restoreN};
 ghost use Rattle.demand.specs.Demand3.{mapC, unmapC};
 ghost use Rattle.demand.specs.Demand3 as question;
-ghost use Rattle.demand.specs.Clauses.{ByLedger, FormatByLedger, AddByLedger, AskedByLedger};
+ghost use Rattle.demand.specs.Clauses.{ByLedger, FormatByLedger, RestoreByLedger, AddByLedger, AskedByLedger};
 
 // Empties the pool: all words 0, every table but the root free. Refused, it answers 1 and zero setup numbers, and changes nothing.
 pub fn format(
@@ -173,6 +173,8 @@ pub fn restore(
 ) -> Restored
     ensures whole { λ r. ⌜ restoreDid r (now (words .exit)) (now (second .exit)) (now (list .exit))
         ≡ restoreN (s .granule) (s .levels) (areaOf s) (now (words .entry) ++ now (second .entry)) (length (now (words .entry))) (now (list .entry)) (now (image .entry)) ⌝ }
+    ensures ledger { λ r. ⌜ RestoreByLedger (s .granule) (now (words .entry) ++ now (second .entry)) (length (now (words .entry))) (now (list .entry)) (s .levels) (areaOf s) (now (image .entry))
+        (restoreDid r (now (words .exit)) (now (second .exit)) (now (list .exit))) ⌝ }
 {
     restores::restore(s, words, second, list, image)
 }
