@@ -583,8 +583,8 @@ impl Lent {
         let [levels, base, tables, free, base2, tables2, granule] = self.setup;
         let setup = || path::Setup { levels, base, tables, free, base2, tables2, granule };
         for places in [self.list.len(), self.list.len() + 1] {
-            let r = tried(|| audit::tree_sound(setup(), &self.words, &self.second, places));
-            line(&format!("{} tree_sound {places} = {r}", self.name));
+            let r = tried(|| audit::tree_count(setup(), &self.words, &self.second, places));
+            line(&format!("{} tree_count {places} = {r}", self.name));
         }
     }
 

@@ -2,7 +2,7 @@
 use Prim.Native.Nat.{ℕ, _+_, _*_, _≤_}
 use mathlib.Core.Path.{_≡_, refl, sym, ap, _∙_}
 use mathlib.Core.Logic.{inr, ⊎-elim}
-use mathlib.Core.Bool.{Bool, true, false, not, _&&_}
+use mathlib.Core.Bool.{Bool, true, false, not, _&&_, and-true}
 use mathlib.Core.List.{List, [], _∷_, _++_}
 use native.Mathlib.Nat.{zero-mod}
 use native.Mathlib.Omega.{arith}
@@ -18,7 +18,8 @@ use Rattle.model.specs.Answers.{Mapping, pool}
 use Rattle.model.specs.Audit.{Found, noneInside}
 use Rattle.model.specs.Adds.{goodAdd, soundTree, addTests}
 use Rattle.model.specs.AddLaws.{may-add}
-use Rattle.audit.specs.Checks.{Rooted, treeOf}
+use Rattle.audit.specs.Checks.{Rooted, treeOf, counted}
+use Rattle.audit.specs.CountLaws.{counted-none, counted-some}
 use Rattle.audit.proofs.Whole.{rooted}
 
 -- no frame shares a byte with no table
@@ -37,26 +38,28 @@ abbrev zeros : ℕ → List ℕ
 zeros n = replicate n 0
 
 -- a check for no region is one of the tree alone
-pub tree-alone : (G : Granule) {x : Bool} (o : Found) → x ≡ (noneInside G (oneRegion 0 0) (o .mappings) && soundTree o) → x ≡ soundTree o
-tree-alone G o d = d ∙ rw (none-in-none G (o .mappings))
+tree-alone : (G : Granule) (o : Found) → (noneInside G (oneRegion 0 0) (o .mappings) && soundTree o) ≡ soundTree o
+tree-alone G o = rw (none-in-none G (o .mappings))
 
 -- the test of the tree, for a free list of so many places
 module _ (s : Setup) (ws us : List ℕ) (places : ℕ) {r : Bool} (e : r ≡ goodSetup (granuleOf (s .granule)) s (length ws) (length ws + length us) places) where
-  pub sound-bad : not r ≡ true → (b : Bool) → false ≡ (goodSetup (granuleOf (s .granule)) s (length ws) (length ws + length us) places && b)
-  sound-bad n b = rw (sym e ∙ not-true _ n)
+  pub count-bad : not r ≡ true → 0 ≡ counted (goodSetup (granuleOf (s .granule)) s (length ws) (length ws + length us) places && soundTree (treeOf s (ws ++ us))) (treeOf s (ws ++ us))
+  count-bad n = rw (sym e ∙ not-true _ n)
 
   module _ (n : not r ≡ false) where
     yes-good : goodSetup (granuleOf (s .granule)) s (length ws) (length ws + length us) places ≡ true
     yes-good = sym e ∙ not-false _ n
 
-    pub sound-rooted : Rooted s (length ws) (length us)
-    sound-rooted =
+    pub count-rooted : Rooted s (length ws) (length us)
+    count-rooted =
         rooted (pool s (ws ++ us) (length ws) (zeros places)) (ap (λ (z : ℕ). goodSetup (granuleOf (s .granule)) s (length ws) z (length (zeros places))) (length-append ws us) ∙ ap (goodSetup (granuleOf (s .granule)) s (length ws) (length ws + length us)) (length-replicate {A = ℕ} places 0) ∙ yes-good)
         (length us) (length-append ws us)
 
-    pub sound-told : {x : Bool} → x ≡ (noneInside (granuleOf (s .granule)) (oneRegion 0 0) (treeOf s (ws ++ us) .mappings) && soundTree (treeOf s (ws ++ us)))
-        → x ≡ (goodSetup (granuleOf (s .granule)) s (length ws) (length ws + length us) places && soundTree (treeOf s (ws ++ us)))
-    sound-told d = tree-alone (granuleOf (s .granule)) (treeOf s (ws ++ us)) d ∙ rw yes-good
+    pub count-told : {x : ℕ} → x ≡ counted (noneInside (granuleOf (s .granule)) (oneRegion 0 0) (treeOf s (ws ++ us) .mappings) && soundTree (treeOf s (ws ++ us))) (treeOf s (ws ++ us))
+        → x ≡ counted (goodSetup (granuleOf (s .granule)) s (length ws) (length ws + length us) places && soundTree (treeOf s (ws ++ us))) (treeOf s (ws ++ us))
+    count-told d =
+        d ∙ ap (λ (b : Bool). counted b (treeOf s (ws ++ us))) (tree-alone (granuleOf (s .granule)) (treeOf s (ws ++ us)))
+        ∙ ap (λ (b : Bool). counted (b && soundTree (treeOf s (ws ++ us))) (treeOf s (ws ++ us))) (sym yes-good)
 
 -- the first test, for a free list of so many places
 module _ (s : Setup) (ws us : List ℕ) (q m places : ℕ) {r : Bool}
@@ -97,29 +100,22 @@ module _ (s : Setup) (ws us : List ℕ) (q m places : ℕ) {r : Bool}
     pub new-few : m ≤ mostTables
     new-few = omega (arith, may .numbers .few)
 
-    module _ {x : Bool} (d : x ≡ (noneInside (granuleOf (s .granule)) (oneRegion 0 0) (treeOf s (ws ++ us) .mappings) && soundTree (treeOf s (ws ++ us)))) where
-      tree : x ≡ soundTree (treeOf s (ws ++ us))
-      tree = tree-alone (granuleOf (s .granule)) (treeOf s (ws ++ us)) d
-
-      pub add-unsound : not x ≡ true → (list : List ℕ) → length list ≡ places → 8 ≡ addTests (granuleOf (s .granule)) (pool s (ws ++ us) (length ws) list) q m
+    module _ {x : ℕ} (d : x ≡ counted (noneInside (granuleOf (s .granule)) (oneRegion 0 0) (treeOf s (ws ++ us) .mappings) && soundTree (treeOf s (ws ++ us))) (treeOf s (ws ++ us))) where
+      pub add-unsound : x ≡ 0 → (list : List ℕ) → length list ≡ places → 8 ≡ addTests (granuleOf (s .granule)) (pool s (ws ++ us) (length ws) list) q m
       unfolding addTests
-      add-unsound k list l = rw (yes-add list l, sym tree ∙ not-true _ k)
+      add-unsound k list l = rw (yes-add list l, sym (tree-alone (granuleOf (s .granule)) (treeOf s (ws ++ us))) ∙ counted-none _ (treeOf s (ws ++ us)) d k)
 
-      module _ (k : not x ≡ false) {y : Bool} (f : y ≡ (noneInside (granuleOf (s .granule)) (oneRegion q m) (treeOf s (ws ++ us) .mappings) && soundTree (treeOf s (ws ++ us)))) where
+      module _ (k : x ≡ 0 → ⊥) {y : ℕ} (f : y ≡ counted (noneInside (granuleOf (s .granule)) (oneRegion q m) (treeOf s (ws ++ us) .mappings) && soundTree (treeOf s (ws ++ us))) (treeOf s (ws ++ us))) where
         sound : soundTree (treeOf s (ws ++ us)) ≡ true
-        sound = sym tree ∙ not-false _ k
+        sound = sym (tree-alone (granuleOf (s .granule)) (treeOf s (ws ++ us))) ∙ counted-some _ (treeOf s (ws ++ us)) d k
 
-        apart : y ≡ noneInside (granuleOf (s .granule)) (oneRegion q m) (treeOf s (ws ++ us) .mappings)
-        apart = f ∙ ap (λ (b : Bool). noneInside (granuleOf (s .granule)) (oneRegion q m) (treeOf s (ws ++ us) .mappings) && b) sound ∙ and-yes _
-          where
-            and-yes : (b : Bool) → (b && true) ≡ b
-            and-yes true = refl
-            and-yes false = refl
+        apart : (noneInside (granuleOf (s .granule)) (oneRegion q m) (treeOf s (ws ++ us) .mappings) && soundTree (treeOf s (ws ++ us))) ≡ noneInside (granuleOf (s .granule)) (oneRegion q m) (treeOf s (ws ++ us) .mappings)
+        apart = ap (λ (b : Bool). noneInside (granuleOf (s .granule)) (oneRegion q m) (treeOf s (ws ++ us) .mappings) && b) sound ∙ and-true _
 
-        pub add-inside : not y ≡ true → (list : List ℕ) → length list ≡ places → 11 ≡ addTests (granuleOf (s .granule)) (pool s (ws ++ us) (length ws) list) q m
+        pub add-inside : y ≡ 0 → (list : List ℕ) → length list ≡ places → 11 ≡ addTests (granuleOf (s .granule)) (pool s (ws ++ us) (length ws) list) q m
         unfolding addTests
-        add-inside i list l = rw (yes-add list l, sound, sym apart ∙ not-true _ i)
+        add-inside i list l = rw (yes-add list l, sound, sym apart ∙ counted-none _ (treeOf s (ws ++ us)) f i)
 
-        pub add-passes : not y ≡ false → (list : List ℕ) → length list ≡ places → 0 ≡ addTests (granuleOf (s .granule)) (pool s (ws ++ us) (length ws) list) q m
+        pub add-passes : (y ≡ 0 → ⊥) → (list : List ℕ) → length list ≡ places → 0 ≡ addTests (granuleOf (s .granule)) (pool s (ws ++ us) (length ws) list) q m
         unfolding addTests
-        add-passes i list l = rw (yes-add list l, sound, sym apart ∙ not-false _ i)
+        add-passes i list l = rw (yes-add list l, sound, sym apart ∙ counted-some _ (treeOf s (ws ++ us)) f i)

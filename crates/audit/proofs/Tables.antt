@@ -168,7 +168,7 @@ module _ (G : Granule) (ws : List ℕ) (look : Look) (h t : ℕ) where
 
 -- ---- how much there can be
 
-record Small (F : Seen) (k : ℕ) : Type 0 where
+pub record Small (F : Seen) (k : ℕ) : Type 0 where
   pub few : length (F .reached) ≤ k
   pub some-more : F .count ≤ k
 
@@ -197,7 +197,7 @@ module _ (G : Granule) (look : Look) (h : ℕ) (below : ℕ → ℕ → Found) (
       (small-⊞ {F = atVisit G ws look t} {j = 1} (record { few = omega arith; some-more = omega arith }) (small-entries v l) (omega (arith, suc-mul (entries G) B)))
 
 -- at most a power of the entries and one more
-small-table : (G : Granule) (ws : List ℕ) (look : Look) (h t v : ℕ) → Small (seen G look (ofTable G ws (areaIn look) h t v)) (suc (entries G) ^ suc h)
+pub small-table : (G : Granule) (ws : List ℕ) (look : Look) (h t v : ℕ) → Small (seen G look (ofTable G ws (areaIn look) h t v)) (suc (entries G) ^ suc h)
 unfolding ofTable
 small-table G ws look zero t v =
     rw (pow-succ' (suc (entries G)) 0)
@@ -207,7 +207,7 @@ small-table G ws look (suc h) t v =
     (small-node G look (suc h) (λ c u. ofTable G ws (areaIn look) h c u) (suc (entries G) ^ suc h) (one-le-pow (suc h) (suc (entries G)) (omega arith)) (small-table G ws look h) ws t v)
 
 -- which is little for both granules
-power-small : (number h : ℕ) → h < granuleOf number .most → suc (entries (granuleOf number)) ^ suc h ≤ 513 ^ 4
+pub power-small : (number h : ℕ) → h < granuleOf number .most → suc (entries (granuleOf number)) ^ suc h ≤ 513 ^ 4
 power-small number h =
     granule-either (λ G. h < G .most → suc (entries G) ^ suc h ≤ 513 ^ 4)
     (λ l. pow-le-pow-right (lit< tt) l)

@@ -1,5 +1,5 @@
 -- The audit's answer, from what its checks answer: marking without a clash is the same as distinctness.
-use Prim.Native.Nat.{ℕ, _+_, _-_, _*_, _≤_, _<_}
+use Prim.Native.Nat.{ℕ, suc, _+_, _-_, _*_, _^_, _≤_, _<_}
 use mathlib.Core.Path.{_≡_, refl, sym, ap, ap₂, _∙_}
 use mathlib.Core.Bool.{Bool, true, false, cond, _&&_, _||_, not, true≢false, false≢true, and-true, and-false, and-assoc}
 use mathlib.Core.List.{List, [], _∷_, _++_, List·Memᴰ·head as here, List·Memᴰ·tail as there}
@@ -22,11 +22,11 @@ use Rattle.model.specs.Audit.{Found, tableWords, ofTable, ofPool, freeOf, freeS
 use Rattle.model.specs.Adds.{soundTree}
 use Rattle.model.specs.Sound.{Each, reachedOf, mappingsOf}
 use Rattle.model.specs.AuditLaws.{each-append, reached-low, free-back}
-use Rattle.audit.specs.Checks.{granuleIn, areaIn, keptIn, strictly, Seen, seen, Marked, clash, marks, mark, walked, Answers, atTable, treeOf, freePass, RunsFit, TableFit, Rooted}
+use Rattle.audit.specs.Checks.{granuleIn, areaIn, keptIn, strictly, Seen, seen, Marked, clash, marks, mark, walked, Answers, atTable, treeOf, counted, freePass, RunsFit, TableFit, Rooted}
 use Rattle.audit.specs.declared.Look.{Look}
 use Rattle.audit.specs.declared.Tally.the-variants.{Counts, Damaged}
 use Rattle.audit.proofs.Parts.{mark-append, ended, clashed}
-use Rattle.audit.proofs.Tables.{or-false}
+use Rattle.audit.proofs.Tables.{or-false, small-table, power-small}
 
 -- ---- marks and distinct lists
 
@@ -181,9 +181,15 @@ module _ (s : Setup) (look : Look) (ws : List ℕ) (some-table : 1 ≤ s .tables
       go true q e = (q, e)
       go false q e = absurd (let z : _≡_ {A = ℕ} 0 1 = cc in omega arith)
 
+  -- there are few mappings
+  pub root-few : s .levels - 1 < granuleOf (s .granule) .most → (a b : ℕ) (K : List ℕ) → Answers all (blank mostTables) (Counts a b) K → b < 2 ^ 63
+  root-few low a b K h =
+      let (x, y, z) = ended all (blank mostTables) K a b h in
+      omega (arith, small-table (granuleOf (s .granule)) ws look (s .levels - 1) 0 0 .some-more, power-small (s .granule) (s .levels - 1) low)
+
   -- where empty tables are as good as others
-  pub tree-clash : (K : List ℕ) → look .bare ≡ true → Answers all (blank mostTables) Damaged K → false ≡ (noneInside (granuleOf (s .granule)) (keptIn look) (tree .mappings) && soundTree tree)
-  tree-clash K bare h = go (noneInside (granuleOf (s .granule)) (keptIn look) (tree .mappings)) (tree .ok) (tree .full) (distinct (tree .reached)) (rw bare at (root-clash K h))
+  pub tree-clash : (K : List ℕ) → look .bare ≡ true → Answers all (blank mostTables) Damaged K → 0 ≡ counted (noneInside (granuleOf (s .granule)) (keptIn look) (tree .mappings) && soundTree tree) tree
+  tree-clash K bare h = ap (λ (x : Bool). counted x tree) (go (noneInside (granuleOf (s .granule)) (keptIn look) (tree .mappings)) (tree .ok) (tree .full) (distinct (tree .reached)) (rw bare at (root-clash K h)))
     where
       go : (n o f d : Bool) → ((n && (o && (f || true))) && d) ≡ false → false ≡ (n && (o && d))
       go true true true d e = sym e
@@ -192,10 +198,12 @@ module _ (s : Setup) (look : Look) (ws : List ℕ) (some-table : 1 ≤ s .tables
       go false o f d e = refl
 
   pub tree-sound : (a b : ℕ) (K : List ℕ) → look .bare ≡ true → Answers all (blank mostTables) (Counts a b) K
-      → true ≡ (noneInside (granuleOf (s .granule)) (keptIn look) (tree .mappings) && soundTree tree)
+      → b + 1 ≡ counted (noneInside (granuleOf (s .granule)) (keptIn look) (tree .mappings) && soundTree tree) tree
   tree-sound a b K bare h =
       let r = root-sound a b K h in
-      go (noneInside (granuleOf (s .granule)) (keptIn look) (tree .mappings)) (tree .ok) (tree .full) (rw bare at (r .0)) (sym (blank-distinct mostTables (tree .reached) reached-small) ∙ ap passed (r .1 .0))
+      let one : b + 1 ≡ suc (length (tree .mappings)) = omega (arith, r .1 .1 .1) in
+      one ∙ ap (λ (x : Bool). counted x tree)
+      (go (noneInside (granuleOf (s .granule)) (keptIn look) (tree .mappings)) (tree .ok) (tree .full) (rw bare at (r .0)) (sym (blank-distinct mostTables (tree .reached) reached-small) ∙ ap passed (r .1 .0)))
     where
       go : (n o f : Bool) → (n && (o && (f || true))) ≡ true → distinct (tree .reached) ≡ true → true ≡ (n && (o && distinct (tree .reached)))
       go true true f e d = sym d

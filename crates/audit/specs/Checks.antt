@@ -99,6 +99,10 @@ atEntry G ws look h t i = atWord G ws look h (wordAt G ws t i)
 abbrev pub treeOf : Setup → List ℕ → Found
 treeOf s ws = ofTable (granuleOf (s .granule)) ws (areaOf s) (s .levels - 1) 0 0
 
+-- one more than the number of mappings of a tree that passes a test, else 0
+abbrev pub counted : Bool → Found → ℕ
+counted good o = cond good (suc (length (o .mappings))) 0
+
 -- the word of a page that shares no byte with the tables
 abbrev pub isPage : Granule → Area → ℕ → Bool
 isPage G area w =

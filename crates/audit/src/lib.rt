@@ -13,7 +13,7 @@ ghost use Rattle.path.specs.Numbers.{mostTables, goodSetup};
 ghost use Rattle.model.specs.Answers.{saysAudit, pool};
 ghost use Rattle.model.specs.Audit.{tableWords, noneInside, auditW};
 ghost use Rattle.model.specs.Adds.{soundTree, addTests};
-ghost use Rattle.audit.specs.Checks.{Answers, granuleIn, strictly, Cut, Rooted, RunsFit, PageFit, TableFit, EntryFit, keptIn, isPage, isFresh, atTable, atWord, treeOf, freePass};
+ghost use Rattle.audit.specs.Checks.{Answers, granuleIn, strictly, Cut, Rooted, RunsFit, PageFit, TableFit, EntryFit, keptIn, isPage, isFresh, atTable, atWord, treeOf, counted, freePass};
 
 // A mark for each table that a pool may have.
 const MARKS: usize = path::MOST_TABLES as usize;
@@ -255,11 +255,12 @@ fn free_check<'a>(
     true
 }
 
-// Whether every reachable word is sound, no table is reached twice, and no frame shares a byte with a region of so many tables. Empty tables are not looked at.
-fn tree_check<'a>(s: Setup, words: &'a [u64], second: &'a [u64], kept: u64, many: u64) -> bool
+// One more than the number of mappings, where every reachable word is sound, no table is reached twice, and no frame shares a byte with a region of so many tables;
+// else 0. Empty tables are not looked at.
+fn tree_check<'a>(s: Setup, words: &'a [u64], second: &'a [u64], kept: u64, many: u64) -> u64
     requires { ⌜ Rooted s (length (now words)) (length (now second)) × (GoodArea (granuleOf (s .granule)) (oneRegion kept many) × (many ≤ mostTables)) ⌝ }
-    ensures { λ r. ⌜ r ≡ (noneInside (granuleOf (s .granule)) (oneRegion kept many) (treeOf s (now (words .entry) ++ now (second .entry)) .mappings)
-        && soundTree (treeOf s (now (words .entry) ++ now (second .entry)))) ⌝ }
+    ensures { λ r. ⌜ r ≡ counted (noneInside (granuleOf (s .granule)) (oneRegion kept many) (treeOf s (now (words .entry) ++ now (second .entry)) .mappings)
+        && soundTree (treeOf s (now (words .entry) ++ now (second .entry)))) (treeOf s (now (words .entry) ++ now (second .entry))) ⌝ }
 {
     let mut marks = [0u8; MARKS];
     let look = Look {
@@ -276,19 +277,19 @@ fn tree_check<'a>(s: Setup, words: &'a [u64], second: &'a [u64], kept: u64, many
     };
     let r = table_check(words, second, &mut marks, look, 0, (s.levels - 1) as usize);
     match r {
-        Tally::Counts(_, _) => true,
-        Tally::Damaged => false,
+        Tally::Counts(_, mappings) => mappings + 1,
+        Tally::Damaged => 0,
     }
 }
 
-// Whether the setup numbers and the three lengths are good, every reachable word is sound and no table is reached twice. Empty tables, frames in the pool and the
-// free list are not looked at.
-pub fn tree_sound<'a>(s: Setup, words: &'a [u64], second: &'a [u64], places: usize) -> bool
-    ensures { λ r. ⌜ r ≡ (goodSetup (granuleOf (s .granule)) s (length (now (words .entry))) (length (now (words .entry)) + length (now (second .entry))) places
-        && soundTree (treeOf s (now (words .entry) ++ now (second .entry)))) ⌝ }
+// One more than the number of mappings of a pool, where its setup numbers and the three lengths are good, every reachable word is sound and no table is reached twice;
+// else 0. Empty tables, frames in the pool and the free list are not looked at.
+pub fn tree_count<'a>(s: Setup, words: &'a [u64], second: &'a [u64], places: usize) -> u64
+    ensures { λ r. ⌜ r ≡ counted (goodSetup (granuleOf (s .granule)) s (length (now (words .entry))) (length (now (words .entry)) + length (now (second .entry))) places
+        && soundTree (treeOf s (now (words .entry) ++ now (second .entry)))) (treeOf s (now (words .entry) ++ now (second .entry))) ⌝ }
 {
     if !setups::good_setup(s, words.len(), second.len(), places) {
-        return false;
+        return 0;
     }
     tree_check(s, words, second, 0, 0)
 }
@@ -309,10 +310,10 @@ pub fn add_tests<'a>(
     if !setups::good_adding(s, base2, tables2, words.len(), second.len(), places) {
         return 1;
     }
-    if !tree_check(s, words, second, 0, 0) {
+    if tree_check(s, words, second, 0, 0) == 0 {
         return 8;
     }
-    if !tree_check(s, words, second, base2, tables2) {
+    if tree_check(s, words, second, base2, tables2) == 0 {
         return 11;
     }
     0

@@ -14,6 +14,7 @@ use Rattle.image.specs.LayoutLaws.{length-block}
 use Rattle.laws.specs.ListLaws.{mem-at}
 use Rattle.blocks.proofs.Words.{words-first}
 use Rattle.blocks.specs.Writes.{pairs, placed, written}
+use Rattle.blocks.specs.WriteLaws.{length-placed, placed-then, placed-none, length-pairs}
 
 -- ---- a word
 
@@ -46,46 +47,9 @@ one-word : (w : ℕ) → bytesOfWords (w ∷ []) ≡ bytesOf 8 w
 unfolding bytesOfWords
 one-word w = append-nil (bytesOf 8 w)
 
-pub length-placed : (bs : List ℕ) (at : ℕ) (new : List ℕ) → at + length new ≤ length bs → length (placed bs at new) ≡ length bs
-length-placed bs at new l = omega (
-  arith,
-  length-append (take at bs ++ new) (drop (at + length new) bs),
-  length-append (take at bs) new,
-  length-take-le at bs (omega arith),
-  length-drop (at + length new) bs,
-)
-
 -- a word stored leaves a block as long as it was
 pub placed-long : (bs : List ℕ) (at w : ℕ) {r : List ℕ} → r ≡ placed bs at (bytesOf 8 w) → length bs ≡ 512 → at + 8 ≤ 512 → length r ≡ 512
 placed-long bs at w e long l = ap length e ∙ length-placed bs at (bytesOf 8 w) (omega (arith, length-bytes 8 w)) ∙ long
-
--- bytes at a place, and more after them
-pub placed-then : (bs : List ℕ) (at : ℕ) (new more : List ℕ) (next : ℕ) → next ≡ at + length new → at + length new + length more ≤ length bs
-    → placed (placed bs at new) next more ≡ placed bs at (new ++ more)
-placed-then bs at new more next e l =
-    (λ i. take (e i) (placed bs at new) ++ more ++ drop (e i + length more) (placed bs at new))
-    ∙ (λ i. first i ++ more ++ rest i)
-    ∙ (λ i. append-assoc (take at bs) new more i ++ drop (after i) bs)
-  where
-    long : length (take at bs ++ new) ≡ at + length new
-    long = omega (arith, length-append (take at bs) new, length-take-le at bs (omega arith))
-
-    first : take (at + length new) (placed bs at new) ≡ take at bs ++ new
-    first = take-at (take at bs ++ new) (drop (at + length new) bs) (at + length new) long
-
-    rest : drop (at + length new + length more) (placed bs at new) ≡ drop (at + length new + length more) bs
-    rest =
-        sym (drop-drop (length more) (at + length new) (placed bs at new))
-        ∙ ap (drop (length more)) (drop-at (take at bs ++ new) (drop (at + length new) bs) (at + length new) long)
-        ∙ drop-drop (length more) (at + length new) bs
-
-    after : at + length new + length more ≡ at + length (new ++ more)
-    after = omega (arith, length-append new more)
-
-pub placed-none : (bs : List ℕ) (at : ℕ) → bs ≡ placed bs at []
-placed-none bs at =
-    let n : at + 0 ≡ at = omega arith in
-    sym ((λ i. append-nil (take at bs) i ++ drop (n i) bs) ∙ take-append-drop at bs)
 
 -- ---- records
 
@@ -95,13 +59,6 @@ pairs-more [] [] p e l = refl
 pairs-more (x ∷ a) (y ∷ b) p e l = ap (λ (k : List ℕ). x ∷ y ∷ k) (pairs-more a b p e (omega arith))
 pairs-more [] (y ∷ b) p e l = absurd (omega arith)
 pairs-more (x ∷ a) [] p e l = absurd (omega arith)
-
-pub length-pairs : (a b : List ℕ) → length a ≡ length b → length (pairs a b) ≡ 2 * length a
-unfolding pairs
-length-pairs [] [] l = refl
-length-pairs (x ∷ a) (y ∷ b) l = omega (arith, length-pairs a b (omega arith))
-length-pairs [] (y ∷ b) l = absurd (omega arith)
-length-pairs (x ∷ a) [] l = absurd (omega arith)
 
 -- a block with the first i numbers of each run
 abbrev pub filled : List ℕ → List ℕ → List ℕ → ℕ → List ℕ

@@ -10,7 +10,7 @@ ghost use Rattle.image.specs.Check.{checkOf};
 ghost use Rattle.image.specs.Layout.{recsIn, whole, blockOf};
 ghost use Rattle.image.specs.Images.{granuleWord};
 ghost use Rattle.blocks.specs.Reads.{wordRead, inOrder, headIn, headRead, blockIn, blockRead};
-ghost use Rattle.blocks.specs.Writes.{placed, written, pairs};
+ghost use Rattle.blocks.specs.Writes.{placed, written, headWritten, pairs};
 
 // The bytes of a block, and of a word.
 const BLOCK: usize = 512;
@@ -296,4 +296,16 @@ pub fn put_block(
     let end = at + BLOCK;
     let first = (k as u64) + NUMBERS * (n as u64);
     put_words(&mut image[at..end], first, &places, &entries);
+}
+
+// Writes block 0 at the start of a run: the levels, the number of mappings and the word of this granule. Where there is no room for it, nothing.
+pub fn put_head(image: &mut [u8], levels: u64, count: u64, granule: u64)
+    ensures { λ _. ⌜ now (image .exit) ≡ headWritten levels count (granuleWord (granuleOf granule)) (now (image .entry)) ⌝ }
+{
+    let mut places = [0u64; RECORDS];
+    let mut entries = [0u64; RECORDS];
+    places[0] = levels;
+    places[1] = granule_word(granule);
+    entries[0] = count;
+    put_block(image, 0, 0, 0, places, entries);
 }

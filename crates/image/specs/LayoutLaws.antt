@@ -6,6 +6,7 @@ use mathlib.Core.List.{List, [], _∷_, _++_, append-assoc, List·Memᴰ·head a
 use mathlib.Core.Option.{none}
 use Prim.Native.Nat.{ℕ, zero, suc, _+_, _-_, _*_, _%_, _^_, _≤_, _<_, min}
 use native.Mathlib.Omega.{arith}
+use native.Mathlib.Decide.{decLe}
 use lib.Dec.{ltb, leb}
 use lib.ListN.{length, take, drop, getD, replicate, length-append, length-take, length-drop, length-replicate, take-append-drop, List·getD-append}
 use lib.Seq.{take-at, drop-at, getD-at}
@@ -14,7 +15,7 @@ use Rattle.laws.specs.Lists.{part, allZero}
 use Rattle.laws.specs.ListLaws.{allZero-replicate}
 use Rattle.model.specs.LedgerLaws.{and-true, true-and}
 use Rattle.image.specs.Bytes.{bytesOfWords, bytesOfBlocks, Below, Block}
-use Rattle.image.specs.ByteLaws.{below-nil, below-cons, below-append, block-back, length-bytes-block}
+use Rattle.image.specs.ByteLaws.{below-nil, below-cons, below-append, block-back, length-bytes-words, length-bytes-block}
 use Rattle.image.specs.Check.{weigh, checkOf, Checked}
 use Rattle.image.specs.Layout.{Rec, baseOf, wordsOfRecs, padded, blockOf, headBlock, recBlock, blocksFor, recBlocks, imageBlocks, imageOf, Reading, block, bad, ended, recordsIn, badIn, recsIn, rises, lowAfter, whole, goodHead, goodBlock, readBlocks, readImage, Recs, Savable}
 
@@ -111,6 +112,27 @@ module _ (k : ℕ) (rs : List Rec) (few : length rs ≤ 31) where
   unfolding goodBlock
   rec-good low r = true-and (ap (λ (n : ℕ). whole n (recBlock k rs)) (omega (arith, length-recs rs)) ∙ block-whole ws rec-fits)
       (true-and (eq-eqb (getD (recBlock k rs) 0 0) (k + 2 ^ 32 * length rs) (block-word ws rec-fits 0 (omega arith))) (ap (rises low) rec-recs ∙ r))
+
+-- ---- how many blocks
+
+-- one block has up to 31 of the records that are left
+pub blocks-less : (left : ℕ) → 0 < left → blocksFor left ≡ suc (blocksFor (left - min 31 left))
+blocks-less left some = go (decLe 31 left)
+  where
+    go : Dec (31 ≤ left) → blocksFor left ≡ suc (blocksFor (left - min 31 left))
+    go (yes l) = let m : min 31 left ≡ 31 = omega arith in rw m (omega arith)
+    go (no l) = let m : min 31 left ≡ left = omega arith in rw m (omega arith)
+
+pub length-rec-bytes : (n k : ℕ) (rs : List Rec) → length (bytesOfBlocks (recBlocks n k rs)) ≡ 512 * n
+unfolding recBlocks bytesOfBlocks
+length-rec-bytes zero k rs = refl
+length-rec-bytes (suc n) k rs = omega (
+  arith,
+  length-append (bytesOfWords (recBlock k (take 31 rs))) (bytesOfBlocks (recBlocks n (suc k) (drop 31 rs))),
+  length-bytes-words (recBlock k (take 31 rs)),
+  length-block ((k + 2 ^ 32 * length (take 31 rs)) ∷ wordsOfRecs (take 31 rs)) (omega (arith, length-recs (take 31 rs), length-take 31 rs)),
+  length-rec-bytes n (suc k) (drop 31 rs),
+)
 
 -- ---- order
 

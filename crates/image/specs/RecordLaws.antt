@@ -22,10 +22,10 @@ use Rattle.model.specs.Calls.{goodPool}
 use Rattle.model.specs.Adds.{soundTree}
 use Rattle.model.specs.Walk.{slot}
 use Rattle.model.specs.Audit.{Found, nothing, tableWords, ofEntry, ofEntries, ofTable, ofPool}
-use Rattle.model.specs.Sound.{Each, mappingsOf, WellFormed}
+use Rattle.model.specs.Sound.{Each, mappingsOf, Rising, WellFormed}
 use Rattle.model.specs.LedgerLaws.{true-and}
 use Rattle.model.specs.AuditLaws.{node}
-use Rattle.model.specs.MappingLaws.{pool-within, pool-well}
+use Rattle.model.specs.MappingLaws.{pool-rises, pool-within, pool-well}
 use Rattle.model.specs.Listing.{powerOf, placeOf, entryOf, Climbing}
 use Rattle.model.specs.ListingLaws.{power-size, pool-climbs}
 use Rattle.image.specs.Layout.{Rec, baseOf, blocksFor, imageOf, rises, Recs, Savable}
@@ -104,6 +104,18 @@ module _ {G : Granule} (Z : Sane G) where
       let N = good-setup g .numbers in
       let l : 2 ^ (G .page + G .index * p .numbers .levels) ≤ 2 ^ 48 = pow-mono {i = G .page + G .index * p .numbers .levels} {j = 48} (omega (arith, mul-le-mul-left {m = p .numbers .levels} {n = G .most} (G .index) (N .not-more), Z .space-fits)) in
       omega (arith, space-some G (N .enough) (N .not-more), l)
+
+  -- pages of 4 KiB at least, one after the other, and so not many
+  rising-few : (lo hi : ℕ) (L : List Mapping) → Rising lo hi L → Each (WellFormed G) L → lo + 4096 * length L ≤ hi
+  unfolding Rising sizeAt
+  rising-few lo hi [] r w = omega (arith, r)
+  rising-few lo hi (m ∷ L) r w =
+      let W = w m (here refl) in
+      let l : 2 ^ 12 ≤ 2 ^ (G .page + G .index * W .height) = pow-mono {i = 12} {j = G .page + G .index * W .height} (omega (arith, Z .page-least)) in
+      omega (arith, r .0, W .sized, rising-few (m .at + m .size) hi L (r .1) (λ k i. w k (there i)))
+
+  pub pool-few : (p : Pool) → goodPool G p ≡ true → 4096 * length (mappingsOf G p) ≤ physical
+  pool-few p g = omega (arith, rising-few 0 (spaceOf G (p .numbers .levels)) (mappingsOf G p) (pool-rises Z p g) (pool-well Z p g), space-small p g)
 
   -- The mappings of a pool with good numbers can be saved, where there are not too many.
   pub pool-savable : (p : Pool) → goodPool G p ≡ true → length (mappingsOf G p) ≤ 2 ^ 20 → Savable (p .numbers .levels) (granuleWord G) (map (recordOf G) (mappingsOf G p))

@@ -110,7 +110,7 @@ module _ (G : Granule) where
   someLeft [] = false
   someLeft (m ∷ R) = true
 
-  abbrev leftBase : List Mapping → ℕ
+  abbrev pub leftBase : List Mapping → ℕ
   leftBase [] = 0
   leftBase (m ∷ R) = m .at
 
@@ -203,6 +203,18 @@ module _ (G : Granule) where
         e ∙ feed-wrote M [] P [] E 0 refl refl same
         ∙ (let z : 0 + length Q ≡ length Q = omega arith in
         λ i. record { places = over (map (placeOf G) Q) P; entries = over (map (entryOf G) Q) E; written = z i; more = someLeft R; next = leftBase R })
+
+    pub wrote-places : P′ ≡ over (map (placeOf G) Q) P
+    wrote-places = ap (λ (f : Fed). f .places) wrote
+
+    pub wrote-entries : E′ ≡ over (map (entryOf G) Q) E
+    wrote-entries = ap (λ (f : Fed). f .entries) wrote
+
+    pub wrote-count : r .written ≡ length Q
+    wrote-count = ap (λ (f : Fed). f .written) wrote
+
+    pub wrote-next : r .next ≡ leftBase R
+    wrote-next = ap (λ (f : Fed). f .next) wrote
 
     pub list-all : r .more ≡ false → listDid (L.All (r .written)) P′ E′ ≡ leaves (listedOf G (length P) M) P E
     unfolding listedOf

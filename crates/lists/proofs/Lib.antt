@@ -1,3 +1,5 @@
 mod Feeding
 mod Rests
 mod Whole
+mod Saving
+mod Saves

@@ -8,10 +8,10 @@ use native.Mathlib.Omega.{arith}
 use lib.Dec.{leb}
 use lib.ListN.{length, length-append}
 use borrow.Author.Tests.{not-true, not-false, eq-eqb, ne-eqb, le-leb, lt-leb}
-use Rattle.path.specs.Geometry.{Granule, Sane, sizeAt, goodLevels, spaceOf}
+use Rattle.path.specs.Geometry.{Granule, granuleOf, sizeAt, goodLevels, spaceOf}
 use Rattle.path.specs.Areas.{areaOf}
 use Rattle.path.specs.Numbers.{goodSetup, GoodNumbers}
-use Rattle.path.specs.Laws.{good-setup, space-some, size-fits, in-space, past-space}
+use Rattle.path.specs.Laws.{granule-sane, good-setup, space-some, size-fits, in-space, past-space}
 use Rattle.path.specs.declared.Setup.{Setup}
 use Rattle.model.specs.declared.ListAnswer.the-variants as L
 use Rattle.model.specs.Answers.{Pool, pool, listDid}
@@ -20,12 +20,49 @@ use Rattle.model.specs.Audit.{ofPool}
 use Rattle.model.specs.Adds.{soundTree}
 use Rattle.model.specs.AddLaws.{tree-wf}
 use Rattle.model.specs.Listing.{fromOn, listedOf, listW, leaves}
-use Rattle.lists.specs.Feeds.{TableFit, RunsFit, fed, feed}
+use Rattle.audit.specs.Checks.{treeOf, counted}
+use Rattle.audit.specs.CountLaws.{counted-none, counted-some}
+use Rattle.lists.specs.Feeds.{PoolFit, fed, feed}
 use Rattle.lists.specs.declared.Cursor.{Cursor}
 use Rattle.lists.proofs.Feeding.{list-all, list-some}
 
-module _ {G : Granule} (S : Sane G) (s : Setup) (ws us list : List ℕ) (start : ℕ) (P E : List ℕ) {r : Bool}
-    (e : r ≡ goodSetup G s (length ws) (length ws + length us) (length list)) where
+-- ---- the root of a pool
+
+module _ (s : Setup) (ws us list : List ℕ) (good : goodPool (granuleOf (s .granule)) (pool s (ws ++ us) (length ws) list) ≡ true)
+    (sound : soundTree (treeOf s (ws ++ us)) ≡ true) where
+  abbrev G₁ : Granule
+  G₁ = granuleOf (s .granule)
+
+  pub pool-fit : {start : ℕ} → start < spaceOf G₁ (s .levels) → PoolFit s (ws ++ us) (length ws) (length us) start
+  pool-fit {start} inside = record {
+    few = N .few;
+    some-level = omega (arith, N .enough, granule-sane (s .granule) .large-below);
+    root = record {
+      inside = omega (arith, N .some-table);
+      region = record {
+        level = omega (arith, top, N .not-more);
+        aligned = zero-mod (sizeAt G₁ (suc (s .levels - 1)));
+        fits = omega (arith, ap (sizeAt G₁) top, size-fits G₁ (granule-sane (s .granule)) (N .not-more));
+        not-before = omega (arith, ap (sizeAt G₁) top, inside, space-some G₁ (N .enough) (N .not-more));
+      };
+      sound = tree-wf G₁ (pool s (ws ++ us) (length ws) list) sound .tree;
+    };
+    runs = record { cut-is = N .cut-is; long = omega (arith, N .words-are, length-append ws us) };
+  }
+    where
+      N : GoodNumbers G₁ (s .levels) (areaOf s) (length ws) (length (ws ++ us)) (length list)
+      N = good-setup good .numbers
+
+      top : suc (s .levels - 1) ≡ s .levels
+      top = omega (arith, N .enough, granule-sane (s .granule) .large-below)
+
+-- ---- list
+
+module _ (s : Setup) (ws us list : List ℕ) (start : ℕ) (P E : List ℕ) {r : Bool}
+    (e : r ≡ goodSetup (granuleOf (s .granule)) s (length ws) (length ws + length us) (length list)) where
+  abbrev G : Granule
+  G = granuleOf (s .granule)
+
   abbrev p : Pool
   p = pool s (ws ++ us) (length ws) list
 
@@ -40,15 +77,6 @@ module _ {G : Granule} (S : Sane G) (s : Setup) (ws us list : List ℕ) (start :
   module _ (n : not r ≡ false) where
     good : goodPool G p ≡ true
     good = sym good-is ∙ not-false r n
-
-    abbrev N : GoodNumbers G (s .levels) (areaOf s) (length ws) (length (ws ++ us)) (length list)
-    N = good-setup good .numbers
-
-    pub few-tables : s .tables + s .tables2 ≤ 512
-    few-tables = N .few
-
-    pub some-level : 1 ≤ s .levels
-    some-level = omega (arith, N .enough, S .large-below)
 
     -- runs of unequal length
     pub list-uneven : (length P ≡ length E → ⊥) → listDid (L.Refused 1) P E ≡ leaves (listW G p start (length P) (length E)) P E
@@ -66,37 +94,21 @@ module _ {G : Granule} (S : Sane G) (s : Setup) (ws us list : List ℕ) (start :
         pub inside : start < spaceOf G (s .levels)
         inside = omega (arith, in-space G (s .levels) start 1 (sym d ∙ not-false x k))
 
-        pub runs-fit : RunsFit G (areaOf s) (length ws) (length us)
-        runs-fit = record { cut-is = N .cut-is; long = omega (arith, N .words-are, length-append ws us) }
-
-        module _ {y : Bool} (c : y ≡ (goodSetup G s (length ws) (length ws + length us) (length list) && soundTree (ofPool G p))) where
-          tree-is : y ≡ soundTree (ofPool G p)
-          tree-is = c ∙ rw (sym e ∙ not-false r n)
+        module _ {y : ℕ} (c : y ≡ counted (goodSetup G s (length ws) (length ws + length us) (length list) && soundTree (treeOf s (ws ++ us))) (treeOf s (ws ++ us))) where
+          tree-is : (goodSetup G s (length ws) (length ws + length us) (length list) && soundTree (treeOf s (ws ++ us))) ≡ soundTree (treeOf s (ws ++ us))
+          tree-is = rw (sym e ∙ not-false r n)
 
           -- 8
-          pub list-unsound : not y ≡ true → listDid (L.Refused 8) P E ≡ leaves (listW G p start (length P) (length E)) P E
+          pub list-unsound : y ≡ 0 → listDid (L.Refused 8) P E ≡ leaves (listW G p start (length P) (length E)) P E
           unfolding listW
-          list-unsound j = rw (good, eq-eqb (length P) (length E) even, lt-leb (spaceOf G (s .levels)) start inside, sym tree-is ∙ not-true y j)
+          list-unsound j = rw (good, eq-eqb (length P) (length E) even, lt-leb (spaceOf G (s .levels)) start inside, sym tree-is ∙ counted-none _ (treeOf s (ws ++ us)) c j)
 
-          module _ (j : not y ≡ false) where
+          module _ (j : y ≡ 0 → ⊥) where
             sound : soundTree (ofPool G p) ≡ true
-            sound = sym tree-is ∙ not-false y j
+            sound = sym tree-is ∙ counted-some _ (treeOf s (ws ++ us)) c j
 
-            -- the root
-            pub root-fit : TableFit G (ws ++ us) (areaOf s) start 0 (s .levels - 1) 0
-            root-fit = record {
-              inside = omega (arith, N .some-table);
-              region = record {
-                level = omega (arith, top, N .not-more);
-                aligned = zero-mod (sizeAt G (suc (s .levels - 1)));
-                fits = omega (arith, ap (sizeAt G) top, size-fits G S (N .not-more));
-                not-before = omega (arith, ap (sizeAt G) top, inside, space-some G (N .enough) (N .not-more));
-              };
-              sound = tree-wf G p sound .tree;
-            }
-              where
-                top : suc (s .levels - 1) ≡ s .levels
-                top = omega (arith, N .enough, S .large-below)
+            pub list-fit : PoolFit s (ws ++ us) (length ws) (length us) start
+            list-fit = pool-fit s ws us list good sound inside
 
             module _ (P′ E′ : List ℕ) (q : Cursor) (f : fed q P′ E′ ≡ feed G (fromOn start (ofPool G p .mappings)) P E 0) where
               answer-is : listW G p start (length P) (length E) ≡ listedOf G (length P) (fromOn start (ofPool G p .mappings))

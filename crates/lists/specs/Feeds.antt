@@ -7,12 +7,18 @@ use mathlib.Core.List.{List, [], _∷_}
 use lib.Dec.{ltb}
 use lib.ListN.{length, getD, set, drop}
 use Rattle.path.specs.Geometry.{Granule, granuleOf, entries, sizeAt, physical}
-use Rattle.path.specs.Areas.{Area, areaAt, total}
+use Rattle.path.specs.Areas.{Area, areaAt, areaOf, total}
+use Rattle.path.specs.Numbers.{mostTables}
+use Rattle.path.specs.declared.Setup.{Setup}
 use Rattle.entry.specs.Words.{frameWord, entryAt, Framed}
-use Rattle.model.specs.Answers.{Mapping, mapping}
+use Rattle.model.specs.Answers.{Mapping, mapping, pool}
+use Rattle.model.specs.Calls.{goodPool}
+use Rattle.model.specs.Adds.{soundTree}
 use Rattle.model.specs.Audit.{Found, nothing, ofEntries, ofTable}
 use Rattle.model.specs.Sound.{SoundEntry, SoundTable}
 use Rattle.model.specs.Listing.{placeOf, entryOf}
+use Rattle.image.specs.Layout.{blocksFor}
+use Rattle.audit.specs.Checks.{treeOf}
 use Rattle.lists.specs.declared.Cursor.{Cursor}
 use Rattle.lists.specs.declared.Tree.{Tree}
 
@@ -117,3 +123,19 @@ pub record EntryFit (G : Granule) (ws : List ℕ) (area : Area) (start w h v : �
   pub low : h < G .most
   pub region : RegionFit G start h v
   pub sound : SoundEntry (SoundBelow G ws area h) (entryAt G area h w)
+
+-- of a pool whose mappings are listed from a start on: its root
+pub record PoolFit (s : Setup) (ws : List ℕ) (first second start : ℕ) : Type 0 where
+  pub few : total (areaOf s) ≤ mostTables
+  pub some-level : 1 ≤ s .levels
+  pub root : TableFit (granuleOf (s .granule)) ws (areaOf s) start 0 (s .levels - 1) 0
+  pub runs : RunsFit (granuleOf (s .granule)) (areaOf s) first second
+
+-- of a pool whose mappings are saved, so many, in a run of so many bytes: good numbers and lengths, for some free list; a sound tree; and room for the blocks
+pub record SaveFit (s : Setup) (ws : List ℕ) (first second room count : ℕ) : Type 0 where
+  pub list : List ℕ
+  pub good : goodPool (granuleOf (s .granule)) (pool s ws first list) ≡ true
+  pub long : length ws ≡ first + second
+  pub sound : soundTree (treeOf s ws) ≡ true
+  pub counted : count ≡ length (treeOf s ws .mappings)
+  pub room-there : 512 * (1 + blocksFor count) ≤ room

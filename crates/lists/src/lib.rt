@@ -1,8 +1,9 @@
-// List: the mappings of a pool from an address on, in rising order, into two lent runs.
+// List: the mappings of a pool from an address on, in rising order, into two lent runs. Save: all of them, as an image in a lent run of bytes.
+use image::SaveAnswer;
 use model::ListAnswer;
 use path::Setup;
 ghost use mathlib.Core.Path.{_≡_};
-ghost use mathlib.Core.List.{List, _++_};
+ghost use mathlib.Core.List.{List, _++_, map};
 ghost use Prim.Native.Nat.{ℕ, suc, _+_, _*_, _≤_};
 ghost use lib.ListN.{length};
 ghost use Rattle.path.specs.Geometry.{granuleOf, physical};
@@ -11,7 +12,15 @@ ghost use Rattle.entry.specs.Words.{entryAt};
 ghost use Rattle.model.specs.Answers.{Mapping, pool, listDid};
 ghost use Rattle.model.specs.Audit.{ofEntry, ofTable};
 ghost use Rattle.model.specs.Listing.{fromOn, listW, leaves};
-ghost use Rattle.lists.specs.Feeds.{goesOn, fed, feed, OneOf, granuleIn, areaIn, below, lastOf, SoundPages, LeftFrom, Even, PagesFit, RunsFit, RegionFit, TableFit, EntryFit};
+ghost use Rattle.image.specs.Bytes.{bytesOfBlocks};
+ghost use Rattle.image.specs.Layout.{blocksFor, recBlocks};
+ghost use Rattle.image.specs.Images.{recordOf, saveW, saveDid, imaged};
+ghost use Rattle.blocks.specs.Writes.{placed};
+ghost use Rattle.audit.specs.Checks.{treeOf};
+ghost use Rattle.lists.specs.Feeds.{goesOn, fed, feed, OneOf, granuleIn, areaIn, below, lastOf, SoundPages, LeftFrom, Even, PagesFit, RunsFit, RegionFit, TableFit, EntryFit, PoolFit, SaveFit};
+
+// The bytes of a block.
+const BLOCK: usize = 512;
 
 // How many places are written; whether a mapping found no place any more, and its base.
 struct Cursor {
@@ -223,6 +232,40 @@ fn entry_list<'a>(
     )
 }
 
+// Writes the mappings of a pool from a start on, as many as the two runs have places for.
+fn page<'a>(
+    s: Setup,
+    words: &'a [u64],
+    second: &'a [u64],
+    start: u64,
+    places: &mut [u64],
+    entries: &mut [u64],
+) -> Cursor
+    requires { ⌜ PoolFit s (now words ++ now second) (length (now words)) (length (now second)) start × Even (now places) (now entries) ⌝ }
+    ensures { λ r. ⌜ fed r (now (places .exit)) (now (entries .exit))
+        ≡ feed (granuleOf (s .granule)) (fromOn start (treeOf s (now (words .entry) ++ now (second .entry)) .mappings)) (now (places .entry)) (now (entries .entry)) 0 ⌝ }
+{
+    let tree = Tree {
+        granule: s.granule,
+        base: s.base,
+        tables: s.tables as u16,
+        base2: s.base2,
+        tables2: s.tables2 as u16,
+        start,
+    };
+    table_list(
+        words,
+        second,
+        places,
+        entries,
+        tree,
+        0,
+        (s.levels - 1) as usize,
+        0,
+        0,
+    )
+}
+
 // Writes the mappings with base at or above the start, in rising order, as many as the two runs have places for: in the one address plus power of two of the size, in
 // the other the entry word. Answers how many, and the base of the first left out, or that none is; or a refusal: 1, 4, or 8 for a tree that is not sound.
 pub fn list<'a>(
@@ -247,28 +290,10 @@ pub fn list<'a>(
     if !path::in_space(s.granule, s.levels, start, 1) {
         return ListAnswer::Refused(4);
     }
-    if !audit::tree_sound(s, words, second, list.len()) {
+    if audit::tree_count(s, words, second, list.len()) == 0 {
         return ListAnswer::Refused(8);
     }
-    let tree = Tree {
-        granule: s.granule,
-        base: s.base,
-        tables: s.tables as u16,
-        base2: s.base2,
-        tables2: s.tables2 as u16,
-        start,
-    };
-    let r = table_list(
-        words,
-        second,
-        places,
-        entries,
-        tree,
-        0,
-        (s.levels - 1) as usize,
-        0,
-        0,
-    );
+    let r = page(s, words, second, start, places, entries);
     if r.more {
         return ListAnswer::Some {
             written: r.written as u64,
@@ -276,4 +301,57 @@ pub fn list<'a>(
         };
     }
     ListAnswer::All(r.written as u64)
+}
+
+// Writes the blocks of records of a pool's mappings, so many of them, from block 1 on: a page of mappings to a block, each from the base that the one before it
+// answered.
+fn records_save<'a>(s: Setup, words: &'a [u64], second: &'a [u64], image: &mut [u8], count: u64)
+    requires { ⌜ SaveFit s (now words ++ now second) (length (now words)) (length (now second)) (length (now image)) count ⌝ }
+    ensures { λ _. ⌜ now (image .exit) ≡ placed (now (image .entry)) 512 (bytesOfBlocks (recBlocks (blocksFor count) 1
+        (map (recordOf (granuleOf (s .granule))) (treeOf s (now (words .entry) ++ now (second .entry)) .mappings)))) ⌝ }
+{
+    let mut start: u64 = 0;
+    let mut at = BLOCK;
+    let mut k: u32 = 1;
+    let mut left = count;
+    while 0 < left {
+        let mut places = [0u64; blocks::RECORDS];
+        let mut entries = [0u64; blocks::RECORDS];
+        let r = page(s, words, second, start, &mut places, &mut entries);
+        let n = r.written as u32;
+        blocks::put_block(image, at, k, n, places, entries);
+        start = r.next;
+        at += BLOCK;
+        k += 1;
+        left -= n as u64;
+    }
+}
+
+// Writes the image of a pool's mappings at the start of a run of bytes, and answers how many blocks that are. Where the run is too short, it answers the blocks needed;
+// or a refusal: 1, or 8 for a tree that is not sound.
+pub fn save<'a>(
+    s: Setup,
+    words: &'a [u64],
+    second: &'a [u64],
+    list: &[u32],
+    image: &mut [u8],
+) -> SaveAnswer
+    ensures { λ r. ⌜ saveDid r (now (image .exit))
+        ≡ imaged (saveW (granuleOf (s .granule)) (pool s (now (words .entry) ++ now (second .entry)) (length (now (words .entry))) (now (list .entry))) (length (now (image .entry)))) (now (image .entry)) ⌝ }
+{
+    if !setups::good_setup(s, words.len(), second.len(), list.len()) {
+        return SaveAnswer::Refused(1);
+    }
+    let more = audit::tree_count(s, words, second, list.len());
+    if more == 0 {
+        return SaveAnswer::Refused(8);
+    }
+    let count = more - 1;
+    let all = 1 + (count + 30) / 31;
+    if (image.len() as u64) < 512 * all {
+        return SaveAnswer::Short(all);
+    }
+    blocks::put_head(image, s.levels, count, s.granule);
+    records_save(s, words, second, image, count);
+    SaveAnswer::Saved(all)
 }

@@ -1,5 +1,8 @@
-// The page table: format, add, query, list, map and unmap of a mapping or of a range, and audit of one pool of tables in lent memory, of one region or two. Each contract
-// says the whole answer and all lent memory after the call, for every input (`whole`), and what both are by any ledger that the pool holds (`ledger`).
+// The page table: format, add, query, list, map and unmap of a mapping or of a range, audit, save and restore of one pool of tables in lent memory, of one region or
+// two. Each contract says the whole answer and all lent memory after the call, for every input (`whole`), and what both are by any ledger that the pool holds
+// (`ledger`).
+use image::Restored;
+use image::SaveAnswer;
 use model::Added;
 use model::AuditAnswer;
 use model::Formatted;
@@ -13,16 +16,17 @@ ghost use mathlib.Core.Path.{_≡_};
 ghost use mathlib.Core.List.{_++_};
 ghost use lib.ListN.{length};
 ghost use Rattle.path.specs.Geometry.{granuleOf};
-ghost use Rattle.path.specs.Areas.{areaAt};
+ghost use Rattle.path.specs.Areas.{areaAt, areaOf};
 ghost use Rattle.model.specs.Answers.{pool, formatDid, addDid, mapDid, unmapDid, unmapRangeDid, saysQuery, saysAudit, saysList, listDid};
 ghost use Rattle.model.specs.Calls.{formatN, mapW, unmapW, queryW};
 ghost use Rattle.model.specs.Ranges.{mapRangeW, unmapRangeW};
 ghost use Rattle.model.specs.Adds.{addW};
 ghost use Rattle.model.specs.Audit.{auditW};
 ghost use Rattle.model.specs.Listing.{listW, leaves};
+ghost use Rattle.image.specs.Images.{saysSave, saveDid, imaged, saveW, restoreDid, restoreN};
 ghost use Rattle.demand.specs.Demand3.{mapC, unmapC, mapRangeC, unmapRangeC};
 ghost use Rattle.demand.specs.Demand3 as question;
-ghost use Rattle.demand.specs.Clauses.{ByLedger, FormatByLedger, AddByLedger, AskedByLedger};
+ghost use Rattle.demand.specs.Clauses.{ByLedger, FormatByLedger, RestoreByLedger, AddByLedger, AskedByLedger};
 
 // Empties the pool: all words 0, every table but the root free. Refused, it answers 1 and zero setup numbers, and changes nothing.
 pub fn format(
@@ -180,4 +184,38 @@ pub fn list<'a>(
         (question.listFrom start (length (now (places .entry))) (length (now (entries .entry)))) (saysList r (now (places .exit)) (now (entries .exit))) ⌝ }
 {
     lists::list(s, words, second, list, start, places, entries)
+}
+
+// Writes the mappings at the start of a run of bytes, as an image of blocks of 512 bytes, and answers how many blocks these are; the bytes after them stay. In a run
+// that is too short it answers the blocks needed. Refused, the run stays.
+pub fn save<'a>(
+    s: Setup,
+    words: &'a [u64],
+    second: &'a [u64],
+    list: &[u32],
+    image: &mut [u8],
+) -> SaveAnswer
+    ensures whole { λ r. ⌜ saveDid r (now (image .exit))
+        ≡ imaged (saveW (granuleOf (s .granule)) (pool s (now (words .entry) ++ now (second .entry)) (length (now (words .entry))) (now (list .entry))) (length (now (image .entry)))) (now (image .entry)) ⌝ }
+    ensures ledger { λ r. ⌜ AskedByLedger (granuleOf (s .granule)) (pool s (now (words .entry) ++ now (second .entry)) (length (now (words .entry))) (now (list .entry)))
+        (question.saveTo (length (now (image .entry)))) (saysSave r (now (image .exit))) ⌝ }
+{
+    lists::save(s, words, second, list, image)
+}
+
+// Formats the pool, the free count of its setup not read, and maps the records of an image in it, block by block. Refused with 1 it changes nothing and hands back zeros; with
+// any other number the pool is as format leaves it, and so is the setup that it hands back.
+pub fn restore(
+    s: Setup,
+    words: &mut [u64],
+    second: &mut [u64],
+    list: &mut [u32],
+    image: &[u8],
+) -> Restored
+    ensures whole { λ r. ⌜ restoreDid r (now (words .exit)) (now (second .exit)) (now (list .exit))
+        ≡ restoreN (s .granule) (s .levels) (areaOf s) (now (words .entry) ++ now (second .entry)) (length (now (words .entry))) (now (list .entry)) (now (image .entry)) ⌝ }
+    ensures ledger { λ r. ⌜ RestoreByLedger (s .granule) (now (words .entry) ++ now (second .entry)) (length (now (words .entry))) (now (list .entry)) (s .levels) (areaOf s) (now (image .entry))
+        (restoreDid r (now (words .exit)) (now (second .exit)) (now (list .exit))) ⌝ }
+{
+    restores::restore(s, words, second, list, image)
 }

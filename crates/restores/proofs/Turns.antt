@@ -5,7 +5,6 @@ use mathlib.Core.Logic.{_≢_}
 use mathlib.Core.Bool.{Bool, true, false, cond, _&&_}
 use mathlib.Core.List.{List, [], _∷_}
 use native.Mathlib.Omega.{arith}
-use native.Mathlib.Decide.{decLe}
 use lib.Dec.{ltb, leb, eqb}
 use lib.ListN.{length, take, drop, getD, length-drop}
 use lib.Seq.{drop-drop}
@@ -15,6 +14,7 @@ use Rattle.model.specs.Answers.{Mapping, accepts, Pool, Done}
 use Rattle.model.specs.LedgerLaws.{and-true}
 use Rattle.image.specs.Bytes.{wordsOf}
 use Rattle.image.specs.Layout.{Rec, baseOf, blocksFor, recsIn, lowAfter, Reading, block, bad, ended, whole, goodHead, goodBlock, readBlocks, readImage}
+use Rattle.image.specs.LayoutLaws.{blocks-less}
 use Rattle.image.specs.Images.{restored, badImage, Came, came, mapPool, restoreRecs}
 use Rattle.blocks.specs.Reads.{headIn, headRead, blockIn, blockRead}
 use Rattle.restores.specs.Plays.{asDone, recordsAt, playFrom}
@@ -42,17 +42,10 @@ module _ (image : List ℕ) (at k left low : ℕ) (some : 0 < left) where
   abbrev pub readingAt : Reading
   readingAt = readBlocks (blocksFor left) k left low (drop at image)
 
-  one-less : blocksFor left ≡ suc (blocksFor (left - n))
-  one-less = go (decLe 31 left)
-    where
-      go : Dec (31 ≤ left) → blocksFor left ≡ suc (blocksFor (left - n))
-      go (yes l) = let m : n ≡ 31 = omega arith in rw m (omega arith)
-      go (no l) = let m : n ≡ left = omega arith in rw m (omega arith)
-
   reading-is : readingAt ≡ cond (ltb (length (drop at image)) 512) (bad k)
       (cond (goodBlock k n low b) (block rs (readBlocks (blocksFor (left - n)) (suc k) (left - n) (lowAfter low rs) (drop 512 (drop at image)))) (bad k))
   unfolding readBlocks
-  reading-is = ap (λ (m : ℕ). readBlocks m k left low (drop at image)) one-less
+  reading-is = ap (λ (m : ℕ). readBlocks m k left low (drop at image)) (blocks-less left some)
 
   -- bad, or not there
   pub read-bad : (r : ℕ) → r ≡ blockRead at k left low image → r ≡ 0 → readingAt ≡ bad k
