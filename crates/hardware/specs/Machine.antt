@@ -22,11 +22,10 @@ use Rattle.path.specs.Areas.{Area, areaOf, total, tableAt}
 use Rattle.path.specs.Paths.{pathOf}
 use Rattle.path.specs.declared.Setup.{Setup}
 use Rattle.entry.specs.Words.{frameWord}
-use Rattle.model.specs.Answers.{Mapping, mapping, Answer, answered, refusal, accepts, tablesIn, Pool, Done}
+use Rattle.model.specs.Answers.{Mapping, mapping, Answer, answered, refusal, accepts, tablesIn, Pool}
 use Rattle.model.specs.Walk.{slot, atHeight}
 use Rattle.model.specs.Writes.{Write, store, wipe, give, memory, performAll, mapWrites, unmapWrites}
-use Rattle.model.specs.Calls.{walkTo, unmapW}
-use Rattle.model.specs.Ranges.{pieces, pagesOf, mapPiece}
+use Rattle.model.specs.Calls.{walkTo}
 use Rattle.model.specs.Ledger.{Ledger, holdsAddress, coverOf}
 use Rattle.demand.specs.Holds.{Holds}
 use Rattle.model.specs.Adds.{lent}
@@ -295,32 +294,31 @@ mapPlan G p m t =
 abbrev pub unmapPlan : Granule → Pool → ℕ → ℕ → List Write
 unmapPlan G p a t = let o = walkTo G p 0 a in singles G (unmapWrites G (o .tables) (pathOf G a) (o .left) (p .numbers .free) t)
 
--- those of calls made one after the other, each on what the last one left; one that is refused has none
-unfoldable pub planEach : {A : Type 0} → (Pool → A → Done) → (Pool → A → ℕ → List Write) → Pool → List A → List Write
-planEach call plan p [] = []
-planEach call plan p (x ∷ xs) =
-    (let answer = call p x .answer in cond (accepts answer) (plan p x (tablesIn answer)) []) ++ planEach call plan (call p x .after) xs
-
--- a restore's parts are formats and maps
+-- those of a part of a call: a format, a map or an unmap
 abbrev pub partPlan : Granule → Pool → Call → ℕ → List Write
 partPlan G p (formatC levels area) t = formatPlan p area
 partPlan G p (restoreC levels area image) t = []
 partPlan G p (addC q m second rest) t = []
 partPlan G p (mapC a b size k) t = mapPlan G p (mapping a b size k) t
-partPlan G p (unmapC a) t = []
+partPlan G p (unmapC a) t = unmapPlan G p a t
 partPlan G p (mapRangeC a b len k) t = []
 partPlan G p (unmapRangeC a len) t = []
 partPlan G p (askC q) t = []
 
--- the single writes of a call that takes or gives back t tables; a restore's are those of its parts, a range's those of its pieces, or of its pages
+-- and of parts made one after the other, each on what the last one left; one that is refused has none
+unfoldable pub planEach : Granule → Pool → List Call → List Write
+planEach G p [] = []
+planEach G p (c ∷ cs) = (let answer = stepW G p c .answer in cond (accepts answer) (partPlan G p c (tablesIn answer)) []) ++ planEach G (stepW G p c .after) cs
+
+-- the single writes of a call that takes or gives back t tables; a restore's and a range's are those of their parts
 abbrev pub plan : Granule → Pool → Call → ℕ → List Write
 plan G p (formatC levels area) t = formatPlan p area
-plan G p (restoreC levels area image) t = planEach (stepW G) (partPlan G) p (parts G (restoreC levels area image))
+plan G p (restoreC levels area image) t = planEach G p (parts G (restoreC levels area image))
 plan G p (addC q m second rest) t = zerosFrom (p .cut) (entries G * m) ++ placesAbove (p .numbers .tables) (p .numbers .free) m
 plan G p (mapC a b size k) t = mapPlan G p (mapping a b size k) t
 plan G p (unmapC a) t = unmapPlan G p a t
-plan G p (mapRangeC a b len k) t = planEach (mapPiece G) (mapPlan G) p (pieces G a b len k)
-plan G p (unmapRangeC a len) t = planEach (unmapW G) (unmapPlan G) p (pagesOf G a len)
+plan G p (mapRangeC a b len k) t = planEach G p (parts G (mapRangeC a b len k))
+plan G p (unmapRangeC a len) t = planEach G p (parts G (unmapRangeC a len))
 plan G p (askC q) t = []
 
 -- no refusal, or one past 1, which comes with nothing more

@@ -24,7 +24,7 @@ use Rattle.model.specs.Calls.{unmapW}
 use Rattle.model.specs.Ledger.{Ledger, holdsAddress, coverOf}
 use Rattle.model.specs.LeftLaws.{perform-append}
 use Rattle.model.specs.LedgerLaws.{and-true, true-and}
-use Rattle.model.specs.Ranges.{mapPiece, leftBy, inside, gain, dropIn}
+use Rattle.model.specs.Ranges.{mapPiece, inside, gain, dropIn}
 use Rattle.model.specs.RangeLaws.{inside-is}
 use Rattle.tree.specs.Tree.{Ent, Rendered, Zeros}
 use Rattle.tree.specs.Inv.{Mapping, Holds}
@@ -34,11 +34,11 @@ use Rattle.demand.specs.Memories.{readAt}
 use Rattle.demand.specs.Sims.{Sim}
 use Rattle.demand.specs.Queries.{al, X, R}
 use Rattle.demand.specs.Steps.{map-step, unmap-step}
-use Rattle.demand.specs.Demand3.{mapOf, unmapC, stepL, ledgerAfter}
+use Rattle.demand.specs.Demand3.{mapOf, unmapC, stepL, poolAfter, ledgerAfter}
 use Rattle.hardware.specs.Machine.{saysOf, told, stage2, Stands, Reads, mapPlan, unmapPlan, planEach, wordsAfter, Switch, InTurn, Overtaken}
 use Rattle.hardware.specs.Trees.{Within, within-same, within-both, within-words}
 use Rattle.hardware.specs.Plans.{Each, each-append, Sound, Clears, clears-sound, Grew, grew-on, sound-among}
-use Rattle.hardware.specs.Views.{MapView, map-takes, map-refuses, map-view, UnmapView, unmap-gives, unmap-refuses, unmap-view}
+use Rattle.hardware.specs.Views.{MapView, map-takes, map-refuses, map-view, UnmapView, unmap-gives, unmap-refuses, unmap-view, unmap-parts, parts-carried}
 use Rattle.hardware.specs.Watch.{overtaken-up, overtaken-down}
 use Rattle.hardware.specs.MapSeen as maps
 use Rattle.hardware.specs.UnmapSeen as unmaps
@@ -112,8 +112,8 @@ module _ (G : Granule) (Z : Sane G) where
   }
 
   maps-up : (ms : List answers.Mapping) {p : Pool} {A : Ledger} (I : Sim G Z p A)
-      → Up I (leftBy (mapPiece G) p ms) (ledgerAfter G A (map mapOf ms)) (planEach (mapPiece G) (mapPlan G) p ms)
-  unfolding leftBy planEach
+      → Up I (poolAfter G p (map mapOf ms)) (ledgerAfter G A (map mapOf ms)) (planEach G p (map mapOf ms))
+  unfolding planEach
   maps-up [] I = up-none I
   maps-up (m ∷ ms) {p} {A} I =
       go (mapPiece G p m) (map-view G p (m .at) (m .frame) (m .size) (m .attributes)) (map-step G Z I (m .at) (m .frame) (m .size) (m .attributes) .sim) (λ q J. maps-up ms J)
@@ -122,9 +122,9 @@ module _ (G : Granule) (Z : Sane G) where
       B = stepL G A (mapOf m) .after
 
       go : (d : Done) → MapView G p (m .at) (m .frame) (m .size) (m .attributes) d → Sim G Z (d .after) B
-          → ((q : Pool) (J : Sim G Z q B) → Up J (leftBy (mapPiece G) q ms) (ledgerAfter G B (map mapOf ms)) (planEach (mapPiece G) (mapPlan G) q ms))
-          → Up I (leftBy (mapPiece G) (d .after) ms) (ledgerAfter G B (map mapOf ms))
-          (cond (accepts (d .answer)) (mapPlan G p m (tablesIn (d .answer))) [] ++ planEach (mapPiece G) (mapPlan G) (d .after) ms)
+          → ((q : Pool) (J : Sim G Z q B) → Up J (poolAfter G q (map mapOf ms)) (ledgerAfter G B (map mapOf ms)) (planEach G q (map mapOf ms)))
+          → Up I (poolAfter G (d .after) (map mapOf ms)) (ledgerAfter G B (map mapOf ms))
+          (cond (accepts (d .answer)) (mapPlan G p m (tablesIn (d .answer))) [] ++ planEach G (d .after) (map mapOf ms))
       go d (map-takes Y) J ih =
           up-more I (d .after .numbers .free) (d .after .words) (d .after .list) (mapPlan G p m (tablesIn (d .answer))) J
           (maps.R′ G Z I (m .at) (m .frame) (m .size) (m .attributes) Y) (maps.Q G Z I (m .at) (m .frame) (m .size) (m .attributes) Y)
@@ -133,11 +133,11 @@ module _ (G : Granule) (Z : Sane G) where
 
   -- an address reads as before all of them or as after all of them, whatever part of their writes is seen
   pub maps-overtaken : (ms : List answers.Mapping) {p : Pool} {A : Ledger} (I : Sim G Z p A)
-      → Overtaken G p (map (shown G Z) (I .L)) (ledgerAfter G A (map mapOf ms) .live) (planEach (mapPiece G) (mapPlan G) p ms)
+      → Overtaken G p (map (shown G Z) (I .L)) (ledgerAfter G A (map mapOf ms) .live) (planEach G p (map mapOf ms))
   maps-overtaken ms {p} {A} I =
       let U = maps-up ms I in
-      subst (λ (L : List answers.Mapping). Overtaken G p (map (shown G Z) (I .L)) L (planEach (mapPiece G) (mapPlan G) p ms)) (U .live-is)
-      (overtaken-up G Z I (leftBy (mapPiece G) p ms .words) (U .ren) (U .holds) (planEach (mapPiece G) (mapPlan G) p ms) (U .sound) (U .within))
+      subst (λ (L : List answers.Mapping). Overtaken G p (map (shown G Z) (I .L)) L (planEach G p (map mapOf ms))) (U .live-is)
+      (overtaken-up G Z I (poolAfter G p (map mapOf ms) .words) (U .ren) (U .holds) (planEach G p (map mapOf ms)) (U .sound) (U .within))
 
   -- ---- unmaps one after the other
 
@@ -181,8 +181,8 @@ module _ (G : Granule) (Z : Sane G) where
   }
 
   unmaps-down : (xs : List ℕ) {p : Pool} {A : Ledger} (I : Sim G Z p A)
-      → Down I (leftBy (unmapW G) p xs) (ledgerAfter G A (map unmapC xs)) (planEach (unmapW G) (unmapPlan G) p xs)
-  unfolding leftBy planEach
+      → Down I (poolAfter G p (map unmapC xs)) (ledgerAfter G A (map unmapC xs)) (planEach G p (map unmapC xs))
+  unfolding planEach
   unmaps-down [] I = down-none I
   unmaps-down (x ∷ xs) {p} {A} I = go (unmapW G p x) (unmap-view G p x) (unmap-step G Z I x .sim) (λ q J. unmaps-down xs J)
     where
@@ -190,22 +190,21 @@ module _ (G : Granule) (Z : Sane G) where
       B = stepL G A (unmapC x) .after
 
       go : (d : Done) → UnmapView G p x d → Sim G Z (d .after) B
-          → ((q : Pool) (J : Sim G Z q B) → Down J (leftBy (unmapW G) q xs) (ledgerAfter G B (map unmapC xs)) (planEach (unmapW G) (unmapPlan G) q xs))
-          → Down I (leftBy (unmapW G) (d .after) xs) (ledgerAfter G B (map unmapC xs))
-          (cond (accepts (d .answer)) (unmapPlan G p x (tablesIn (d .answer))) [] ++ planEach (unmapW G) (unmapPlan G) (d .after) xs)
+          → ((q : Pool) (J : Sim G Z q B) → Down J (poolAfter G q (map unmapC xs)) (ledgerAfter G B (map unmapC xs)) (planEach G q (map unmapC xs)))
+          → Down I (poolAfter G (d .after) (map unmapC xs)) (ledgerAfter G B (map unmapC xs))
+          (cond (accepts (d .answer)) (unmapPlan G p x (tablesIn (d .answer))) [] ++ planEach G (d .after) (map unmapC xs))
       go d (unmap-gives b k Y) J ih =
           down-more I (d .after .numbers .free) (d .after .words) (d .after .list) (unmapPlan G p x (tablesIn (d .answer))) J (unmaps.R′ G Z I x b k Y) (unmaps.Q G Z I x b k Y) (unmaps.all-clear G Z I x b k Y) (ih (d .after) J)
       go d (unmap-refuses j v) J ih = down-more I (p .numbers .free) (p .words) (p .list) [] J (R G Z I) within-same tt (ih p J)
 
   pub unmaps-overtaken : (xs : List ℕ) {p : Pool} {A : Ledger} (I : Sim G Z p A)
-      → performAll G (planEach (unmapW G) (unmapPlan G) p xs) (memory (p .words) (p .list)) ≡ memory (leftBy (unmapW G) p xs .words) (leftBy (unmapW G) p xs .list)
-      → Overtaken G p (map (shown G Z) (I .L)) (ledgerAfter G A (map unmapC xs) .live) (planEach (unmapW G) (unmapPlan G) p xs)
-  unmaps-overtaken xs {p} {A} I e =
+      → Overtaken G p (map (shown G Z) (I .L)) (ledgerAfter G A (map unmapC xs) .live) (planEach G p (map unmapC xs))
+  unmaps-overtaken xs {p} {A} I =
       let U = unmaps-down xs I in
-      let ws = planEach (unmapW G) (unmapPlan G) p xs in
+      let ws = planEach G p (map unmapC xs) in
       subst (λ (L : List answers.Mapping). Overtaken G p (map (shown G Z) (I .L)) L ws) (U .live-is)
-      (overtaken-down G Z I (leftBy (unmapW G) p xs .words) (U .ren) (U .holds) ws
-      (subst (λ (z : List ℕ). Each (Sound (p .words) z) ws) (ap (λ (m : Memory). m .words) e) (clears-sound G (p .words) ws (U .clears) (memory (p .words) (p .list))))
+      (overtaken-down G Z I (poolAfter G p (map unmapC xs) .words) (U .ren) (U .holds) ws
+      (subst (λ (z : List ℕ). Each (Sound (p .words) z) ws) (ap (λ (m : Memory). m .words) (parts-carried G (map unmapC xs) (unmap-parts xs) p)) (clears-sound G (p .words) ws (U .clears) (memory (p .words) (p .list))))
       (U .within) (U .blank))
 
 -- ---- write after write

@@ -4,51 +4,31 @@ use mathlib.Core.Logic.{_≢_, _⊎_, ⊎-elim}
 use mathlib.Core.Bool.{Bool, true, false, cond, false≢true}
 use mathlib.Core.List.{List, [], _∷_, _++_, map}
 use Prim.Native.Nat.{ℕ}
-use native.Mathlib.Omega.{arith}
 use lib.Dec.{eqb}
 use borrow.Author.Tests.{eqb-true}
 use Rattle.path.specs.Geometry.{Granule, Sane}
 use Rattle.path.specs.Areas.{Area}
-use Rattle.model.specs.Answers.{Mapping, Answer, answered, refusal, formatted, refused, accepts, tablesIn, Pool, Done}
-use Rattle.model.specs.Writes.{Write, memory, performAll}
+use Rattle.model.specs.Answers.{Mapping, Answer, answered, refusal, formatted, refused, accepts, Pool, Done}
+use Rattle.model.specs.Writes.{memory, performAll}
 use Rattle.model.specs.Calls.{formatW}
-use Rattle.model.specs.LeftLaws.{perform-append}
 use Rattle.model.specs.Ledger.{Ledger, ledger}
 use Rattle.image.specs.Layout.{recordsIn, readImage}
 use Rattle.image.specs.Images.{granuleWord, mapLedger, restoreFrom, readInto, restoreW}
 use Rattle.demand.specs.Sims.{Sim}
-use Rattle.demand.specs.Demand3.{Call, formatC, restoreC, addC, mapC, unmapC, mapRangeC, unmapRangeC, askC, mapOf, mapsMade, parts, goOn, stepW, poolAfter}
+use Rattle.demand.specs.Demand3.{Call, formatC, restoreC, mapOf, mapsMade, parts, goOn, stepW}
 use Rattle.demand.specs.Parts.{restore-leaves, restore-enters}
 use Rattle.demand.specs.ClauseLaws.{format-either}
 use Rattle.demand.specs.Restores.{restored-not-one}
-use Rattle.hardware.specs.Machine.{pastOne, formatPlan, partPlan, planEach, writesOf, writesThrough, OfParts}
-use Rattle.hardware.specs.Views.{Carried, map-view, map-carries, format-view, format-carries}
+use Rattle.hardware.specs.Machine.{pastOne, formatPlan, planEach, writesOf, writesThrough, OfParts}
+use Rattle.hardware.specs.Views.{AllParts, map-parts, parts-writes, part-carried, parts-carried, Carried}
 
--- a part of a restore: a format, or a map
-abbrev Small : Call → Type 0
-Small (formatC levels area) = Unit {0}
-Small (restoreC levels area image) = ⊥
-Small (addC q m second rest) = ⊥
-Small (mapC a b size k) = Unit {0}
-Small (unmapC a) = ⊥
-Small (mapRangeC a b len k) = ⊥
-Small (unmapRangeC a len) = ⊥
-Small (askC q) = ⊥
+-- its parts are parts
+parts-append : (cs ds : List Call) → AllParts cs → AllParts ds → AllParts (cs ++ ds)
+parts-append [] ds s t = t
+parts-append (c ∷ cs) ds s t = (s .0, parts-append cs ds (s .1) t)
 
-abbrev AllSmall : List Call → Type 0
-AllSmall [] = Unit {0}
-AllSmall (c ∷ cs) = Small c × AllSmall cs
-
-small-append : (cs ds : List Call) → AllSmall cs → AllSmall ds → AllSmall (cs ++ ds)
-small-append [] ds s t = t
-small-append (c ∷ cs) ds s t = (s .0, small-append cs ds (s .1) t)
-
-small-maps : (ms : List Mapping) → AllSmall (map mapOf ms)
-small-maps [] = tt
-small-maps (m ∷ ms) = (tt, small-maps ms)
-
-small-parts : (G : Granule) (levels : ℕ) (area : Area) (image : List ℕ) → AllSmall (parts G (restoreC levels area image))
-small-parts G levels area image = (tt, small-append (map mapOf ms) (again whole) (small-maps ms) (last whole))
+all-parts : (G : Granule) (levels : ℕ) (area : Area) (image : List ℕ) → AllParts (parts G (restoreC levels area image))
+all-parts G levels area image = (tt, parts-append (map mapOf ms) (again whole) (map-parts ms) (last whole))
   where
     fresh : Ledger
     fresh = ledger levels area []
@@ -62,45 +42,9 @@ small-parts G levels area image = (tt, small-append (map mapOf ms) (again whole)
     again : Bool → List Call
     again y = cond y [] (formatC levels area ∷ [])
 
-    last : (y : Bool) → AllSmall (again y)
+    last : (y : Bool) → AllParts (again y)
     last true = tt
     last false = (tt, tt)
-
-module _ (G : Granule) where
-  -- the writes of parts are those of their calls
-  part-writes : (p : Pool) (c : Call) → Small c → cond (accepts (stepW G p c .answer)) (partPlan G p c (tablesIn (stepW G p c .answer))) [] ≡ writesOf G p c
-  part-writes p (formatC levels area) s = refl
-  part-writes p (restoreC levels area image) s = absurd s
-  part-writes p (addC q m second rest) s = absurd s
-  part-writes p (mapC a b size k) s = refl
-  part-writes p (unmapC a) s = absurd s
-  part-writes p (mapRangeC a b len k) s = absurd s
-  part-writes p (unmapRangeC a len) s = absurd s
-  part-writes p (askC q) s = absurd s
-
-  parts-writes : (cs : List Call) → AllSmall cs → (p : Pool) → planEach (stepW G) (partPlan G) p cs ≡ writesThrough G p cs
-  unfolding planEach
-  parts-writes [] s p = refl
-  parts-writes (c ∷ cs) s p = let x = part-writes p c (s .0) in let y = parts-writes cs (s .1) (stepW G p c .after) in λ i. x i ++ y i
-
-  -- and carried out one after the other, they leave what the calls did
-  part-carried : (p : Pool) (c : Call) → Small c → performAll G (writesOf G p c) (memory (p .words) (p .list)) ≡ memory (stepW G p c .after .words) (stepW G p c .after .list)
-  part-carried p (formatC levels area) s = format-carries G p levels area _ (format-view G p levels area)
-  part-carried p (restoreC levels area image) s = absurd s
-  part-carried p (addC q m second rest) s = absurd s
-  part-carried p (mapC a b size k) s = map-carries G p a b size k _ (map-view G p a b size k)
-  part-carried p (unmapC a) s = absurd s
-  part-carried p (mapRangeC a b len k) s = absurd s
-  part-carried p (unmapRangeC a len) s = absurd s
-  part-carried p (askC q) s = absurd s
-
-  parts-carried : (cs : List Call) → AllSmall cs → (p : Pool) → performAll G (writesThrough G p cs) (memory (p .words) (p .list)) ≡ memory (poolAfter G p cs .words) (poolAfter G p cs .list)
-  unfolding performAll
-  parts-carried [] s p = refl
-  parts-carried (c ∷ cs) s p =
-      perform-append G (writesOf G p c) (writesThrough G (stepW G p c .after) cs) (memory (p .words) (p .list))
-      ∙ ap (performAll G (writesThrough G (stepW G p c .after) cs)) (part-carried p c (s .0))
-      ∙ parts-carried cs (s .1) (stepW G p c .after)
 
 -- an answer that is not 1
 past-one : (a : Answer) → a ≢ refused 1 → pastOne a ≡ true
@@ -134,7 +78,7 @@ module _ (G : Granule) (Z : Sane G) {p : Pool} {A : Ledger} (I : Sim G Z p A) (l
 
   writes-are : F .answer ≡ formatted → writesOf G p c ≡ writesThrough G p (parts G c)
   writes-are f =
-      ap (λ (y : Bool). cond y (planEach (stepW G) (partPlan G) p (parts G c)) []) (writes-formatted f) ∙ parts-writes G (parts G c) (small-parts G levels area image) p
+      ap (λ (y : Bool). cond y (planEach G p (parts G c)) []) (writes-formatted f) ∙ parts-writes G (parts G c) (all-parts G levels area image) p
 
   pub restore-parts : pastOne (stepW G p c .answer) ≡ true → OfParts G p A c
   restore-parts e = ⊎-elim made (λ f. absurd (false≢true (sym (ap pastOne (refused-is f)) ∙ e))) (format-either G levels area (p .words) (p .cut) (p .list))
@@ -147,13 +91,13 @@ module _ (G : Granule) (Z : Sane G) {p : Pool} {A : Ledger} (I : Sim G Z p A) (l
     where
       made : F .answer ≡ formatted → Carried G p c
       made f =
-          ap (λ (ws : List Write). performAll G ws (memory (p .words) (p .list))) (writes-are f)
-          ∙ parts-carried G (parts G c) (small-parts G levels area image) p
+          ap (λ (y : Bool). performAll G (cond y (planEach G p (parts G c)) []) (memory (p .words) (p .list))) (writes-formatted f)
+          ∙ parts-carried G (parts G c) (all-parts G levels area image) p
           ∙ ap (λ (q : Pool). memory (q .words) (q .list)) (sym (restore-leaves G Z I levels area image f))
 
       none : F .answer ≡ refused 1 → Carried G p c
       none f =
-          ap (λ (y : Bool). performAll G (cond y (planEach (stepW G) (partPlan G) p (parts G c)) []) (memory (p .words) (p .list))) (ap pastOne (refused-is f))
+          ap (λ (y : Bool). performAll G (cond y (planEach G p (parts G c)) []) (memory (p .words) (p .list))) (ap pastOne (refused-is f))
           ∙ sym (ap (λ (y : Bool). performAll G (cond y (formatPlan p area) []) (memory (p .words) (p .list))) (ap (λ (a : Answer). accepts (goOn p F a .answer)) f))
           ∙ part-carried G p (formatC levels area) tt
           ∙ ap (λ (d : Done). memory (d .after .words) (d .after .list)) (sym (refused-same f))

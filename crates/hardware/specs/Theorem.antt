@@ -19,9 +19,8 @@ use Rattle.model.specs.Walk.{slot}
 use Rattle.model.specs.Writes.{Write, Memory, memory, performAll}
 use Rattle.model.specs.Ledger.{Ledger, coverOf, dropAt, freeTables}
 use Rattle.model.specs.Adds.{lent, addW}
-use Rattle.model.specs.Calls.{unmapW}
 use Rattle.model.specs.LeftLaws.{Leaves, leaves-kept, map-leaves, unmap-leaves}
-use Rattle.model.specs.Ranges.{pieces, pagesOf, mapPiece, mapRangeW, unmapRangeW, gain, dropIn}
+use Rattle.model.specs.Ranges.{pieces, pagesOf, mapRangeW, unmapRangeW, gain, dropIn}
 use Rattle.model.specs.RangeLaws.{range-fine, tiles, tiles-inside}
 use Rattle.model.specs.RangeMapped.{MapRangeView, range-takes, range-refuses, map-range-view}
 use Rattle.model.specs.RangeUnmapped.{UnmapRangeView, range-clears, range-stays, unmap-range-view}
@@ -40,12 +39,12 @@ use Rattle.demand.specs.RangeUnmaps.{pages-left, unmap-range-step, unmap-range-
 use Rattle.demand.specs.Theorem.{step-alike, after-sim}
 use Rattle.demand.specs.Demand3.{Call, formatC, restoreC, addC, mapC, unmapC, mapRangeC, unmapRangeC, askC, askW, goBack, mapOf, parts, stepW, stepL, poolAfter, ledgerAfter}
 use Rattle.hardware.specs.Machine.{told, Stands, Reads, zerosFrom, placesFrom, placesAbove, plan, wrote, writesOf, writtenTo, memoryOf, wordsAfter, visible}
-use Rattle.hardware.specs.Machine.{mapPlan, unmapPlan, planEach, writesThrough, Switch, InTurn, Overtaken, AtOnce, NoneAgain, Ranged, concerns, OfParts, Machine, Promise}
+use Rattle.hardware.specs.Machine.{planEach, writesThrough, Switch, InTurn, Overtaken, AtOnce, NoneAgain, Ranged, concerns, OfParts, Machine, Promise}
 use Rattle.hardware.specs.Trees.{Within, within-same}
 use Rattle.hardware.specs.Plans.{Each, each-append, each-take, each-visible, each-zeros, Beyond, beyond-leave, places-beyond, left, Sound, Clears, clears-sound, places-clear}
 use Rattle.hardware.specs.Views.{no-write, MapView, map-takes, map-refuses, map-view, UnmapView, unmap-gives, unmap-refuses, unmap-view}
 use Rattle.hardware.specs.Views.{FormatView, format-clears, format-refuses, format-view, format-carries}
-use Rattle.hardware.specs.Views.{unmaps-carried, writes-carried, map-live, unmap-live, map-range-live, unmap-range-live, format-live, add-live}
+use Rattle.hardware.specs.Views.{map-parts, unmap-parts, parts-writes, writes-carried, map-live, unmap-live, map-range-live, unmap-range-live, format-live, add-live}
 use Rattle.hardware.specs.Watch.{Seen, at-rest, overtaken-up, overtaken-down}
 use Rattle.hardware.specs.MapSeen.{map-seen}
 use Rattle.hardware.specs.UnmapSeen.{unmap-seen, unmap-outside}
@@ -257,7 +256,7 @@ module _ (G : Granule) (Z : Sane G) {p : Pool} {A : Ledger} (I : Sim G Z p A) wh
       go d q (range-takes B) = record {
         each-write = λ z. absurd z;
         any-order = λ z. absurd z;
-        overtaken = subst (λ (L : List Mapping). Overtaken G p live L (planEach (mapPiece G) (mapPlan G) p ms)) (gained _ (ap (λ (x : Done). x .answer) q)) (maps-overtaken G Z ms I);
+        overtaken = subst (λ (L : List Mapping). Overtaken G p live L (planEach G p (map mapOf ms))) (gained _ (ap (λ (x : Done). x .answer) q)) (maps-overtaken G Z ms I);
       }
       go d q (range-refuses j) = idle ⊥
   seen (unmapRangeC a len) n = go (unmapRangeW G p a len) refl (unmap-range-view G p a len)
@@ -274,8 +273,7 @@ module _ (G : Granule) (Z : Sane G) {p : Pool} {A : Ledger} (I : Sim G Z p A) wh
       go d q (range-clears B) = record {
         each-write = λ z. absurd z;
         any-order = λ z. absurd z;
-        overtaken = subst (λ (L : List Mapping). Overtaken G p live L (planEach (unmapW G) (unmapPlan G) p xs)) (dropped _ _ (ap (λ (x : Done). x .answer) q))
-            (unmaps-overtaken G Z xs I (unmaps-carried G p xs));
+        overtaken = subst (λ (L : List Mapping). Overtaken G p live L (planEach G p (map unmapC xs))) (dropped _ _ (ap (λ (x : Done). x .answer) q)) (unmaps-overtaken G Z xs I);
       }
       go d q (range-stays j) = idle ⊥
   seen (askC q) n = idle-or (accepts (askW G p q)) (Unit {0})
@@ -401,17 +399,6 @@ module _ (G : Granule) (Z : Sane G) where
       (subst (λ (q : Pool). Switch G q (A .live) (stepL G A c .after .live) (writesOf G p c)) h (seen-by G Z I c (once-none c o) .each-write o))
       (turns cs (s .1) (step-alike G Z I c .sim))
 
--- the writes of the pieces, and of the pages, are those of their calls
-pieces-writes : (G : Granule) (ms : List Mapping) (p : Pool) → planEach (mapPiece G) (mapPlan G) p ms ≡ writesThrough G p (map mapOf ms)
-unfolding planEach
-pieces-writes G [] p = refl
-pieces-writes G (m ∷ ms) p = ap (λ (ws : List Write). writesOf G p (mapOf m) ++ ws) (pieces-writes G ms (mapPiece G p m .after))
-
-pages-writes : (G : Granule) (xs : List ℕ) (p : Pool) → planEach (unmapW G) (unmapPlan G) p xs ≡ writesThrough G p (map unmapC xs)
-unfolding planEach
-pages-writes G [] p = refl
-pages-writes G (x ∷ xs) p = ap (λ (ws : List Write). writesOf G p (unmapC x) ++ ws) (pages-writes G xs (unmapW G p x .after))
-
 -- a refused range writes nothing
 none-turn : (G : Granule) (p : Pool) (A : Ledger) (cs : List Call) (ws : List Write) → ws ≡ []
     → ((mem : ℕ → ℕ) → Stands G (areaOf (p .numbers)) (p .words) mem → Reads G (p .numbers) (λ _. mem) (A .live)) → InTurn G p (λ i. ledgerAfter G A (take i cs) .live) ws
@@ -432,14 +419,14 @@ module _ (G : Granule) (Z : Sane G) {p : Pool} {A : Ledger} (I : Sim G Z p A) wh
     where
       go : (d : Done) → MapRangeView G p a b len k d → Turns (mapRangeC a b len k) d
       go d (range-takes B) =
-          subst (InTurn G p (λ i. ledgerAfter G A (take i (parts G (mapRangeC a b len k))) .live)) (sym (pieces-writes G (pieces G a b len k) p))
+          subst (InTurn G p (λ i. ledgerAfter G A (take i (parts G (mapRangeC a b len k))) .live)) (sym (parts-writes G (map mapOf (pieces G a b len k)) (map-parts (pieces G a b len k)) p))
           (turns G Z (map mapOf (pieces G a b len k)) (pieces-small (pieces G a b len k)) I)
       go d (range-refuses j) = none-turn G p A (parts G (mapRangeC a b len k)) [] refl (rest-by G Z I)
   range-turns (unmapRangeC a len) r = go (unmapRangeW G p a len) (unmap-range-view G p a len)
     where
       go : (d : Done) → UnmapRangeView G p a len d → Turns (unmapRangeC a len) d
       go d (range-clears B) =
-          subst (InTurn G p (λ i. ledgerAfter G A (take i (parts G (unmapRangeC a len))) .live)) (sym (pages-writes G (pagesOf G a len) p))
+          subst (InTurn G p (λ i. ledgerAfter G A (take i (parts G (unmapRangeC a len))) .live)) (sym (parts-writes G (map unmapC (pagesOf G a len)) (unmap-parts (pagesOf G a len)) p))
           (turns G Z (map unmapC (pagesOf G a len)) (pages-small (pagesOf G a len)) I)
       go d (range-stays j) = none-turn G p A (parts G (unmapRangeC a len)) [] refl (rest-by G Z I)
   range-turns (askC q) r = absurd r
@@ -465,7 +452,7 @@ module _ (G : Granule) (Z : Sane G) {p : Pool} {A : Ledger} (I : Sim G Z p A) wh
 
       go : (d : Done) → mapRangeW G p a b len k ≡ d → MapRangeView G p a b len k d → OfParts G p A c
       go d q (range-takes B) = record {
-        writes = ap (λ (x : Done). cond (accepts (x .answer)) (plan G p c (tablesIn (x .answer))) []) q ∙ pieces-writes G (pieces G a b len k) p;
+        writes = ap (λ (x : Done). cond (accepts (x .answer)) (plan G p c (tablesIn (x .answer))) []) q ∙ parts-writes G (parts G c) (map-parts (pieces G a b len k)) p;
         leaves = ap (λ (x : Done). x .after) q ∙ pieces-left G p (pieces G a b len k);
         enters = map-range-parts G Z I a b len k _ (ap (λ (x : Done). x .answer) q);
       }
@@ -477,7 +464,7 @@ module _ (G : Granule) (Z : Sane G) {p : Pool} {A : Ledger} (I : Sim G Z p A) wh
 
       go : (d : Done) → unmapRangeW G p a len ≡ d → UnmapRangeView G p a len d → OfParts G p A c
       go d q (range-clears B) = record {
-        writes = ap (λ (x : Done). cond (accepts (x .answer)) (plan G p c (tablesIn (x .answer))) []) q ∙ pages-writes G (pagesOf G a len) p;
+        writes = ap (λ (x : Done). cond (accepts (x .answer)) (plan G p c (tablesIn (x .answer))) []) q ∙ parts-writes G (parts G c) (unmap-parts (pagesOf G a len)) p;
         leaves = ap (λ (x : Done). x .after) q ∙ pages-left G p (pagesOf G a len);
         enters = unmap-range-parts G Z I a len _ _ (ap (λ (x : Done). x .answer) q);
       }

@@ -1,7 +1,7 @@
 -- What an accepted call has found, on any pool; that its single writes are what it does to the lent memory; and the ledger after it, by its answer.
 use mathlib.Core.Path.{_≡_, refl, ap, sym, _∙_, subst}
 use mathlib.Core.Bool.{Bool, true, false, cond}
-use mathlib.Core.List.{List, [], _∷_, _++_, append-nil}
+use mathlib.Core.List.{List, [], _∷_, _++_, map, append-nil}
 use mathlib.Core.Option.{Option, some, none}
 use Prim.Native.Nat.{ℕ, _+_, _-_, _*_, _%_, _≤_}
 use native.Mathlib.Omega.{arith}
@@ -29,12 +29,14 @@ use Rattle.model.specs.Ledger.{Entered, entered, formatL, addL, mapL, unmapOf, 
 use Rattle.model.specs.Audit.{noneInside}
 use Rattle.model.specs.Adds.{lent, grown, addW}
 use Rattle.model.specs.AddLaws.{AddView, add-grows, add-refuses, add-view, may-add}
-use Rattle.model.specs.Ranges.{mapRangeTests, unmapRangeTests, pieces, pagesOf, mapPiece, leftBy, gain, gainOf, mapRangeL, anyCut, dropIn, clearOf, unmapRangeL}
+use Rattle.model.specs.Ranges.{mapRangeTests, unmapRangeTests, pieces, pagesOf, gain, gainOf, mapRangeL, anyCut, dropIn, clearOf, unmapRangeL}
 use Rattle.model.specs.LeftLaws.{perform-append}
 use Rattle.model.specs.RangeMapped.{MapRangeView, range-takes, range-refuses, map-range-view}
 use Rattle.model.specs.RangeUnmapped.{UnmapRangeView, range-clears, range-stays, unmap-range-view}
-use Rattle.demand.specs.Demand3.{Call, formatC, restoreC, addC, mapC, unmapC, mapRangeC, unmapRangeC, askC, askW, goOn, goBack, stepW}
-use Rattle.hardware.specs.Machine.{zerosFrom, placesFrom, placesAbove, mapPlan, unmapPlan, planEach, plan, wrote, writesOf, writtenTo, memoryOf}
+use Rattle.demand.specs.Demand3.{Call, formatC, restoreC, addC, mapC, unmapC, mapRangeC, unmapRangeC, askC, askW, goOn, goBack, mapOf, stepW, poolAfter}
+use Rattle.demand.specs.RangeMaps.{pieces-left}
+use Rattle.demand.specs.RangeUnmaps.{pages-left}
+use Rattle.hardware.specs.Machine.{zerosFrom, placesFrom, placesAbove, partPlan, planEach, plan, wrote, writesOf, writtenTo, memoryOf, writesThrough}
 use Rattle.hardware.specs.Plans.{Each, InRange, zeros-carried, singles-carried, places-carried, above-carried, map-range, prune-range}
 
 -- the single writes of a call that came to d
@@ -264,35 +266,82 @@ module _ (G : Granule) (p : Pool) where
             ∙ above-carried G (p .numbers .tables) m (p .numbers .free) (grown G p₁ q m .words) (p₁ .list)
             (omega (arith, N .places-are, may-add G p₁ q m a .1, g .one-yet .1))
 
--- ---- ranges
+-- ---- calls of several parts
 
--- calls made one after the other: their single writes leave what they leave
-each-carries : (G : Granule) {A : Type 0} (call : Pool → A → Done) (plans : Pool → A → ℕ → List Write)
-    → ((p : Pool) (x : A) → let d = call p x in
-    performAll G (cond (accepts (d .answer)) (plans p x (tablesIn (d .answer))) []) (memory (p .words) (p .list)) ≡ memory (d .after .words) (d .after .list))
-    → (p : Pool) (xs : List A)
-    → performAll G (planEach call plans p xs) (memory (p .words) (p .list)) ≡ memory (leftBy call p xs .words) (leftBy call p xs .list)
-unfolding performAll planEach leftBy
-each-carries G call plans f p [] = refl
-each-carries G call plans f p (x ∷ xs) =
-    let d = call p x in
-    perform-append G (cond (accepts (d .answer)) (plans p x (tablesIn (d .answer))) []) (planEach call plans (d .after) xs) (memory (p .words) (p .list))
-    ∙ ap (performAll G (planEach call plans (d .after) xs)) (f p x) ∙ each-carries G call plans f (d .after) xs
+-- a part of a call: a format, a map, or an unmap
+abbrev pub Part : Call → Type 0
+Part (formatC levels area) = Unit {0}
+Part (restoreC levels area image) = ⊥
+Part (addC q m second rest) = ⊥
+Part (mapC a b size k) = Unit {0}
+Part (unmapC a) = Unit {0}
+Part (mapRangeC a b len k) = ⊥
+Part (unmapRangeC a len) = ⊥
+Part (askC q) = ⊥
 
-pub unmaps-carried : (G : Granule) (p : Pool) (xs : List ℕ)
-    → performAll G (planEach (unmapW G) (unmapPlan G) p xs) (memory (p .words) (p .list)) ≡ memory (leftBy (unmapW G) p xs .words) (leftBy (unmapW G) p xs .list)
-unmaps-carried G p xs = each-carries G (unmapW G) (unmapPlan G) (λ p x. unmap-carries G p x _ (unmap-view G p x)) p xs
+abbrev pub AllParts : List Call → Type 0
+AllParts [] = Unit {0}
+AllParts (c ∷ cs) = Part c × AllParts cs
+
+pub map-parts : (ms : List Mapping) → AllParts (map mapOf ms)
+map-parts [] = tt
+map-parts (m ∷ ms) = (tt, map-parts ms)
+
+pub unmap-parts : (xs : List ℕ) → AllParts (map unmapC xs)
+unmap-parts [] = tt
+unmap-parts (x ∷ xs) = (tt, unmap-parts xs)
+
+module _ (G : Granule) where
+  -- the writes of parts are those of their calls
+  part-writes : (p : Pool) (c : Call) → Part c → cond (accepts (stepW G p c .answer)) (partPlan G p c (tablesIn (stepW G p c .answer))) [] ≡ writesOf G p c
+  part-writes p (formatC levels area) s = refl
+  part-writes p (restoreC levels area image) s = absurd s
+  part-writes p (addC q m second rest) s = absurd s
+  part-writes p (mapC a b size k) s = refl
+  part-writes p (unmapC a) s = refl
+  part-writes p (mapRangeC a b len k) s = absurd s
+  part-writes p (unmapRangeC a len) s = absurd s
+  part-writes p (askC q) s = absurd s
+
+  pub parts-writes : (cs : List Call) → AllParts cs → (p : Pool) → planEach G p cs ≡ writesThrough G p cs
+  unfolding planEach
+  parts-writes [] s p = refl
+  parts-writes (c ∷ cs) s p = let x = part-writes p c (s .0) in let y = parts-writes cs (s .1) (stepW G p c .after) in λ i. x i ++ y i
+
+  -- and carried out one after the other, they leave what the calls do
+  pub part-carried : (p : Pool) (c : Call) → Part c → performAll G (writesOf G p c) (memory (p .words) (p .list)) ≡ memory (stepW G p c .after .words) (stepW G p c .after .list)
+  part-carried p (formatC levels area) s = format-carries G p levels area _ (format-view G p levels area)
+  part-carried p (restoreC levels area image) s = absurd s
+  part-carried p (addC q m second rest) s = absurd s
+  part-carried p (mapC a b size k) s = map-carries G p a b size k _ (map-view G p a b size k)
+  part-carried p (unmapC a) s = unmap-carries G p a _ (unmap-view G p a)
+  part-carried p (mapRangeC a b len k) s = absurd s
+  part-carried p (unmapRangeC a len) s = absurd s
+  part-carried p (askC q) s = absurd s
+
+  through-carried : (cs : List Call) → AllParts cs → (p : Pool) → performAll G (writesThrough G p cs) (memory (p .words) (p .list)) ≡ memory (poolAfter G p cs .words) (poolAfter G p cs .list)
+  unfolding performAll
+  through-carried [] s p = refl
+  through-carried (c ∷ cs) s p =
+      perform-append G (writesOf G p c) (writesThrough G (stepW G p c .after) cs) (memory (p .words) (p .list))
+      ∙ ap (performAll G (writesThrough G (stepW G p c .after) cs)) (part-carried p c (s .0))
+      ∙ through-carried cs (s .1) (stepW G p c .after)
+
+  pub parts-carried : (cs : List Call) → AllParts cs → (p : Pool) → performAll G (planEach G p cs) (memory (p .words) (p .list)) ≡ memory (poolAfter G p cs .words) (poolAfter G p cs .list)
+  parts-carried cs s p = ap (λ (ws : List Write). performAll G ws (memory (p .words) (p .list))) (parts-writes cs s p) ∙ through-carried cs s p
 
 module _ (G : Granule) (p : Pool) where
   map-range-carries : (a b len k : ℕ) (d : Done) → MapRangeView G p a b len k d → Carries G p (mapRangeC a b len k) d
   unfolding performAll
   map-range-carries a b len k d (range-takes B) =
-      each-carries G (mapPiece G) (mapPlan G) (λ p m. map-carries G p (m .at) (m .frame) (m .size) (m .attributes) _ (map-view G p (m .at) (m .frame) (m .size) (m .attributes))) p (pieces G a b len k)
+      parts-carried G (map mapOf (pieces G a b len k)) (map-parts (pieces G a b len k)) p
+      ∙ ap (λ (q : Pool). memory (q .words) (q .list)) (sym (pieces-left G p (pieces G a b len k)))
   map-range-carries a b len k d (range-refuses j) = refl
 
   unmap-range-carries : (a len : ℕ) (d : Done) → UnmapRangeView G p a len d → Carries G p (unmapRangeC a len) d
   unfolding performAll
-  unmap-range-carries a len d (range-clears B) = unmaps-carried G p (pagesOf G a len)
+  unmap-range-carries a len d (range-clears B) =
+      parts-carried G (map unmapC (pagesOf G a len)) (unmap-parts (pagesOf G a len)) p ∙ ap (λ (q : Pool). memory (q .words) (q .list)) (sym (pages-left G p (pagesOf G a len)))
   unmap-range-carries a len d (range-stays j) = refl
 
   -- a call's single writes are what it does to the lent memory, whatever the pool; a restore's are its parts'
