@@ -67,7 +67,8 @@ static uint64_t below(uint64_t n) { return random64() % n; }
 
 /* ---- the accepted maps */
 
-static oak_found live[CALLS];
+enum { PIECES = 8 }; /* a range has at most so many: three pages, two blocks, three pages */
+static oak_found live[CALLS * PIECES];
 static uint64_t lives, maps; /* how many now, and at most in any history */
 
 /* the first that shares a byte with the region, or none */
@@ -192,6 +193,55 @@ static void unmap_something(void) {
     ask_around(address, refusal == 0 ? answer.size : granule);
 }
 
+/* A range around the start of a block, whose frames lie as the addresses do: pages, blocks and pages again. The pieces go to the list. */
+static uint64_t ranges, cleared;
+
+static void map_range_something(void) {
+    oak_mapped answer;
+    uint64_t block = size_of(1), before = below(4) * granule, middle = below(3) * block, address = some_address(block);
+    uint64_t start = address < before ? address : address - before, length = before + middle + below(4) * granule, attributes = below(16);
+    uint64_t frame = below((UINT64_C(1) << 48) / block - 4) * block + start % block;
+    if (oak_map_range(&setup, LENT, start, frame, length, attributes, &answer) == 0) {
+        ranges++;
+        for (uint64_t done = 0, size; done < length; done += size) {
+            uint64_t number = size_count() - 1;
+            while (size_of(number) > length - done || (start + done) % size_of(number) != 0 || (frame + done) % size_of(number) != 0) number--;
+            size = size_of(number);
+            live[lives++] = (oak_found){start + done, frame + done, size, attributes, 0, 0};
+        }
+    }
+    setup = answer.setup;
+    stage2_changed();
+    ask_around(start, length == 0 ? granule : length);
+    ask_around(address, granule);
+}
+
+/* All mappings of a range go, or none where it cuts one. Whether the library answers so. */
+static bool unmap_range_something(void) {
+    oak_removed answer;
+    uint64_t which = below(CALLS), near = which < lives ? live[which].base : some_address(granule), below_it = below(3) * granule;
+    uint64_t address = near < below_it ? near : near - below_it, length = below_it + granule * (1 + below(3)) + below(2) * size_of(1);
+    uint64_t refusal = oak_unmap_range(&setup, LENT, address, length, &answer), inside = 0;
+    bool cut = false;
+    for (uint64_t i = 0; i < lives; i++) {
+        bool meets = live[i].base < address + length && address < live[i].base + live[i].size;
+        bool in = address <= live[i].base && live[i].base + live[i].size <= address + length;
+        inside += in;
+        cut |= meets && !in;
+    }
+    for (uint64_t i = 0; refusal == 0 && i < lives;) {
+        if (address <= live[i].base && live[i].base + live[i].size <= address + length) live[i] = live[--lives];
+        else i++;
+    }
+    cleared += refusal == 0 && inside > 0;
+    setup = answer.setup;
+    stage2_changed();
+    ask_around(address, length);
+    ask_around(near, granule);
+    if (address + length > space()) return refusal == OAK_REFUSED_END;
+    return cut ? refusal == OAK_REFUSED_INSIDE : refusal == 0 && answer.removed == inside;
+}
+
 static uint64_t tables_there(void) { return setup.tables + setup.second_tables; }
 
 /* A second region, after which every answer of the machine has to be as before. A mapping whose frame lies in it is its only refusal. */
@@ -230,8 +280,11 @@ static void history(uint64_t number) {
     for (uint64_t call = 0; call < CALLS; call++) {
         oak_audited counted;
         if (call == CALLS / 2 && number % 3 == 1 && more != 0 && !add_something(more)) unsound++;
-        if (below(3) == 0) unmap_something();
-        else map_something();
+        uint64_t kind = below(10);
+        if (kind < 2) unmap_something();
+        else if (kind == 2 && !unmap_range_something()) unsound++;
+        else if (kind == 3) map_range_something();
+        else if (kind > 3) map_something();
         if (oak_audit(&setup, LENT, &counted) != 0 || counted.mappings != lives || counted.tables + setup.free != tables_there()) unsound++;
         for (int i = 0; i < 4; i++) {
             uint64_t page = some_address(granule);
@@ -256,11 +309,11 @@ static void all_asked(void) {
         for (unsigned size = 0; size < (of == LARGE ? 2 : 3); size++)
             for (unsigned i = 0; i < 32; i++)
                 if (hits[of][size][i / 2][i % 2] < least) least = hits[of][size][i / 2][i % 2];
-    say("%u histories of %u calls, up to %u mappings, %u tables; a second region added %u times, %u times refused\n", (uint64_t)HISTORIES,
-        (uint64_t)CALLS, maps, (uint64_t)MOST_TABLES, added, not_added);
+    say("%u histories of %u calls, up to %u mappings, %u tables; a second region added %u times, %u times refused; %u ranges mapped, %u unmapped\n",
+        (uint64_t)HISTORIES, (uint64_t)CALLS, maps, (uint64_t)MOST_TABLES, added, not_added, ranges, cleared);
     say("AT: %u translated, %u not permitted, %u not mapped, %u past the space; each size and attribute at least %u times; %u differences\n",
         asked[TRANSLATED], asked[FORBIDDEN], asked[NOTHING], asked[PAST], least, differences);
-    test(least > 0 && added > 0);
+    test(least > 0 && added > 0 && ranges > 0 && cleared > 0);
 }
 
 /* ---- a guest that loads, stores and fetches */

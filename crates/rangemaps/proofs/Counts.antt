@@ -30,7 +30,7 @@ use Rattle.model.specs.RangeMapped.{has-append}
 use Rattle.ranges.specs.Stretches.{inRow}
 use Rattle.ranges.specs.StretchLaws.{row-has, row-only, row-region, row-aligned}
 use Rattle.rangemaps.specs.Rows.{begunAt}
-use Rattle.rangemaps.proofs.Rows.{row-left}
+use Rattle.ranges.specs.RowWalks.{row-left}
 
 -- ---- lists of regions
 

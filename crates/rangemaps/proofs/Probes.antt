@@ -31,7 +31,8 @@ use Rattle.lookup.specs.Reaches.{Came, came-again, came-word}
 use Rattle.marks.specs.Marks.{Noted, noted, noteWay}
 use Rattle.marks.specs.MarkLaws.{Marked, Clash, clash-like, marked-like, Noting, agreed, clashes, Within, onWays-append, note-walk}
 use Rattle.rangemaps.specs.Rows.{rowWalks, anySays, metIn, metAt, rowFound}
-use Rattle.rangemaps.proofs.Rows.{row-ends, row-some, row-says, row-above, row-here, row-within}
+use Rattle.ranges.specs.RowWalks.{row-above, row-here}
+use Rattle.rangemaps.proofs.Rows.{row-ends, row-some, row-says, row-within}
 
 -- the walks of a row, where those before it are noted, and what they come to: a number, and the marks then
 pub data Probed (G : Granule) (p : Pool) (before : List Probe) (h a n : ℕ) : ℕ → List ℕ → Type 0 where

@@ -31,7 +31,7 @@ use Rattle.model.specs.RangeWalks as walks
 use Rattle.model.specs.RangeMapped.{standingAt, ways-has}
 use Rattle.marks.specs.MarkLaws.{Within, ways-from, Placed}
 use Rattle.ranges.specs.Stretches.{inRow}
-use Rattle.ranges.specs.StretchLaws.{row-index, row-region}
+use Rattle.ranges.specs.RowWalks.{same-table, row-low, row-left, row-tables}
 use Rattle.rangemaps.specs.Rows.{rowWalks, anySays}
 
 -- ---- the tables of a walk that is not damaged
@@ -159,39 +159,6 @@ module _ (G : Granule) (p : Pool) (few : p .numbers .levels ≤ 4) (h a n : ℕ)
   abbrev next : ℕ → ℕ
   next j = a + j * sizeAt G h
 
-  low : h ≤ o .left
-  low = walks.came-target (walk-stopped G p few h a d .came) top
-
-  pub same-table : (j : ℕ) → j < n → a / sizeAt G (suc h) ≡ next j / sizeAt G (suc h)
-  same-table j l = row-region G a h j (omega arith)
-
-  -- where the first ended above their height, they are all one walk
-  pub row-above : h < o .left → (j : ℕ) → j < n → walkTo G p h (next j) ≡ o
-  row-above m j l = walk-region G p few h a (next j) top d (region-above G {j = suc h} {h = o .left} m a (next j) (same-table j l))
-
-  -- else each ends at a word of its table
-  pub row-here : o .left ≡ h → (j : ℕ) → j < n
-      → walkTo G p h (next j) ≡ stop (entryAt G (areaOf (p .numbers)) h (getD (p .words) (slot G (atHeight (o .tables) h) (indexAt G a h) + j) 0)) h (o .tables)
-  row-here e j l =
-      walk-table G p few h a (next j) d e (same-table j l)
-      ∙ ap (λ (i : ℕ). stop (entryAt G (areaOf (p .numbers)) h (getD (p .words) i 0)) h (o .tables))
-      (ap (slot G (atHeight (o .tables) h)) (path-of-at G (next j) {h = h} (omega arith) ∙ row-index G a h j (omega arith)) ∙ omega arith)
-
-  -- they end at one height
-  pub row-left : (j : ℕ) → j < n → walkTo G p h (next j) .left ≡ o .left
-  row-left j l = go (ℕ-discrete (o .left) h)
-    where
-      go : Dec (o .left ≡ h) → walkTo G p h (next j) .left ≡ o .left
-      go (yes e) = ap (λ (w : Walked). w .left) (row-here e j l) ∙ sym e
-      go (no e) = ap (λ (w : Walked). w .left) (row-above (omega (arith, low)) j l)
-
-  pub row-tables : (j : ℕ) → j < n → walkTo G p h (next j) .tables ≡ o .tables
-  row-tables j l = go (ℕ-discrete (o .left) h)
-    where
-      go : Dec (o .left ≡ h) → walkTo G p h (next j) .tables ≡ o .tables
-      go (yes e) = ap (λ (w : Walked). w .tables) (row-here e j l)
-      go (no e) = ap (λ (w : Walked). w .tables) (row-above (omega (arith, low)) j l)
-
   -- so they come to no table but the first one's, for no other region
   pub row-within : 0 < n → Within (onWays G (p .numbers .levels) (rowWalks G p h a n)) (onWays G (p .numbers .levels) (probe a o ∷ []))
   row-within l q i =
@@ -202,11 +169,11 @@ module _ (G : Granule) (p : Pool) (few : p .numbers .levels ≤ 4) (h a n : ℕ)
       of : (w : Probe) (m : ℕ) → m < n → w ≡ at G p h a m → (j : ℕ) → w .end .left ≤ j → j < p .numbers .levels → q ≡ standingAt G (w .at) (w .end .tables) j
           → List·Memᴰ q (onWays G (p .numbers .levels) (probe a o ∷ []))
       of w m y z j u v e =
-          let left-is : w .end .left ≡ o .left = ap (λ (r : Probe). r .end .left) z ∙ row-left m y in
-          let tables-are : w .end .tables ≡ o .tables = ap (λ (r : Probe). r .end .tables) z ∙ row-tables m y in
+          let left-is : w .end .left ≡ o .left = ap (λ (r : Probe). r .end .left) z ∙ row-left G p few h a n top some room d m y in
+          let tables-are : w .end .tables ≡ o .tables = ap (λ (r : Probe). r .end .tables) z ∙ row-tables G p few h a n top some room d m y in
           let at-is : w .at ≡ next m = ap (λ (r : Probe). r .at) z in
           let base : baseAt G (w .at) (suc j) ≡ baseAt G a (suc j) =
-          ap (λ (x : ℕ). baseAt G x (suc j)) at-is ∙ sym (region-base G a (next m) (suc j) (region-above G {j = suc h} {h = suc j} (omega (arith, low)) a (next m) (same-table m y))) in
+          ap (λ (x : ℕ). baseAt G x (suc j)) at-is ∙ sym (region-base G a (next m) (suc j) (region-above G {j = suc h} {h = suc j} (omega (arith, row-low G p few h a n top some room d)) a (next m) (same-table G p few h a n top some room d m y))) in
           subst (λ (r : Standing). List·Memᴰ r (onWays G (p .numbers .levels) (probe a o ∷ [])))
           (sym (e ∙ (λ i. standing (atHeight (tables-are i) j) (region (sizeAt G (suc j)) (base i)))))
           (ways-has G (p .numbers .levels) (probe a o ∷ []) (probe a o) (here refl) j (omega arith) v)

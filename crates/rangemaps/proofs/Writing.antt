@@ -29,7 +29,7 @@ use Rattle.model.specs.RangeMapped.{Ok, Piece, Put, chain, map-piece, tiles-pie
 use Rattle.ranges.specs.Stretches.{stretchAt, inRow}
 use Rattle.ranges.specs.StretchLaws.{row-index, row-region, Stretched, stretched}
 use Rattle.rangemaps.specs.Rows.{filled}
-use Rattle.rangemaps.proofs.Rows.{row-tables}
+use Rattle.ranges.specs.RowWalks.{row-tables}
 use Rattle.rangemaps.proofs.Surveying.{tiles-none, tall-level, wide-is}
 
 -- ---- a row of words

@@ -1,3 +1,4 @@
 pub mod Stretches
 pub mod StretchLaws
 pub mod Zeros
+pub mod RowWalks

@@ -6,16 +6,19 @@ use model::UnmapAnswer;
 use model::UnmapRangeAnswer;
 use path::Setup;
 ghost use mathlib.Core.Path.{_≡_};
-ghost use mathlib.Core.Bool.{true, not};
+ghost use mathlib.Core.Bool.{true, false, not};
 ghost use mathlib.Core.List.{List, [], _++_};
 ghost use Prim.Native.Nat.{ℕ, _+_, _-_, _*_, _^_, _≤_, _<_};
 ghost use lib.ListN.{length, getD};
+ghost use Rattle.laws.specs.Lists.{part, zeroed};
 ghost use Rattle.path.specs.Geometry.{granuleOf, entries, physical};
+ghost use Rattle.path.specs.Paths.{indexAt};
+ghost use Rattle.model.specs.Walk.{slot};
 ghost use Rattle.model.specs.Answers.{saysUnmapRange, refused, pool, unmapRangeDid};
 ghost use Rattle.model.specs.Calls.{goodPool, walkTo, unmapW};
 ghost use Rattle.model.specs.Ranges.{pagesOf, answersOf, anyRefused, unmapRangeW};
-ghost use Rattle.sweeps.specs.Parts.{lesser, untilEnd, Rest, walksSay, Meets, cutOr, inUse, usedIn, lowered, lowerFrom};
-ghost use Rattle.rangeunmaps.specs.Dones.{SomePool, SomeRest, SomeAllowed, Did};
+ghost use Rattle.sweeps.specs.Parts.{lesser, untilEnd, Rest, Sure, walksSay, Allowed, Meets, cutOr, inUse, Clearable, usedIn, lowered, lowerFrom};
+ghost use Rattle.rangeunmaps.specs.Dones.{SomePool, SomeRest, SomeAllowed, SomeSure, Clears, Did};
 
 // A count for each table that a pool may have.
 const TABLES: usize = path::MOST_TABLES as usize;
@@ -215,8 +218,91 @@ struct Gone {
     given: u64,
 }
 
+// What may be cleared by itself: from which place on, how many words, and how many of them are in use.
+struct Slots {
+    place: usize,
+    count: usize,
+    used: u32,
+}
+
+// How many of some words may be cleared by themselves: all where none is in use, else those before the last that is.
+fn clearable(part: &[u64]) -> usize
+    requires { ⌜ length (now part) ≤ 2 ^ 31 ⌝ }
+    ensures { λ r. ⌜ Clearable (now (part .entry)) r ⌝ }
+{
+    let mut left = part.len();
+    while 0 < left {
+        left -= 1;
+        if part[left] != 0 {
+            return left;
+        }
+    }
+    part.len()
+}
+
+// So many words of table t, from that of an address on.
+fn row<'a>(
+    granule: u64,
+    words: &'a [u64],
+    second: &'a [u64],
+    t: u32,
+    address: u64,
+    count: usize,
+) -> &'a [u64]
+    requires { ⌜ ((k : ℕ) × (length (now words) ≡ entries (granuleOf granule) * k)) × ((slot (granuleOf granule) t 0 + entries (granuleOf granule) ≤ length (now words ++ now second)) × (indexAt (granuleOf granule) address 0 + count ≤ entries (granuleOf granule))) ⌝ }
+    ensures { λ r. ⌜ now r ≡ part (now (words .entry) ++ now (second .entry)) (slot (granuleOf granule) t (indexAt (granuleOf granule) address 0)) count ⌝ }
+{
+    let table = contents::table_part(granule, words, second, t);
+    let from = indices::index_at(granule, address, 0) as usize;
+    let to = from + count;
+    &table[from..to]
+}
+
+// The pages from an address on that are unmapped by clearing their words, all in one table of the last level; there may be none.
+fn ahead<'a>(s: Setup, words: &'a [u64], second: &'a [u64], address: u64, end: u64) -> Slots
+    requires { ⌜ SomeSure (granuleOf (s .granule)) s (now words ++ now second) (length (now words)) address end × (address < end) ⌝ }
+    ensures { λ r. ⌜ Clears (granuleOf (s .granule)) s (now (words .entry) ++ now (second .entry)) (length (now (words .entry))) address end r ⌝ }
+{
+    let mut way = [0u32; 4];
+    let met = look(s, words, second, address, &mut way);
+    let first = indices::index_at(s.granule, address, 0);
+    let place = pool::entry_place(s.granule, way[3], first);
+    if met >= DAMAGE {
+        return Slots {
+            place,
+            count: 0,
+            used: 0,
+        };
+    }
+    if met % 4 != 0 {
+        return Slots {
+            place,
+            count: 0,
+            used: 0,
+        };
+    }
+    let many = ranges::stretch(s.granule, address, end - address, 0) as usize;
+    let count = clearable(row(s.granule, words, second, way[3], address, many));
+    let used = in_use(row(s.granule, words, second, way[3], address, count));
+    Slots { place, count, used }
+}
+
+// So many words from a place of the two runs on become 0, where one of them holds all.
+fn clear_words(words: &mut [u64], second: &mut [u64], place: usize, count: usize)
+    requires { ⌜ (place < length (now words) → place + count ≤ length (now words)) ⌝ }
+    ensures { λ _. ⌜ now (words .exit) ++ now (second .exit) ≡ zeroed (now (words .entry) ++ now (second .entry)) place count ⌝ }
+{
+    let n = words.len();
+    if place < n {
+        pool::wipe_from(words, place, count);
+        return;
+    }
+    let at = place - n;
+    pool::wipe_from(second, at, count);
+}
+
 // Unmap at an address. What it finds there, a mapping or a hole, is done then.
-fn remove_next(
+fn remove_one(
     s: Setup,
     words: &mut [u64],
     second: &mut [u64],
@@ -253,8 +339,8 @@ fn remove_next(
     }
 }
 
-// All mappings of a range go.
-fn remove_all(
+// What stands at an address goes: the pages of a row, as far as no table comes free, else a mapping or a hole.
+fn remove_next(
     s: Setup,
     words: &mut [u64],
     second: &mut [u64],
@@ -262,10 +348,38 @@ fn remove_all(
     address: u64,
     end: u64,
 ) -> Gone
-    requires { ⌜ Rest (granuleOf (s .granule)) (pool s (now words ++ now second) (length (now words)) (now list)) address end ⌝ }
+    requires { ⌜ Sure (granuleOf (s .granule)) (pool s (now words ++ now second) (length (now words)) (now list)) address end × (address < end) ⌝ }
     ensures { λ r. ⌜ Did (granuleOf (s .granule)) (pool s (now (words .entry) ++ now (second .entry)) (length (now (words .entry))) (now (list .entry))) address r (now (words .exit)) (now (second .exit)) (now (list .exit))
-        × (r .next ≡ end) ⌝ }
+        × (address < r .next) × (r .next ≤ end) ⌝ }
 {
+    let a = ahead(s, &words[..], &second[..], address, end);
+    if a.count > 0 {
+        clear_words(words, second, a.place, a.count);
+        return Gone {
+            next: address + (a.count as u64) * path::page_of(s.granule),
+            setup: s,
+            removed: a.used as u64,
+            given: 0,
+        };
+    }
+    remove_one(s, words, second, list, address, end)
+}
+
+// All mappings of a range go.
+fn remove_all(
+    s: Setup,
+    words: &mut [u64],
+    second: &mut [u64],
+    list: &mut [u32],
+    address: u64,
+    bytes: u64,
+) -> Gone
+    requires { ⌜ Allowed (granuleOf (s .granule)) (pool s (now words ++ now second) (length (now words)) (now list)) address bytes
+        × (anyRefused 8 (answersOf (unmapW (granuleOf (s .granule))) (pool s (now words ++ now second) (length (now words)) (now list)) (pagesOf (granuleOf (s .granule)) address bytes)) ≡ false) ⌝ }
+    ensures { λ r. ⌜ Did (granuleOf (s .granule)) (pool s (now (words .entry) ++ now (second .entry)) (length (now (words .entry))) (now (list .entry))) address r (now (words .exit)) (now (second .exit)) (now (list .exit))
+        × (r .next ≡ address + bytes) ⌝ }
+{
+    let end = address + bytes;
     let mut setup = s;
     let mut x = address;
     let mut removed: u64 = 0;
@@ -316,7 +430,6 @@ pub fn unmap_range(
     if no != 0 {
         return range_refused(no, s);
     }
-    let end = address + bytes;
     let met = check_walks(s, &words[..], &second[..], address, bytes);
     if met != 0 {
         return range_refused(met, s);
@@ -324,7 +437,7 @@ pub fn unmap_range(
     if !has_room(s, &words[..], &second[..], address, bytes) {
         return range_refused(8, s);
     }
-    let g = remove_all(s, words, second, list, address, end);
+    let g = remove_all(s, words, second, list, address, bytes);
     let setup = g.setup;
     RangeUnmapped {
         answer: UnmapRangeAnswer::Removed {

@@ -88,7 +88,7 @@ freed-only G ws way path (suc d) h j a b = go (onlyEntry G ws (atHeight way h) (
     go true e b (no n) ih = ih (omega arith) (omega arith)
     go false e b z ih = absurd (omega arith)
 
-only-zero : (G : Granule) (ws : List ℕ) (t i : ℕ) → onlyEntry G ws t i ≡ true → (k : ℕ) → k < entries G → k ≢ i → wordAt G ws t k ≡ 0
+pub only-zero : (G : Granule) (ws : List ℕ) (t i : ℕ) → onlyEntry G ws t i ≡ true → (k : ℕ) → k < entries G → k ≢ i → wordAt G ws t k ≡ 0
 unfolding onlyEntry
 only-zero G ws t i e k l n =
     ap (λ (z : ℕ). getD ws z 0) (omega arith) ∙ sym (getD-part ws (slot G t 0) (entries G) k l) ∙ sym (getD-set-other (part ws (slot G t 0) (entries G)) i k 0 0 n)

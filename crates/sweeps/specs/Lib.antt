@@ -6,3 +6,5 @@ pub mod Counting
 pub mod Emptied
 pub mod Sweeping
 pub mod Rooms
+pub mod Rows
+pub mod Clearing

@@ -1,18 +1,19 @@
 -- Parts of unmapping a range, as its code is divided.
 use Prim.Native.Nat.{ℕ, zero, suc, _+_, _-_, _*_, _%_, _≤_, _<_}
 use mathlib.Core.Path.{_≡_}
+use mathlib.Core.Logic.{_≢_, _⊎_}
 use mathlib.Core.Bool.{Bool, true, cond}
 use mathlib.Core.List.{List, [], _∷_}
 use lib.Dec.{ltb, eqb}
-use lib.ListN.{getD, set}
+use lib.ListN.{length, getD, set}
 use Rattle.laws.specs.Lists.{part}
-use Rattle.path.specs.Geometry.{Granule, pageSize, entries, sizeAt, physical}
+use Rattle.path.specs.Geometry.{Granule, pageSize, entries, sizeAt, physical, spaceOf}
 use Rattle.path.specs.Paths.{baseAt}
 use Rattle.entry.specs.declared.Entry.the-variants.{Empty, Frame, Damaged}
 use Rattle.model.specs.declared.Walked.{Walked}
 use Rattle.model.specs.Answers.{tablesIn, Pool}
 use Rattle.model.specs.Walk.{slot, atHeight}
-use Rattle.model.specs.Calls.{goodPool, unmapW}
+use Rattle.model.specs.Calls.{goodPool, walkTo, unmapW}
 use Rattle.model.specs.Ranges.{unmapRangeTests, pagesFrom, pagesOf, pageWalks, spoiled, anyCutBy, leftBy, answersOf, sumOf, acceptedIn}
 
 -- the lesser of two numbers
@@ -30,6 +31,12 @@ pub record Rest (G : Granule) (p : Pool) (a end : ℕ) : Type 0 where
   pub ends : end % pageSize G ≡ 0
   pub left : a ≤ end
   pub in-space : end ≤ physical
+
+-- the same in the space of its levels, and no walk of its pages finds damage
+pub record Sure (G : Granule) (p : Pool) (a end : ℕ) : Type 0 where
+  pub rest : Rest G p a end
+  pub in-space : end ≤ spaceOf G (p .numbers .levels)
+  pub undamaged : (x : ℕ) → a ≤ x → x < end → x % pageSize G ≡ 0 → walkTo G p 0 x .entry ≢ Damaged
 
 -- unmap at each page from a up to `next` leaves the pool q; so many of them remove a mapping, and so many tables come back
 pub record Removes (G : Granule) (p : Pool) (a next removed given : ℕ) (q : Pool) : Type 0 where
@@ -66,6 +73,10 @@ cutOr before met a end base size = cond (ltb met 4) before (cond (ltb base a) 10
 unfoldable pub inUse : List ℕ → ℕ
 inUse [] = 0
 inUse (x ∷ xs) = cond (eqb x 0) 0 1 + inUse xs
+
+-- the first n words may be cleared by themselves: none of all is in use and n is their number, or the one after them is
+abbrev pub Clearable : List ℕ → ℕ → Type 0
+Clearable l n = (((i : ℕ) → i < length l → getD l i 0 ≡ 0) × (n ≡ length l)) ⊎ ((n < length l) × (getD l n 0 ≢ 0))
 
 -- how many words of table t are
 abbrev pub usedIn : Granule → List ℕ → ℕ → ℕ

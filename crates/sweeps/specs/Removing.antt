@@ -104,7 +104,7 @@ module _ (G : Granule) where
   passed-removes i e P = record { pages = i; next-is = e; after = P .after; removed-is = P .removed; given-is = P .given }
 
   -- one page
-  one-removes : {p : Pool} {x : ℕ} {d : Done} → unmapW G p x ≡ d → Removes G p x (x + W) (acceptedIn (d .answer)) (tablesIn (d .answer)) (d .after)
+  pub one-removes : {p : Pool} {x : ℕ} {d : Done} → unmapW G p x ≡ d → Removes G p x (x + W) (acceptedIn (d .answer)) (tablesIn (d .answer)) (d .after)
   unfolding pagesFrom leftBy answersOf sumOf
   one-removes {p} {x} {d} e = record {
     pages = 1;

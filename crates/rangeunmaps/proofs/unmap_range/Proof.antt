@@ -4,6 +4,7 @@ use mathlib.Core.Path.{_≡_, refl, sym, ap, _∙_}
 use mathlib.Core.Bool.{true, not}
 use mathlib.Core.List.{[], _++_}
 use native.Mathlib.Omega.{arith}
+use borrow.Author.Tests.{not-true}
 use lib.ListN.{length}
 use Rattle.path.specs.Geometry.{granuleOf}
 use Rattle.path.specs.Laws.{granule-sane}
@@ -83,9 +84,6 @@ returns-2 c =
     refusing (a .words .now ++ a .second .now) (length (a .words .now)) (a .list .now) (c .range-refused2 .ensures)
     ∙ range-tested (granuleOf (a .s .granule)) (at (c .before .before .before .before .before .before .before .before)) (a .address) (a .bytes) (good-both (granuleOf (a .s .granule)) (a .s) (a .words .now) (a .second .now) (a .list .now) (c .before .before .before .before .good-setup .ensures)) (c .before .before .before .if1 .left) (c .before .before .unmap-tests .ensures) (c .before .if2 .taken)
 
-add-end : tie.Need-add-end
-add-end c = omega (arith, rest c .in-space)
-
 check-walks-requires : tie.Need-check-walks-requires
 check-walks-requires c κs = (c .before .before .before .before .before .before .before .before .before .args .list .now, rest (c .before .before))
 
@@ -123,7 +121,7 @@ returns-4 c =
     ∙ range-full (granuleOf (a .s .granule)) (at (c .before .before .before .before .before .before .before .before .before .before .before .before .before .before .before .before)) (a .address) (a .bytes) (good-both (granuleOf (a .s .granule)) (a .s) (a .words .now) (a .second .now) (a .list .now) (c .before .before .before .before .before .before .before .before .before .before .before .before .good-setup .ensures)) (c .before .before .before .before .before .before .before .before .before .before .before .if1 .left) (c .before .before .before .before .before .before .before .before .before .before .unmap-tests .ensures) (c .before .before .before .before .before .before .before .before .before .if2 .left) (quiet (c .before .before .before .before .before)) (room (c .before .before)) (c .before .if4 .taken)
 
 remove-all-requires : tie.Need-remove-all-requires
-remove-all-requires c κs = rest (c .before .before .before .before .before .before .before .before .before .before .before)
+remove-all-requires c κs = (record { good = good (c .before .before .before .before .before .before .before .before .before .before .before .before .before); tests = tests (c .before .before .before .before .before .before .before .before .before .before .before); walks = quiet (c .before .before .before .before .before .before .before) }, not-true _ (passed (room (c .before .before .before .before)) (c .before .before .before .if4 .left)))
 
 same-length-5 : tie.Need-same-length-5
 same-length-5 c = search needs
@@ -149,7 +147,6 @@ unmap-range-spec =
     unmap-tests-requires
     range-refused-requires-2
     returns-2
-    add-end
     check-walks-requires
     range-refused-requires-3
     same-length
