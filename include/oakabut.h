@@ -10,18 +10,18 @@
  * base + granule * t; table t from n on starts at word e * (t - n) of the run `second` and stands at second_base + granule * (t - n).
  * Table 0 is the root. The free list has a place for each table of both regions, and its first `free` places are the numbers of free
  * tables. The host gives both runs of words and the list with every call, and the setup that the last oak_format, oak_map, oak_unmap,
- * oak_map_range, oak_unmap_range or oak_add handed back. Without a second region the second run is OAK_NO_WORDS, 0.
+ * oak_map_range, oak_unmap_range, oak_add or oak_restore handed back. Without a second region the second run is OAK_NO_WORDS, 0.
  *
  * Pointers. Each must be valid and aligned, also where a length is 0; a null pointer never is. The answer, the setup, the two runs of
- * words, the list and the two runs of oak_list must not overlap: oak_map(&m.setup, ..., &m) is wrong, a copy of the setup is right.
- * Nobody else may write to them during a call. Lengths count elements, not bytes.
+ * words, the list, the two runs of oak_list and an image must not overlap: oak_map(&m.setup, ..., &m) is wrong, a copy of the setup is
+ * right. Nobody else may write to them during a call. Lengths count elements, not bytes.
  *
  * The machine. Tables are little-endian (SCTLR_EL2.EE 0). Stage 2 is set up with HCR_EL2.FWB 0, VTCR_EL2.HA and HD 0, without stage 2
  * permission indirection; and with a granule of 4096 with TG0 4 KiB, and T0SZ 25 with SL0 1 for three levels or T0SZ 16 with SL0 2 for
  * four; with one of 16384 with TG0 16 KiB, T0SZ 17 and SL0 2. A walker may read the pool while oak_map or oak_unmap runs, and sees the
  * mappings from before the call or from after it, in whatever order it sees the words written; of what oak_add writes it sees nothing.
  * While oak_map_range or oak_unmap_range runs it sees each mapping of the range whole or not at all, as from before the call or from after
- * it, and outside the range nothing changes. It may not read the pool while oak_format runs, which fills it by memset.
+ * it, and outside the range nothing changes. It may not read the pool while oak_format or oak_restore runs, which fill it by memset.
  *
  * What is the host's. The calls write words: they issue no barrier, invalidate no TLB and clean no cache, and one runs at a time. By our
  * reading of the Arm manual the host, with the guest's VTTBR_EL2 in place, does this:
@@ -42,8 +42,8 @@
  * - A walker that does not see the caches through which the host writes (VTCR_EL2.IRGN0 and ORGN0 not cacheable, or an SMMU that is not
  *   coherent): after each call and before the dsb, dc cvac over the words, of both runs where it is not known better. An SMMU that takes
  *   no part in broadcast invalidation has commands of its own for it, and a dsb does not wait for them.
- * - oak_format only for a pool that no walker reads: no VTTBR_EL2 and no SMMU names its root. Where its VMID was used before, vmalls12e1is
- *   as above comes before a walker is shown the root.
+ * - oak_format and oak_restore only for a pool that no walker reads: no VTTBR_EL2 and no SMMU names its root. Where its VMID was used
+ *   before, vmalls12e1is as above comes before a walker is shown the root.
  * - What a frame holds when a guest gets it, and whose it is, the calls don't know. */
 #ifndef OAKABUT_H
 #define OAKABUT_H
@@ -83,6 +83,7 @@ extern "C" {
 #define OAK_REFUSED_EMPTY UINT64_C(9)      /* nothing is mapped there */
 #define OAK_REFUSED_INSIDE UINT64_C(10)    /* the mapping there starts at another address, or a range cuts it */
 #define OAK_REFUSED_POOL UINT64_C(11)      /* the frame, or one that is mapped, shares a byte with the pool's tables */
+#define OAK_REFUSED_IMAGE UINT64_C(12)     /* a block of the image is bad, or there is no room for the image */
 
 /* A refusal's number in words, for people; 0 is no refusal. */
 static inline const char *oak_refusal_text(uint64_t number) {
@@ -99,6 +100,7 @@ static inline const char *oak_refusal_text(uint64_t number) {
     case OAK_REFUSED_EMPTY: return "nothing is mapped there";
     case OAK_REFUSED_INSIDE: return "the mapping there starts at another address, or a range cuts it";
     case OAK_REFUSED_POOL: return "the frame, or one that is mapped, shares a byte with the pool's tables";
+    case OAK_REFUSED_IMAGE: return "a block of the image is bad, or there is no room for the image";
     default: return "no refusal has this number";
     }
 }
@@ -130,8 +132,9 @@ uint64_t oak_word_meaning(uint64_t word, uint64_t size);
 /* ---- the calls on a pool
  *
  * Each returns 0 or the number of a refusal, and always writes the whole answer. Where it refuses, the answer is zeros, but for the
- * setup that oak_map, oak_unmap, oak_map_range, oak_unmap_range and oak_add hand back as it was, and for the hole that goes with
- * OAK_REFUSED_EMPTY; and the words, the list and the two runs of oak_list stay as they were.
+ * setup that oak_map, oak_unmap, oak_map_range, oak_unmap_range and oak_add hand back as it was, for the hole that goes with
+ * OAK_REFUSED_EMPTY and for the number that goes with OAK_REFUSED_IMAGE; and the words, the list, the two runs of oak_list and an image stay
+ * as they were. oak_restore alone, refused with any number but OAK_REFUSED_SETUP, leaves the pool and answers the setup as oak_format does.
  *
  * OAK_REFUSED_SETUP is given where a setup number breaks its rule, words_len is not granule / 8 * tables, second_len is not
  * granule / 8 * second_tables, or list_len is not tables + second_tables.
@@ -196,6 +199,15 @@ typedef struct {
     uint64_t more;    /* 1 where a mapping was left out, else 0 */
     uint64_t next;    /* the base of the first that was left out, else 0 */
 } oak_listed;
+
+typedef struct {
+    uint64_t blocks; /* how many blocks were written; with OAK_REFUSED_IMAGE how many are needed */
+} oak_saved;
+
+typedef struct {
+    oak_setup setup;
+    uint64_t block; /* with OAK_REFUSED_IMAGE the number of the block that is bad, else 0 */
+} oak_restored;
 
 /* Empties the pool: all words of both runs become 0, place i of the list tables + second_tables - 1 - i, and every table but the root
  * is free.
@@ -327,6 +339,37 @@ uint64_t oak_list(const oak_setup *s, const uint64_t *words, size_t words_len, c
 #define OAK_PLACE_BASE(place) ((place) & ~UINT64_C(0xFFF))
 #define OAK_PLACE_SIZE(place) (UINT64_C(1) << ((place) & UINT64_C(0xFFF)))
 
+/* The mappings of the pool as an image: blocks of 512 bytes, each of 64 little-endian words, of which word 63 is the sum of
+ * (2 * i + 1) * word i for i = 0 to 62. Block 0 has in word 1 the levels, in word 2 the number of mappings, in word 3 the granule where it
+ * is 16384 and else 0, and zeros. Block k from 1 on has in word 0 k + 2^32 * its records, and then up to 31 records of two words, which are
+ * the two numbers of oak_list, in rising order; unused words are zeros, and only the last block may be short. The image stands at the start
+ * of the run `image`, and the bytes after it stay.
+ *
+ * Answers the blocks written, or the first of these that applies:
+ *   OAK_REFUSED_SETUP    a setup number or a length breaks its rule
+ *   OAK_REFUSED_DAMAGED  as of oak_list
+ *   OAK_REFUSED_IMAGE    image_len is below 512 * blocks; the answer has the blocks needed */
+uint64_t oak_save(const oak_setup *s, const uint64_t *words, size_t words_len, const uint64_t *second, size_t second_len,
+                  const uint32_t *list, size_t list_len, uint8_t *image, size_t image_len, oak_saved *answer);
+
+/* Empties the pool as oak_format does, and maps the records of an image in it, block by block, each block after its own tests. The setup is
+ * that of the pool to be made, whatever its memory holds: free is not read. image_len is that of the image, with not a byte more.
+ *
+ * Answers the new setup. Refused, the pool is left as oak_format leaves it, and the setup is that of an empty pool; but with
+ * OAK_REFUSED_SETUP nothing changes, and the answer is zeros. OAK_REFUSED_SETUP, as oak_format gives it, comes first, and then the first of
+ * these that is met, block after block and record after record:
+ *   OAK_REFUSED_IMAGE    a block has a wrong check, number, padding, count or order of its records (their bases rise strictly), or is
+ *                        missing or short; a byte past the last block counts as a block more. Block 0 is bad too where its levels or its
+ *                        granule are not the setup's. The answer has the block's number
+ *   OAK_REFUSED_SIZE     a record's power of two is that of no frame of the granule
+ *   OAK_REFUSED_DAMAGED  a record's word is no frame of that size; of the pool it says nothing
+ *   and what oak_map refuses a record with: OAK_REFUSED_END, OAK_REFUSED_BASE, OAK_REFUSED_POOL, OAK_REFUSED_MAPPED, OAK_REFUSED_TABLES
+ *
+ * What oak_save wrote of a pool that oak_audit accepts is accepted where the levels and the granule are the same, there are at least as
+ * many tables, in one region or in two, and no frame shares a byte with them; and oak_query answers as before. */
+uint64_t oak_restore(const oak_setup *s, uint64_t *words, size_t words_len, uint64_t *second, size_t second_len, uint32_t *list,
+                     size_t list_len, const uint8_t *image, size_t image_len, oak_restored *answer);
+
 /* The library has each answer as a run of 64-bit numbers without a gap, and lengths of 64 bits. */
 #ifdef __cplusplus
 #define OAK_HOLDS(fact) static_assert(fact, #fact)
@@ -372,6 +415,11 @@ OAK_HOLDS(sizeof(oak_listed) == 24);
 OAK_HOLDS(offsetof(oak_listed, written) == 0);
 OAK_HOLDS(offsetof(oak_listed, more) == 8);
 OAK_HOLDS(offsetof(oak_listed, next) == 16);
+OAK_HOLDS(sizeof(oak_saved) == 8);
+OAK_HOLDS(offsetof(oak_saved, blocks) == 0);
+OAK_HOLDS(sizeof(oak_restored) == 64);
+OAK_HOLDS(offsetof(oak_restored, setup) == 0);
+OAK_HOLDS(offsetof(oak_restored, block) == 56);
 #undef OAK_HOLDS
 
 /* ---- the same calls on a handle, which keeps the setup
@@ -487,6 +535,28 @@ static inline uint64_t oak_pool_list(const oak_pool *pool, uint64_t start, uint6
     uint64_t number = oak_list(&pool->setup, pool->words, pool->words_len, pool->second, pool->second_len, pool->list, pool->list_len,
                                start, places, len, entries, len, &listed);
     if (answer != NULL) *answer = listed;
+    return number;
+}
+
+static inline uint64_t oak_pool_save(const oak_pool *pool, uint8_t *image, size_t image_len, oak_saved *answer) {
+    oak_saved saved;
+    uint64_t number = oak_save(&pool->setup, pool->words, pool->words_len, pool->second, pool->second_len, pool->list, pool->list_len,
+                               image, image_len, &saved);
+    if (answer != NULL) *answer = saved;
+    return number;
+}
+
+/* oak_restore over the handle's memory, with the numbers that oak_pool_format takes. Refused with OAK_REFUSED_SETUP, it leaves the handle
+ * as it was; with any other number the handle has an empty pool. */
+static inline uint64_t oak_pool_restore(oak_pool *pool, uint64_t levels, uint64_t base, uint64_t tables, uint64_t second_base,
+                                        uint64_t second_tables, uint64_t granule, const uint8_t *image, size_t image_len,
+                                        oak_restored *answer) {
+    oak_setup setup = {levels, base, tables, 0, second_base, second_tables, granule};
+    oak_restored restored;
+    uint64_t number = oak_restore(&setup, pool->words, pool->words_len, pool->second, pool->second_len, pool->list, pool->list_len, image,
+                                  image_len, &restored);
+    if (number != OAK_REFUSED_SETUP) pool->setup = restored.setup;
+    if (answer != NULL) *answer = restored;
     return number;
 }
 

@@ -4,7 +4,8 @@ use mathlib.Core.List.{List}
 use mathlib.Core.Path.{_≡_, sym, ap, _∙_, subst}
 use Rattle.path.specs.declared.Setup.{Setup}
 use Rattle.model.specs.Answers.{Answer, Done, left, Listed}
-use Rattle.oakabut.specs.Surface.{numberOf, listPlaces, Told, Left, Wrote}
+use Rattle.image.specs.Images.{Imaged}
+use Rattle.oakabut.specs.Surface.{numberOf, listPlaces, savePlaces, Told, Left, Wrote, Stored}
 
 -- an answer of the code's that is known by its case
 pub tells : {X : Type 0} (says : X → Answer) (placesOf : Answer → List ℕ) {a b : X} → a ≡ b → Told (says a) placesOf (numberOf (says b)) (placesOf (says b))
@@ -40,3 +41,7 @@ writes q t = record {
   places-are = ap (λ (l : Listed). l .places) q;
   entries-are = ap (λ (l : Listed). l .entries) q;
 }
+
+-- and save
+pub stores : {x y : Imaged} {n : ℕ} {a : List ℕ} → x ≡ y → Told (x .answer) savePlaces n a → Stored y n a (x .run)
+stores q t = record { told = hears (ap (λ (l : Imaged). l .answer) q) t; run-is = ap (λ (l : Imaged). l .run) q }

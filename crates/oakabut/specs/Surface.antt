@@ -7,6 +7,7 @@ use Rattle.path.specs.Geometry.{Granule, granuleOf}
 use Rattle.path.specs.Numbers.{setup}
 use Rattle.path.specs.declared.Setup.{Setup}
 use Rattle.model.specs.Answers.{Answer, answered, refusal, Pool, pool, Done, Listed}
+use Rattle.image.specs.Images.{Imaged}
 
 -- 0, or the refusal's number
 abbrev pub numberOf : Answer → ℕ
@@ -67,6 +68,18 @@ auditPlaces = toldOf (0 ∷ 0 ∷ [])
 abbrev pub listPlaces : Answer → List ℕ
 listPlaces a = take 3 (toldOf (0 ∷ 0 ∷ 0 ∷ []) a)
 
+-- the first number that an answer tells, or that a refusal carries, which is 12's; else 0
+abbrev pub firstOf : Answer → ℕ
+firstOf (answered values) = getD values 0 0
+firstOf (refusal k values) = getD values 0 0
+
+-- of save one: what it wrote stands in the run
+abbrev pub savePlaces : Answer → List ℕ
+savePlaces a = firstOf a ∷ []
+
+abbrev pub restorePlaces : Setup → Answer → List ℕ
+restorePlaces s a = after s (firstOf a ∷ [])
+
 -- an answer as the caller finds it
 pub record Told (a : Answer) (placesOf : Answer → List ℕ) (number : ℕ) (places : List ℕ) : Type 0 where
   pub number-is : number ≡ numberOf a
@@ -84,3 +97,8 @@ pub record Wrote (d : Listed) (number : ℕ) (answer places entries : List ℕ) 
   pub told : Told (d .answer) listPlaces number answer
   pub places-are : places ≡ d .places
   pub entries-are : entries ≡ d .entries
+
+-- and of save, with the run that it writes
+pub record Stored (d : Imaged) (number : ℕ) (answer run : List ℕ) : Type 0 where
+  pub told : Told (d .answer) savePlaces number answer
+  pub run-is : run ≡ d .run

@@ -1,4 +1,6 @@
 // The C surface: every call on plain numbers and pointers. include/oakabut.h declares it.
+use image::RestoreAnswer;
+use image::SaveAnswer;
 use model::AddAnswer;
 use model::AuditAnswer;
 use model::FormatAnswer;
@@ -13,7 +15,7 @@ ghost use mathlib.Core.List.{List, [], _++_};
 ghost use Prim.Native.Nat.{ℕ};
 ghost use lib.ListN.{length, getD};
 ghost use Rattle.path.specs.Geometry.{granuleOf};
-ghost use Rattle.path.specs.Areas.{areaAt};
+ghost use Rattle.path.specs.Areas.{areaAt, areaOf};
 ghost use Rattle.entry.specs.Host.{sizedBy, hostWord, hostMeaning};
 ghost use Rattle.model.specs.Answers.{pool, saysFormat, saysAdd, saysMap, saysUnmap, saysUnmapRange, saysQuery, saysAudit, saysList};
 ghost use Rattle.model.specs.Calls.{formatN, mapW, unmapW, queryW};
@@ -21,7 +23,8 @@ ghost use Rattle.model.specs.Ranges.{mapRangeW, unmapRangeW};
 ghost use Rattle.model.specs.Adds.{addW};
 ghost use Rattle.model.specs.Audit.{auditW};
 ghost use Rattle.model.specs.Listing.{listW, leaves};
-ghost use Rattle.oakabut.specs.Surface.{setupAt, granuleAt, poolAt, after, setupPlaces, mapPlaces, unmapPlaces, removePlaces, queryPlaces, auditPlaces, listPlaces, Told, Left, Wrote};
+ghost use Rattle.image.specs.Images.{saysSave, saysRestore, saveW, imaged, restoreN};
+ghost use Rattle.oakabut.specs.Surface.{setupAt, granuleAt, poolAt, after, setupPlaces, mapPlaces, unmapPlaces, removePlaces, queryPlaces, auditPlaces, listPlaces, savePlaces, restorePlaces, Told, Left, Wrote, Stored};
 
 // The entry word of a frame, or a refusal: 2, 3, 4 or 5.
 #[no_mangle]
@@ -248,6 +251,48 @@ fn listed(a: ListAnswer, answer: &mut [u64; 3]) -> u64
             *answer = [0, 0, 0];
             k
         }
+    }
+}
+
+fn saved(a: SaveAnswer, answer: &mut [u64; 1]) -> u64
+    ensures { λ r. ⌜ ((run : List ℕ) → Told (saysSave a run) savePlaces r (now (answer .exit))) ⌝ }
+{
+    match a {
+        SaveAnswer::Saved(blocks) => {
+            *answer = [blocks];
+            0
+        }
+        SaveAnswer::Short(blocks) => {
+            *answer = [blocks];
+            12
+        }
+        SaveAnswer::Refused(k) => {
+            *answer = [0];
+            k
+        }
+    }
+}
+
+fn restored(a: RestoreAnswer, s: Setup, answer: &mut [u64; 8]) -> u64
+    ensures { λ r. ⌜ Told (saysRestore a) (restorePlaces s) r (now (answer .exit)) ⌝ }
+{
+    *answer = [
+        s.levels,
+        s.base,
+        s.tables,
+        s.free,
+        s.base2,
+        s.tables2,
+        s.granule,
+        0,
+    ];
+    match a {
+        RestoreAnswer::Done => 0,
+        RestoreAnswer::Bad(block) => {
+            answer[7] = block;
+            12
+        }
+        RestoreAnswer::Refused(k) => k,
     }
 }
 
@@ -511,4 +556,40 @@ pub extern "C" fn oak_list<'a>(
     let p = setup_at(s);
     let a = pagetable::list(p, words, second, list, start, places, entries);
     listed(a, answer)
+}
+
+// Writes the image of the pool's mappings into a run of bytes, and answers its blocks; with 12 the blocks needed.
+#[no_mangle]
+pub extern "C" fn oak_save<'a>(
+    s: &[u64; 7],
+    words: &'a [u64],
+    second: &'a [u64],
+    list: &[u32],
+    image: &mut [u8],
+    answer: &mut [u64; 1],
+) -> u64
+    ensures { λ r. ⌜ Stored (imaged (saveW (granuleAt (now (s .entry))) (poolAt (now (s .entry)) (now (words .entry) ++ now (second .entry)) (length (now (words .entry))) (now (list .entry)))
+        (length (now (image .entry)))) (now (image .entry))) r (now (answer .exit)) (now (image .exit)) ⌝ }
+{
+    let a = pagetable::save(setup_at(s), words, second, list, image);
+    saved(a, answer)
+}
+
+// Formats the pool and maps the records of an image in it, and answers the setup; with 12 also the number of the block that is bad.
+#[no_mangle]
+pub extern "C" fn oak_restore(
+    s: &[u64; 7],
+    words: &mut [u64],
+    second: &mut [u64],
+    list: &mut [u32],
+    image: &[u8],
+    answer: &mut [u64; 8],
+) -> u64
+    ensures { λ r. ⌜ Left (restoreN (setupAt (now (s .entry)) .granule) (setupAt (now (s .entry)) .levels) (areaOf (setupAt (now (s .entry))))
+        (now (words .entry) ++ now (second .entry)) (length (now (words .entry))) (now (list .entry)) (now (image .entry)))
+        restorePlaces r (now (answer .exit)) (now (words .exit)) (now (second .exit)) (now (list .exit)) ⌝ }
+{
+    let d = pagetable::restore(setup_at(s), words, second, list, image);
+    let a = d.answer;
+    restored(a, d.setup, answer)
 }
