@@ -8,6 +8,7 @@ pub mod Exact
 pub mod Damage
 pub mod ImageCases
 pub mod Images
+pub mod Unique
 pub mod RecordLaws
 pub mod RestoreLaws
 pub mod RestoreCases
