@@ -316,6 +316,11 @@ fn pools() {
         let mut w = words.clone();
         let r = tried(|| pool::clear(&mut w));
         told(&format!("pool::clear {n}"), r, &w, &[]);
+        for (start, count) in [(0, 0), (0, 1), (0, n), (1, 1), (1, 2), (n, 0), (n, 1), (2, n), (usize::MAX, 1), (1, usize::MAX)] {
+            let mut w = words.clone();
+            let r = tried(|| pool::wipe_from(&mut w, start, count));
+            told(&format!("pool::wipe_from {n} {start} {count}"), r, &w, &[]);
+        }
     }
     for (granule, k) in [(PAGE, 512), (KIB16, 2048)] {
         tables(granule, k);
@@ -522,7 +527,7 @@ impl Lent {
     fn ranges(&self, address: u64, random: &mut Random) {
         let granule = self.setup[6];
         let large = granule * entries_with(granule);
-        for length in [granule, 3 * granule, large, large + 2 * granule, 2 * GIB] {
+        for length in [random.of(&[granule, 3 * granule]), random.of(&[large, large + 2 * granule, 2 * GIB])] {
             let from = address / granule * granule;
             let from = random.of(&[from, from, from / large * large, from.wrapping_sub(granule), address]);
             let frame = random.of(&[4 * GIB, 4 * GIB + granule, 4 * GIB + large, self.setup[1]]);
