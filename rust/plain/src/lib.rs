@@ -13,14 +13,26 @@
 //!
 //! No call panics, whatever the numbers and the memory are, and a refusal leaves all lent memory as it was.
 
+/// A function for the granule of a number. A number that names none is refused by either.
+macro_rules! of_granule {
+    ($number:expr, $function:ident($($argument:expr),*)) => {
+        match $number {
+            0x4000 => $function::<14>($($argument),*),
+            _ => $function::<12>($($argument),*),
+        }
+    };
+}
+
 mod entry;
 mod geometry;
+mod images;
 pub mod ledger;
 
 pub use entry::{frame_word, word_meaning, Frame};
 use entry::{read_frame, write_frame};
 use geometry::{entries, is_multiple, level_of, max_levels, page, place_of, region, sizes, space, MAX_LEVELS, MIN_LEVELS};
 pub use geometry::{sizes_of, GRANULES, LIMIT, MAX_TABLES, SIZES, SIZES_16};
+pub use images::{restore, save, BLOCK, RECORDS};
 
 /// The setup numbers of a pool.
 #[derive(Clone, Copy, Debug, Default, PartialEq, Eq)]
@@ -60,16 +72,6 @@ impl Setup {
     }
 }
 
-/// A function for the granule of a number. A number that names none is refused by either.
-macro_rules! of_granule {
-    ($number:expr, $function:ident($($argument:expr),*)) => {
-        match $number {
-            0x4000 => $function::<14>($($argument),*),
-            _ => $function::<12>($($argument),*),
-        }
-    };
-}
-
 /// The largest empty region around an address: that of the empty entry where a walk ended.
 #[derive(Clone, Copy, Debug, PartialEq, Eq)]
 pub struct Hole {
@@ -91,6 +93,8 @@ pub enum Refusal {
     Empty(Hole),
     NotTheStart,
     InPool,
+    /// The image: the block that is bad, or how many a save needs.
+    Image(u64),
 }
 
 impl Refusal {
@@ -109,6 +113,16 @@ impl Refusal {
             Refusal::Empty(_) => 9,
             Refusal::NotTheStart => 10,
             Refusal::InPool => 11,
+            Refusal::Image(_) => 12,
+        }
+    }
+
+    /// What goes with 12.
+    #[inline]
+    pub fn block(self) -> Option<u64> {
+        match self {
+            Refusal::Image(block) => Some(block),
+            _ => None,
         }
     }
 
