@@ -99,6 +99,58 @@ impl<'a> Pool<'a> {
         Ok(())
     }
 
+    /// Sets up a pool in lent memory with the mappings of an image that [`Pool::save`] wrote, of a pool of the same `levels` and `granule`. No walker may
+    /// read the memory meanwhile.
+    ///
+    /// The numbers are those of [`Pool::format`]. What a pool that the audit accepts wrote is accepted where there are at least as many tables and no frame of a mapping
+    /// shares a byte with them. A bad image is [`Refusal::image`], with the number of its first bad block; a record can be refused as a map is, or with [`Refusal::DAMAGED`] for
+    /// a word that is no frame. Refused, the memory holds an empty pool, but with [`Refusal::SETUP`] it is as it was.
+    ///
+    /// ```
+    /// # use oakabut::{Pool, GRANULE_4K, PAGE};
+    /// let mut pool = Pool::owned(3, 0x4000_0000, 4, GRANULE_4K)?;
+    /// pool.map(0x1000, 0x8000_1000, PAGE, 5)?;
+    /// let mut image = [0; 2 * 512];
+    /// assert_eq!(pool.save(&mut image)?, 2);
+    ///
+    /// let (mut words, mut list) = ([0; 8 * 512], [0; 8]);
+    /// let again = Pool::restore(3, 0x5000_0000, 8, GRANULE_4K, &mut words, &mut list, &image)?;
+    /// assert_eq!(again.query(0x1000)?, pool.query(0x1000)?);
+    /// # Ok::<(), oakabut::Refusal>(())
+    /// ```
+    pub fn restore(
+        levels: u64, base: u64, tables: u64, granule: u64, words: &'a mut [u64], list: &'a mut [u32], image: &[u8],
+    ) -> Result<Pool<'a>, Refusal> {
+        Pool::restore_two(levels, base, tables, 0, 0, granule, words, &mut [], list, image)
+    }
+
+    /// The same with tables in two regions.
+    #[allow(clippy::too_many_arguments)]
+    pub fn restore_two(
+        levels: u64, base: u64, tables: u64, second_base: u64, second_tables: u64, granule: u64, words: &'a mut [u64],
+        second: &'a mut [u64], list: &'a mut [u32], image: &[u8],
+    ) -> Result<Pool<'a>, Refusal> {
+        let setup = Setup { levels, base, tables, free: 0, second_base, second_tables, granule };
+        let mut answer = raw::Restored { setup: Setup::default(), block: 0 };
+        // SAFETY: the pointers and lengths are those of four borrowed slices, of which the last is only read.
+        let number = unsafe {
+            raw::oak_restore(
+                &setup,
+                words.as_mut_ptr(),
+                words.len(),
+                second.as_mut_ptr(),
+                second.len(),
+                list.as_mut_ptr(),
+                list.len(),
+                image.as_ptr(),
+                image.len(),
+                &mut answer,
+            )
+        };
+        let setup = Refusal::or_block(number, answer.setup, answer.block)?;
+        Ok(Pool::resume_two(setup, words, second, list))
+    }
+
     /// Gives a pool of one region a second one, of so many `tables` at `base`. No mapping changes, and all new tables are free.
     ///
     /// The new tables are of the pool's granule. `second` has their words, and `list` is the longer list, with a place for each table of both regions: the
@@ -356,6 +408,31 @@ impl<'a> Pool<'a> {
         };
         let raw::Listed { written, more, next } = Refusal::or(number, answer)?;
         Ok(Listed { written: written as usize, next: (more == 1).then_some(next) })
+    }
+
+    /// Writes the mappings at the start of `image`, as blocks of 512 bytes that [`Pool::restore`] reads, and answers how many blocks. The bytes after them stay.
+    ///
+    /// Where there is no room it is [`Refusal::image`], with the blocks that are needed; a damaged word in a table that is reached, or a table that is reached twice, is
+    /// [`Refusal::DAMAGED`]. Refused, the bytes are as they were.
+    pub fn save(&self, image: &mut [u8]) -> Result<usize, Refusal> {
+        let mut answer = raw::Saved { blocks: 0 };
+        let (words, second, list) = (&*self.words, &*self.second, &*self.list);
+        // SAFETY: the pointers and lengths are those of four borrowed slices, of which the last is borrowed mutably.
+        let number = unsafe {
+            raw::oak_save(
+                &self.setup,
+                words.as_ptr(),
+                words.len(),
+                second.as_ptr(),
+                second.len(),
+                list.as_ptr(),
+                list.len(),
+                image.as_mut_ptr(),
+                image.len(),
+                &mut answer,
+            )
+        };
+        Refusal::or_block(number, answer.blocks as usize, answer.blocks)
     }
 
     /// All mappings, in rising order.

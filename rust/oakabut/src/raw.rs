@@ -1,7 +1,7 @@
 //! The C surface of the proved library, as its header has it.
 //!
 //! Each function returns 0 or the number of a refusal, and always writes the whole answer: on a refusal zeros, but for the
-//! setup that map, unmap, the two ranges and add hand back unchanged, and for the hole that goes with 9. Lengths count elements. Without a second
+//! setup that map, unmap, the two ranges and add hand back unchanged, for the hole that goes with 9 and for the number that goes with 12. Lengths count elements. Without a second
 //! region the second run has length 0, and its pointer is any that is aligned and not null. The safe calls of [`Pool`](crate::Pool) and of this
 //! crate are made of these.
 
@@ -67,6 +67,24 @@ pub struct Listed {
     pub more: u64,
     /// The base of the first left out, else 0.
     pub next: u64,
+}
+
+/// What `oak_save` answers.
+#[repr(C)]
+#[derive(Clone, Copy, Debug, PartialEq, Eq)]
+pub struct Saved {
+    /// How many blocks were written; where 12 is returned, how many are needed.
+    pub blocks: u64,
+}
+
+/// What `oak_restore` answers.
+#[repr(C)]
+#[derive(Clone, Copy, Debug, PartialEq, Eq)]
+pub struct Restored {
+    /// The setup: that of an empty pool where it is refused, and zeros where it is refused with 1.
+    pub setup: Setup,
+    /// The number of the bad block where 12 is returned, else 0.
+    pub block: u64,
 }
 
 extern "C" {
@@ -158,5 +176,24 @@ extern "C" {
         setup: *const Setup, words: *const u64, words_len: usize, second: *const u64, second_len: usize, list: *const u32,
         list_len: usize, start: u64, places: *mut u64, places_len: usize, entries: *mut u64, entries_len: usize,
         answer: *mut Listed,
+    ) -> u64;
+
+    /// Writes the image of a pool's mappings to a run of bytes.
+    ///
+    /// # Safety
+    /// As for [`oak_format`]; the words of both runs and the list are only read. `image` points to that many bytes, which nothing else uses
+    /// during the call.
+    pub fn oak_save(
+        setup: *const Setup, words: *const u64, words_len: usize, second: *const u64, second_len: usize, list: *const u32,
+        list_len: usize, image: *mut u8, image_len: usize, answer: *mut Saved,
+    ) -> u64;
+
+    /// Sets up a pool with the mappings of an image. The setup's free count is not read.
+    ///
+    /// # Safety
+    /// As for [`oak_format`]; `image` points to that many bytes, which are only read.
+    pub fn oak_restore(
+        setup: *const Setup, words: *mut u64, words_len: usize, second: *mut u64, second_len: usize, list: *mut u32,
+        list_len: usize, image: *const u8, image_len: usize, answer: *mut Restored,
     ) -> u64;
 }

@@ -4,7 +4,8 @@ use core::fmt;
 
 use crate::Hole;
 
-/// Why a call was refused. A refused call leaves all lent memory, and the pool's setup, as they were.
+/// Why a call was refused. A refused call leaves all lent memory, and the pool's setup, as they were, but for a restore, which
+/// leaves an empty pool.
 ///
 /// The calls are tested in the order 1, 2, 3, 4, 5, 11, then the walk from the top (6, 8, 9 or 10, whichever it finds first), then 7,
 /// then 8 for the free list. A range comes to 8 before 6 or 10, wherever they are in it. An add is tested in the order 1, 8 for the tables that are reached, 11.
@@ -12,6 +13,7 @@ use crate::Hole;
 pub struct Refusal {
     number: u64,
     hole: Option<Hole>,
+    block: Option<u64>,
 }
 
 impl Refusal {
@@ -38,17 +40,27 @@ impl Refusal {
 
     /// 9: unmap, query: the walk ends at an empty entry. It carries the largest empty region around the address.
     pub const fn empty(hole: Hole) -> Refusal {
-        Refusal { number: 9, hole: Some(hole) }
+        Refusal { number: 9, hole: Some(hole), block: None }
+    }
+
+    /// 12: save: the image has no room, and needs so many blocks; restore: the block of this number is bad.
+    pub const fn image(block: u64) -> Refusal {
+        Refusal { number: 12, hole: None, block: Some(block) }
     }
 
     /// A refusal that carries nothing but its number.
     const fn bare(number: u64) -> Refusal {
-        Refusal { number, hole: None }
+        Refusal { number, hole: None, block: None }
     }
 
     /// The hole that 9 carries; no other refusal has one.
     pub fn hole(self) -> Option<Hole> {
         self.hole
+    }
+
+    /// The number that 12 carries, of a block or how many are needed; no other refusal has one.
+    pub fn block(self) -> Option<u64> {
+        self.block
     }
 
     /// The number of the refusal.
@@ -73,15 +85,30 @@ impl Refusal {
             Refusal::or(number, answer)
         }
     }
+
+    /// The same of a call that has a block with 12.
+    pub(crate) fn or_block<A>(number: u64, answer: A, block: u64) -> Result<A, Refusal> {
+        if number == 12 {
+            Err(Refusal::image(block))
+        } else {
+            Refusal::or(number, answer)
+        }
+    }
 }
 
 impl fmt::Display for Refusal {
     fn fmt(&self, f: &mut fmt::Formatter<'_>) -> fmt::Result {
         let sentence = match *self {
-            Refusal { hole: Some(Hole { base, size }), number } => {
+            Refusal { hole: Some(Hole { base, size }), number, .. } => {
                 return write!(
                     f,
                     "refusal {number}, unmap, query: the walk ends at an empty entry, in a hole of {size:#x} bytes at {base:#x}"
+                );
+            }
+            Refusal { block: Some(block), number, .. } => {
+                return write!(
+                    f,
+                    "refusal {number}, save: the image has no room, and needs {block} blocks; restore: block {block} is bad"
                 );
             }
             Refusal::SETUP => "a setup number or a length breaks the rules",

@@ -17,6 +17,7 @@
 mod granule;
 mod entry;
 mod geometry;
+mod images;
 pub mod ledger;
 mod range;
 
@@ -24,6 +25,7 @@ pub use entry::{frame_word, word_meaning, Frame};
 use entry::{read_frame, write_frame};
 use geometry::{entries, is_multiple, level_of, max_levels, page, place_of, region, sizes, space, MAX_LEVELS, MIN_LEVELS};
 pub use geometry::{sizes_of, GRANULES, LIMIT, MAX_TABLES, SIZES, SIZES_16};
+pub use images::{restore, save, BLOCK, RECORDS};
 pub use range::{map_range, unmap_range, Cleared};
 
 /// The setup numbers of a pool.
@@ -85,6 +87,8 @@ pub enum Refusal {
     Empty(Hole),
     NotTheStart,
     InPool,
+    /// The image: the block that is bad, or how many a save needs.
+    Image(u64),
 }
 
 impl Refusal {
@@ -103,6 +107,16 @@ impl Refusal {
             Refusal::Empty(_) => 9,
             Refusal::NotTheStart => 10,
             Refusal::InPool => 11,
+            Refusal::Image(_) => 12,
+        }
+    }
+
+    /// What goes with 12.
+    #[inline]
+    pub fn block(self) -> Option<u64> {
+        match self {
+            Refusal::Image(block) => Some(block),
+            _ => None,
         }
     }
 
