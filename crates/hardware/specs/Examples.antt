@@ -21,7 +21,7 @@ abbrev all : Both
 all = map pages 0x3000 0x9000000 4096 11
 
 -- a memory with these words from 0x40000000 on, and zeros elsewhere
-abbrev memoryOf : List ℕ → ℕ → ℕ
+abbrev pub memoryOf : List ℕ → ℕ → ℕ
 memoryOf ws p = cond (leb 0x40000000 p) (getD ws ((p - 0x40000000) / 8) 0) 0
 
 abbrev translated : ℕ → Option Translation

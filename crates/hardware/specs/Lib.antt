@@ -13,5 +13,6 @@ pub mod RestoreSeen
 pub mod Theorem
 pub mod Meanings
 pub mod Examples
+pub mod Astray
 pub mod Isolation
 pub mod Isolated
