@@ -1,3 +1,4 @@
 pub mod Looks
 pub mod Steps
 pub mod Calls
+pub mod Faults

@@ -6,7 +6,7 @@ use model::UnmapAnswer;
 use model::UnmapRangeAnswer;
 use path::Setup;
 ghost use mathlib.Core.Path.{_≡_};
-ghost use mathlib.Core.Bool.{true, false, not};
+ghost use mathlib.Core.Bool.{true, false, cond, not};
 ghost use mathlib.Core.List.{List, [], _++_};
 ghost use Prim.Native.Nat.{ℕ, _+_, _-_, _*_, _^_, _≤_, _<_};
 ghost use lib.ListN.{length, getD};
@@ -17,7 +17,7 @@ ghost use Rattle.model.specs.Walk.{slot};
 ghost use Rattle.model.specs.Answers.{saysUnmapRange, refused, pool, unmapRangeDid};
 ghost use Rattle.model.specs.Calls.{goodPool, walkTo, unmapW};
 ghost use Rattle.model.specs.Ranges.{pagesOf, answersOf, anyRefused, unmapRangeW};
-ghost use Rattle.sweeps.specs.Parts.{lesser, untilEnd, Rest, Sure, walksSay, Allowed, Meets, cutOr, inUse, Clearable, usedIn, lowered, lowerFrom};
+ghost use Rattle.sweeps.specs.Parts.{lesser, untilEnd, Rest, Sure, walksSay, Allowed, Meets, cutOr, inUse, Clearable, isFine, misfitsIn, Beyond, usedIn, lowered, lowerFrom};
 ghost use Rattle.rangeunmaps.specs.Dones.{SomePool, SomeRest, SomeAllowed, SomeSure, Clears, Did};
 
 // A count for each table that a pool may have.
@@ -93,8 +93,80 @@ fn cut_by(before: u64, met: u64, address: u64, end: u64, base: u64, size: u64) -
     before
 }
 
+// So many words of table t, from that of an address on.
+fn row<'a>(
+    granule: u64,
+    words: &'a [u64],
+    second: &'a [u64],
+    t: u32,
+    address: u64,
+    count: usize,
+) -> &'a [u64]
+    requires { ⌜ ((k : ℕ) × (length (now words) ≡ entries (granuleOf granule) * k)) × ((slot (granuleOf granule) t 0 + entries (granuleOf granule) ≤ length (now words ++ now second)) × (indexAt (granuleOf granule) address 0 + count ≤ entries (granuleOf granule))) ⌝ }
+    ensures { λ r. ⌜ now r ≡ part (now (words .entry) ++ now (second .entry)) (slot (granuleOf granule) t (indexAt (granuleOf granule) address 0)) count ⌝ }
+{
+    let table = contents::table_part(granule, words, second, t);
+    let from = indices::index_at(granule, address, 0) as usize;
+    let to = from + count;
+    &table[from..to]
+}
+
+// 1 where a word of the last level is damaged, else 0. It has no branch, so that a loop over it is done on several words at once.
+fn fault(granule: u64, w: u64) -> u64
+    ensures { λ r. ⌜ r ≡ cond (isFine (granuleOf granule) w) 0 1 ⌝ }
+{
+    let page = entry::is_frame(w, 0);
+    let base = entry::base_in(w);
+    let rest = indices::rest_at(granule, base, 0);
+    if w == 0 {
+        return 0;
+    }
+    if rest != 0 {
+        return 1;
+    }
+    if page { 0 } else { 1 }
+}
+
+// How many of some words of the last level are damaged.
+fn misfits(granule: u64, part: &[u64]) -> u64
+    requires { ⌜ length (now part) ≤ 2 ^ 31 ⌝ }
+    ensures { λ r. ⌜ r ≡ misfitsIn (granuleOf granule) (now (part .entry)) ⌝ }
+{
+    let mut n: u64 = 0;
+    let mut i = 0;
+    while i < part.len() {
+        n += fault(granule, part[i]);
+        i += 1;
+    }
+    n
+}
+
+// Where walks go on after one that ended at a height: past its region, or at the last level past its row in table t, and 0 where the row has a damaged word.
+fn beyond<'a>(
+    granule: u64,
+    words: &'a [u64],
+    second: &'a [u64],
+    t: u32,
+    address: u64,
+    left: usize,
+    end: u64,
+) -> u64
+    requires { ⌜ ((left < granuleOf granule .most) × ((address < end) × (end ≤ physical))) × (left ≡ 0 → (((k : ℕ) × (length (now words) ≡ entries (granuleOf granule) * k)) × (slot (granuleOf granule) t 0 + entries (granuleOf granule) ≤ length (now words ++ now second)))) ⌝ }
+    ensures { λ r. ⌜ Beyond (granuleOf granule) (now (words .entry) ++ now (second .entry)) t address left end r ⌝ }
+{
+    if left > 0 {
+        return past(granule, address, left, end);
+    }
+    let n = ranges::stretch(granule, address, end - address, 0);
+    let bad = misfits(granule, row(granule, words, second, t, address, n as usize));
+    if bad > 0 {
+        return 0;
+    }
+    address + n * path::page_of(granule)
+}
+
 // The walks of all pages of a range: 8 where one meets damage or they come to one table for two regions, else 10 where the range cuts a mapping, else 0.
-fn check_walks(s: Setup, words: &[u64], second: &[u64], address: u64, bytes: u64) -> u64
+fn check_walks<'a>(s: Setup, words: &'a [u64], second: &'a [u64], address: u64, bytes: u64) -> u64
     requires { ⌜ SomeRest (granuleOf (s .granule)) s (now words ++ now second) (length (now words)) address (address + bytes) ⌝ }
     ensures { λ r. ⌜ r ≡ walksSay (granuleOf (s .granule)) (pool s (now (words .entry) ++ now (second .entry)) (length (now (words .entry))) []) address bytes ⌝ }
 {
@@ -115,7 +187,11 @@ fn check_walks(s: Setup, words: &[u64], second: &[u64], address: u64, bytes: u64
         let base = indices::base_at(s.granule, x, left);
         let size = indices::size_at(s.granule, left);
         no = cut_by(no, met, address, end, base, size);
-        x = least(base + size, end);
+        let next = beyond(s.granule, words, second, way[3], x, left, end);
+        if next == 0 {
+            return 8;
+        }
+        x = next;
     }
     no
 }
@@ -238,24 +314,6 @@ fn clearable(part: &[u64]) -> usize
         }
     }
     part.len()
-}
-
-// So many words of table t, from that of an address on.
-fn row<'a>(
-    granule: u64,
-    words: &'a [u64],
-    second: &'a [u64],
-    t: u32,
-    address: u64,
-    count: usize,
-) -> &'a [u64]
-    requires { ⌜ ((k : ℕ) × (length (now words) ≡ entries (granuleOf granule) * k)) × ((slot (granuleOf granule) t 0 + entries (granuleOf granule) ≤ length (now words ++ now second)) × (indexAt (granuleOf granule) address 0 + count ≤ entries (granuleOf granule))) ⌝ }
-    ensures { λ r. ⌜ now r ≡ part (now (words .entry) ++ now (second .entry)) (slot (granuleOf granule) t (indexAt (granuleOf granule) address 0)) count ⌝ }
-{
-    let table = contents::table_part(granule, words, second, t);
-    let from = indices::index_at(granule, address, 0) as usize;
-    let to = from + count;
-    &table[from..to]
 }
 
 // The pages from an address on that are unmapped by clearing their words, all in one table of the last level; there may be none.

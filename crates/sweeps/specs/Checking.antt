@@ -35,6 +35,7 @@ use Rattle.marks.specs.Marks.{Noted, noted, noteWay}
 use Rattle.marks.specs.MarkLaws.{Marked, Clash, Noting, agreed, clashes, marked-none, marked-like, marked-each, clash-like, clash-each, onWays-append, note-walk, ways-from, Within}
 use Rattle.sweeps.specs.Parts.{lesser, untilEnd, Rest, walksSay, Meets, cutOr}
 use Rattle.sweeps.specs.Pages.{pages-between, pages-some, Ends, ends-at}
+use Rattle.sweeps.specs.Removing.{pages-whole}
 
 -- ---- lists of walks
 
@@ -74,16 +75,28 @@ or-none true = refl
 or-none false = refl
 
 -- walks that all say the same of a cut
-cuts-alike : (G : Granule) (a len : ℕ) (y : Bool) (w : Probe) (ws : List Probe) → ((v : Probe) → List·Memᴰ v (w ∷ ws) → cutAt G a len (v .at) (v .end .left) (v .end .entry) ≡ y)
+pub cuts-alike : (G : Granule) (a len : ℕ) (y : Bool) (w : Probe) (ws : List Probe) → ((v : Probe) → List·Memᴰ v (w ∷ ws) → cutAt G a len (v .at) (v .end .left) (v .end .entry) ≡ y)
     → anyCutBy G a len (w ∷ ws) ≡ y
 unfolding anyCutBy
 cuts-alike G a len y w [] f = (λ i. f w (here refl) i || false) ∙ or-none y
 cuts-alike G a len y w (v ∷ ws) f =
     (λ i. f w (here refl) i || anyCutBy G a len (v ∷ ws)) ∙ ap (λ (z : Bool). y || z) (cuts-alike G a len y v ws (λ x i. f x (there i))) ∙ or-same y
 
-mem-map : {A B : Type 0} (f : A → B) (xs : List A) (z : B) → List·Memᴰ z (map f xs) → (x : A) × List·Memᴰ x xs × (z ≡ f x)
+pub mem-map : {A B : Type 0} (f : A → B) (xs : List A) (z : B) → List·Memᴰ z (map f xs) → (x : A) × List·Memᴰ x xs × (z ≡ f x)
 mem-map f [] z i = absurd (List·Memᴰ·not-nil i)
 mem-map f (x ∷ xs) z i = ⊎-elim (λ e. (x, here refl, e)) (λ j. let (y, k, e) = mem-map f xs z j in (y, there k, e)) (List·Memᴰ·cases-cons i)
+
+not-damaged : (e : Entry) → e ≢ Damaged → isDamaged e ≡ false
+not-damaged Empty n = refl
+not-damaged (Frame b k) n = refl
+not-damaged (Table c) n = refl
+not-damaged Damaged n = absurd (n refl)
+
+-- the first of some pages
+pub first-page : (G : Granule) (x k : ℕ) → 0 < k → (l : List ℕ) × (pagesFrom G x k ≡ x ∷ l)
+unfolding pagesFrom
+first-page G x zero l = absurd (omega arith)
+first-page G x (suc k) l = (pagesFrom G (x + pageSize G) k, refl)
 
 -- ---- what is checked so far
 
@@ -199,7 +212,80 @@ module _ (G : Granule) (Z : Sane G) (p : Pool) (a len : ℕ) (R : Rest G p a (a 
               let (w, k, j, u, v, e) = ways-from G levels (done-walks ++ (pageWalk G p x ∷ [])) q i in
               subst (λ (z : Standing). List·Memᴰ z (onWays G levels (pageWalks G p (pagesOf G a len)))) (sym e) (ways-has G levels (pageWalks G p (pagesOf G a len)) w (page w k) j u v)
 
-      -- the pages up to where the walk's region ends are walked alike
+      -- a page is walked along the same tables, and finds no damage
+      abbrev pub Like : ℕ → Type 0
+      Like y =
+          (walkTo G p 0 y .tables ≡ o .tables) × (walkTo G p 0 y .left ≡ o .left) × (x / sizeAt G (suc (o .left)) ≡ y / sizeAt G (suc (o .left)))
+          × (walkTo G p 0 y .entry ≢ Damaged)
+
+      -- so many pages that are
+      module _ (count : ℕ) (some-pages : 0 < count) (like : (y : ℕ) → List·Memᴰ y (pagesFrom G x count) → Like y)
+          (cuts-so : anyCutBy G a len (pageWalks G p (pagesFrom G x count)) ≡ cutAt G a len x (o .left) (o .entry)) where
+        more-pages : pagesFrom G a (C .pages + count) ≡ pagesFrom G a (C .pages) ++ pagesFrom G x count
+        more-pages = pages-append G (C .pages) count a ∙ ap (λ (z : ℕ). pagesFrom G a (C .pages) ++ pagesFrom G z count) (sym (C .next-is))
+
+        more-walks : pageWalks G p (pagesFrom G a (C .pages + count)) ≡ done-walks ++ pageWalks G p (pagesFrom G x count)
+        more-walks = ap (pageWalks G p) more-pages ∙ map-append (pageWalk G p) (pagesFrom G a (C .pages)) (pagesFrom G x count)
+
+        standing-same : (y j : ℕ) → o .left ≤ j → x / sizeAt G (suc (o .left)) ≡ y / sizeAt G (suc (o .left)) → standingAt G y (o .tables) j ≡ standingAt G x (o .tables) j
+        standing-same y j u e =
+            ap (λ (b : ℕ). standing (atHeight (o .tables) j) (region (sizeAt G (suc j)) b)) (region-base G y x (suc j) (sym (region-above G {j = suc (o .left)} {h = suc j} (omega arith) x y e)))
+
+        -- the standings of all of them are this walk's
+        within-one : Within (onWays G levels (pageWalks G p (pagesFrom G x count))) (onWays G levels (pageWalk G p x ∷ []))
+        within-one q i =
+            let (w, k, j, u, v, e) = ways-from G levels (pageWalks G p (pagesFrom G x count)) q i in
+            let (y, n, z) = mem-map (pageWalk G p) (pagesFrom G x count) w k in
+            by q w y j e n z u v
+          where
+            by : (q : Standing) (w : Probe) (y j : ℕ) → q ≡ standingAt G (w .at) (w .end .tables) j → List·Memᴰ y (pagesFrom G x count) → w ≡ pageWalk G p y → w .end .left ≤ j → j < levels
+                → List·Memᴰ q (onWays G levels (pageWalk G p x ∷ []))
+            by q w y j e n z u v =
+                let (t, h, r, _) = like y n in
+                let low : o .left ≤ j = subst (λ (k : ℕ). k ≤ j) h (subst (λ (s : Probe). s .end .left ≤ j) z u) in
+                let s : q ≡ standingAt G x (o .tables) j =
+                e ∙ ap (λ (s : Probe). standingAt G (s .at) (s .end .tables) j) z ∙ ap (λ (l : List ℕ). standingAt G y l j) t ∙ standing-same y j low r in
+                subst (λ (s : Standing). List·Memᴰ s (onWays G levels (pageWalk G p x ∷ []))) (sym s) (ways-has G levels (pageWalk G p x ∷ []) (pageWalk G p x) (here refl) j low v)
+
+        one-within : Within (onWays G levels (pageWalk G p x ∷ [])) (onWays G levels (pageWalks G p (pagesFrom G x count)))
+        one-within q i =
+            let (w, k, j, u, v, e) = ways-from G levels (pageWalk G p x ∷ []) q i in
+            let z : w ≡ pageWalk G p x = ⊎-elim (λ z. z) (λ n. absurd (List·Memᴰ·not-nil n)) (List·Memᴰ·cases-cons k) in
+            let (l, f) = first-page G x count some-pages in
+            subst (λ (s : Standing). List·Memᴰ s (onWays G levels (pageWalks G p (pagesFrom G x count)))) (sym e)
+            (ways-has G levels (pageWalks G p (pagesFrom G x count)) w (subst (λ (s : List ℕ). List·Memᴰ w (pageWalks G p s)) (sym f) (here z)) j u v)
+
+        beside : (l r s : List Standing) → Within r s → Within (l ++ r) (l ++ s)
+        beside l r s f q i = ⊎-elim (λ j. Memᴰ·append-left s j) (λ j. Memᴰ·append-right l (f q j)) (List·Memᴰ·append-cases l i)
+
+        pub checks-some : {N : List ℕ} → length N ≡ 512 → Marked G N (onWays G levels (done-walks ++ (pageWalk G p x ∷ []))) → {no′ : ℕ} → cond (cutAt G a len x (o .left) (o .entry)) 10 no ≡ no′
+            → Checked G p a len (x + count * W) N no′
+        checks-some {N} long K {no′} e = record {
+          pages = C .pages + count;
+          next-is = omega (arith, C .next-is, add-mul (C .pages) count W);
+          whole = pages-whole G count x (C .whole);
+          long = long;
+          undamaged = ap (anyEnds isDamaged) more-walks ∙ ends-append isDamaged done-walks (pageWalks G p (pagesFrom G x count))
+              ∙ false-or (C .undamaged) (ends-none isDamaged (pageWalks G p (pagesFrom G x count)) (λ w i.
+              let (y, n, z) = mem-map (pageWalk G p) (pagesFrom G x count) w i in
+              ap (λ (s : Probe). isDamaged (s .end .entry)) z ∙ not-damaged (walkTo G p 0 y .entry) (like y n .3)));
+          marked = subst (λ (l : List Probe). Marked G N (onWays G levels l)) (sym more-walks)
+              (subst (Marked G N) (sym (onWays-append G levels done-walks (pageWalks G p (pagesFrom G x count))))
+              (marked-like (subst (Marked G N) (onWays-append G levels done-walks (pageWalk G p x ∷ [])) K)
+              (beside (onWays G levels done-walks) (onWays G levels (pageWalk G p x ∷ [])) (onWays G levels (pageWalks G p (pagesFrom G x count))) one-within)
+              (beside (onWays G levels done-walks) (onWays G levels (pageWalks G p (pagesFrom G x count))) (onWays G levels (pageWalk G p x ∷ [])) within-one)));
+          cut-is = ap (λ (l : List Probe). cond (anyCutBy G a len l) 10 0) more-walks
+              ∙ ap (λ (y : Bool). cond y 10 0) (cuts-append G a len done-walks (pageWalks G p (pagesFrom G x count)) ∙ ap (λ (y : Bool). anyCutBy G a len done-walks || y) cuts-so)
+              ∙ turn (anyCutBy G a len done-walks) (cutAt G a len x (o .left) (o .entry)) ∙ ap (λ (n : ℕ). cond (cutAt G a len x (o .left) (o .entry)) 10 n) (C .cut-is) ∙ e;
+        }
+          where
+            turn : (u v : Bool) → _≡_ {A = ℕ} (cond (u || v) 10 0) (cond v 10 (cond u 10 0))
+            turn true true = refl
+            turn true false = refl
+            turn false true = refl
+            turn false false = refl
+
+      -- the pages up to where the walk's region ends are
       module _ {next : ℕ} (E : Ends G x (o .left) end next) where
         abbrev count : ℕ
         count = pages-between G x next (C .whole) (E .whole) (omega (arith, E .further)) .0
@@ -215,53 +301,18 @@ module _ (G : Granule) (Z : Sane G) (p : Pool) (a len : ℕ) (R : Rest G p a (a 
         alike : (y : ℕ) → List·Memᴰ y (pagesFrom G x count) → walkTo G p 0 y ≡ o
         alike y i = walk-region G p few 0 x y (omega arith) sound (same-region y i)
 
-        more-pages : pagesFrom G a (C .pages + count) ≡ pagesFrom G a (C .pages) ++ pagesFrom G x count
-        more-pages = pages-append G (C .pages) count a ∙ ap (λ (z : ℕ). pagesFrom G a (C .pages) ++ pagesFrom G z count) (sym (C .next-is))
-
-        more-walks : pageWalks G p (pagesFrom G a (C .pages + count)) ≡ done-walks ++ pageWalks G p (pagesFrom G x count)
-        more-walks = ap (pageWalks G p) more-pages ∙ map-append (pageWalk G p) (pagesFrom G a (C .pages)) (pagesFrom G x count)
-
-        -- the first of them is this one
-        first-page : (k : ℕ) → 0 < k → (l : List ℕ) × (pagesFrom G x k ≡ x ∷ l)
-        unfolding pagesFrom
-        first-page zero l = absurd (omega arith)
-        first-page (suc k) l = (pagesFrom G (x + W) k, refl)
-
-        standing-same : (y j : ℕ) → o .left ≤ j → x / sizeAt G (o .left) ≡ y / sizeAt G (o .left) → standingAt G y (o .tables) j ≡ standingAt G x (o .tables) j
-        standing-same y j u e =
-            ap (λ (b : ℕ). standing (atHeight (o .tables) j) (region (sizeAt G (suc j)) b)) (region-base G y x (suc j) (sym (region-above G {j = o .left} {h = suc j} (omega arith) x y e)))
-
-        -- the standings of all of them are this walk's
-        within-one : Within (onWays G levels (pageWalks G p (pagesFrom G x count))) (onWays G levels (pageWalk G p x ∷ []))
-        within-one q i =
-            let (w, k, j, u, v, e) = ways-from G levels (pageWalks G p (pagesFrom G x count)) q i in
-            let (y, n, z) = mem-map (pageWalk G p) (pagesFrom G x count) w k in
-            by q w y j e n z u v
-          where
-            by : (q : Standing) (w : Probe) (y j : ℕ) → q ≡ standingAt G (w .at) (w .end .tables) j → List·Memᴰ y (pagesFrom G x count) → w ≡ pageWalk G p y → w .end .left ≤ j → j < levels
-                → List·Memᴰ q (onWays G levels (pageWalk G p x ∷ []))
-            by q w y j e n z u v =
-                let t : walkTo G p 0 y ≡ o = alike y n in
-                let low : o .left ≤ j = subst (λ (s : Walked). s .left ≤ j) t (subst (λ (s : Probe). s .end .left ≤ j) z u) in
-                let s : q ≡ standingAt G x (o .tables) j =
-                e ∙ ap (λ (s : Probe). standingAt G (s .at) (s .end .tables) j) z ∙ ap (λ (s : Walked). standingAt G y (s .tables) j) t ∙ standing-same y j low (same-region y n) in
-                subst (λ (s : Standing). List·Memᴰ s (onWays G levels (pageWalk G p x ∷ []))) (sym s) (ways-has G levels (pageWalk G p x ∷ []) (pageWalk G p x) (here refl) j low v)
-
-        one-within : Within (onWays G levels (pageWalk G p x ∷ [])) (onWays G levels (pageWalks G p (pagesFrom G x count)))
-        one-within q i =
-            let (w, k, j, u, v, e) = ways-from G levels (pageWalk G p x ∷ []) q i in
-            let z : w ≡ pageWalk G p x = ⊎-elim (λ z. z) (λ n. absurd (List·Memᴰ·not-nil n)) (List·Memᴰ·cases-cons k) in
-            let (l, f) = first-page count (pages-some G count count-is (E .further)) in
-            subst (λ (s : Standing). List·Memᴰ s (onWays G levels (pageWalks G p (pagesFrom G x count)))) (sym e)
-            (ways-has G levels (pageWalks G p (pagesFrom G x count)) w (subst (λ (s : List ℕ). List·Memᴰ w (pageWalks G p s)) (sym f) (here z)) j u v)
-
-        beside : (l r s : List Standing) → Within r s → Within (l ++ r) (l ++ s)
-        beside l r s f q i = ⊎-elim (λ j. Memᴰ·append-left s j) (λ j. Memᴰ·append-right l (f q j)) (List·Memᴰ·append-cases l i)
+        like-this : (y : ℕ) → List·Memᴰ y (pagesFrom G x count) → Like y
+        like-this y i = (
+          ap (λ (s : Walked). s .tables) (alike y i),
+          ap (λ (s : Walked). s .left) (alike y i),
+          region-above G {j = o .left} {h = suc (o .left)} (omega arith) x y (same-region y i),
+          λ z. sound (ap (λ (s : Walked). s .entry) (sym (alike y i)) ∙ z),
+        )
 
         -- what they say of a cut
         cuts-so : anyCutBy G a len (pageWalks G p (pagesFrom G x count)) ≡ cutAt G a len x (o .left) (o .entry)
         cuts-so =
-            let (l, f) = first-page count (pages-some G count count-is (E .further)) in
+            let (l, f) = first-page G x count (pages-some G count count-is (E .further)) in
             ap (λ (s : List ℕ). anyCutBy G a len (pageWalks G p s)) f
             ∙ cuts-alike G a len (cutAt G a len x (o .left) (o .entry)) (pageWalk G p x) (pageWalks G p l) (λ v i.
             let (y, n, z) = mem-map (pageWalk G p) (x ∷ l) v i in
@@ -277,36 +328,7 @@ module _ (G : Granule) (Z : Sane G) (p : Pool) (a len : ℕ) (R : Rest G p a (a 
 
         pub checks-on : {N : List ℕ} → length N ≡ 512 → Marked G N (onWays G levels (done-walks ++ (pageWalk G p x ∷ []))) → {no′ : ℕ} → cond (cutAt G a len x (o .left) (o .entry)) 10 no ≡ no′
             → Checked G p a len next N no′
-        checks-on {N} long K {no′} e = record {
-          pages = C .pages + count;
-          next-is = omega (arith, C .next-is, count-is, add-mul (C .pages) count W);
-          whole = E .whole;
-          long = long;
-          undamaged = ap (anyEnds isDamaged) more-walks ∙ ends-append isDamaged done-walks (pageWalks G p (pagesFrom G x count))
-              ∙ false-or (C .undamaged) (ends-none isDamaged (pageWalks G p (pagesFrom G x count)) (λ w i.
-              let (y, n, z) = mem-map (pageWalk G p) (pagesFrom G x count) w i in
-              ap (λ (s : Probe). isDamaged (s .end .entry)) z ∙ ap (λ (s : Walked). isDamaged (s .entry)) (alike y n) ∙ not-damaged (o .entry) sound));
-          marked = subst (λ (l : List Probe). Marked G N (onWays G levels l)) (sym more-walks)
-              (subst (Marked G N) (sym (onWays-append G levels done-walks (pageWalks G p (pagesFrom G x count))))
-              (marked-like (subst (Marked G N) (onWays-append G levels done-walks (pageWalk G p x ∷ [])) K)
-              (beside (onWays G levels done-walks) (onWays G levels (pageWalk G p x ∷ [])) (onWays G levels (pageWalks G p (pagesFrom G x count))) one-within)
-              (beside (onWays G levels done-walks) (onWays G levels (pageWalks G p (pagesFrom G x count))) (onWays G levels (pageWalk G p x ∷ [])) within-one)));
-          cut-is = ap (λ (l : List Probe). cond (anyCutBy G a len l) 10 0) more-walks
-              ∙ ap (λ (y : Bool). cond y 10 0) (cuts-append G a len done-walks (pageWalks G p (pagesFrom G x count)) ∙ ap (λ (y : Bool). anyCutBy G a len done-walks || y) cuts-so)
-              ∙ turn (anyCutBy G a len done-walks) (cutAt G a len x (o .left) (o .entry)) ∙ ap (λ (n : ℕ). cond (cutAt G a len x (o .left) (o .entry)) 10 n) (C .cut-is) ∙ e;
-        }
-          where
-            not-damaged : (e : Entry) → e ≢ Damaged → isDamaged e ≡ false
-            not-damaged Empty n = refl
-            not-damaged (Frame b k) n = refl
-            not-damaged (Table c) n = refl
-            not-damaged Damaged n = absurd (n refl)
-
-            turn : (u v : Bool) → _≡_ {A = ℕ} (cond (u || v) 10 0) (cond v 10 (cond u 10 0))
-            turn true true = refl
-            turn true false = refl
-            turn false true = refl
-            turn false false = refl
+        checks-on {N} long K {no′} e = subst (λ (z : ℕ). Checked G p a len z N no′) (sym count-is) (checks-some count (pages-some G count count-is (E .further)) like-this cuts-so long K e)
 
   -- all are checked
   pub checked-all : {x : ℕ} {M : List ℕ} {no : ℕ} → Checked G p a len x M no → x ≡ end → no ≡ walksSay G p a len
@@ -348,24 +370,24 @@ module _ (G : Granule) (Z : Sane G) (p : Pool) (a len : ℕ) (R : Rest G p a (a 
   pub turn-damaged : 8 ≤ met → 8 ≡ walksSay G p a len
   turn-damaged l = walk-spoils G Z p a len R x (C .whole) (omega (arith, C .next-is)) more (K .damage l)
 
-  sound : met < 8 → walk .entry ≢ Damaged
-  sound l d = go (decLt met 4)
+  pub turn-sound : met < 8 → walk .entry ≢ Damaged
+  turn-sound l d = go (decLt met 4)
     where
       go : Dec (met < 4) → ⊥
       go (yes m) = let e = K .empty m in clash (cc)
       go (no m) = let (b, k, e) = K .frame (omega arith) l in clash (cc)
 
-  noting : (l : met < 8) → Noting G (onWays G (p .numbers .levels) (pageWalks G p (pagesFrom G a (C .pages)) ++ (pageWalk G p x ∷ []))) (noteWay G M x way (met % 4) (p .numbers .levels))
+  pub noting : (l : met < 8) → Noting G (onWays G (p .numbers .levels) (pageWalks G p (pagesFrom G a (C .pages)) ++ (pageWalk G p x ∷ []))) (noteWay G M x way (met % 4) (p .numbers .levels))
   noting l =
       subst (Noting G (onWays G (p .numbers .levels) (pageWalks G p (pagesFrom G a (C .pages)) ++ (pageWalk G p x ∷ []))))
-      ((λ i. noteWay G M x (K .tables-are l i) (K .left-is l i) (p .numbers .levels))) (notes G Z p a len R C more (sound l))
+      ((λ i. noteWay G M x (K .tables-are l i) (K .left-is l i) (p .numbers .levels))) (notes G Z p a len R C more (turn-sound l))
 
   pub turn-clash : met < 8 → {N : List ℕ} → noted false N ≡ noteWay G M x way (met % 4) (p .numbers .levels) → 8 ≡ walksSay G p a len
   turn-clash l {N} e = go (noteWay G M x way (met % 4) (p .numbers .levels)) (noting l) e
     where
       go : (n : Noted) → Noting G (onWays G (p .numbers .levels) (pageWalks G p (pagesFrom G a (C .pages)) ++ (pageWalk G p x ∷ []))) n → noted false N ≡ n → 8 ≡ walksSay G p a len
       go n (agreed Q) e = clash (cc (ap (λ (y : Noted). y .fine) e))
-      go n (clashes Q) e = clash-spoils G Z p a len R C more (sound l) Q
+      go n (clashes Q) e = clash-spoils G Z p a len R C more (turn-sound l) Q
 
   pub turn-on : met < 8 → {N : List ℕ} → length N ≡ length M → noted true N ≡ noteWay G M x way (met % 4) (p .numbers .levels)
       → {base size no′ next : ℕ} → base ≡ baseAt G x (met % 4) → size ≡ sizeAt G (met % 4) → no′ ≡ cutOr was met a (a + len) base size → next ≡ lesser (base + size) (a + len)
@@ -381,5 +403,5 @@ module _ (G : Granule) (Z : Sane G) (p : Pool) (a len : ℕ) (R : Rest G p a (a 
       go : (n : Noted) → Noting G (onWays G (p .numbers .levels) (pageWalks G p (pagesFrom G a (C .pages)) ++ (pageWalk G p x ∷ []))) n → noted true N ≡ n
           → Ends G x (walk .left) (a + len) next → cond (cutAt G a len x (walk .left) (walk .entry)) 10 was ≡ no′ → Checked G p a len next N no′
       go n (agreed Q) e E d =
-          checks-on G Z p a len R C more (sound l) E (long ∙ C .long) (subst (λ (y : List ℕ). Marked G y (onWays G (p .numbers .levels) (pageWalks G p (pagesFrom G a (C .pages)) ++ (pageWalk G p x ∷ [])))) (sym (ap (λ (y : Noted). y .marks) e)) Q) d
+          checks-on G Z p a len R C more (turn-sound l) E (long ∙ C .long) (subst (λ (y : List ℕ). Marked G y (onWays G (p .numbers .levels) (pageWalks G p (pagesFrom G a (C .pages)) ++ (pageWalk G p x ∷ [])))) (sym (ap (λ (y : Noted). y .marks) e)) Q) d
       go n (clashes Q) e E d = clash (cc (ap (λ (y : Noted). y .fine) e))

@@ -2,7 +2,7 @@
 use Prim.Native.Nat.{ℕ, zero, suc, _+_, _-_, _*_, _/_, _%_, _≤_, _<_}
 use mathlib.Core.Path.{_≡_, refl, ap, sym, _∙_, subst}
 use mathlib.Core.Logic.{_≢_, _⊎_, inl, inr, ⊎-elim}
-use mathlib.Core.Bool.{Bool, true, false, cond, _&&_, not, true≢false, false≢true}
+use mathlib.Core.Bool.{Bool, true, false, cond, _&&_, _||_, not, true≢false, false≢true}
 use mathlib.Core.List.{List, [], _∷_, _++_}
 use native.Mathlib.Nat.{add-zero, add-suc, suc-add}
 use native.Mathlib.Numerals.{add-one, sub-one}
@@ -227,3 +227,81 @@ module _ (way : List ℕ) where
           → length (cond y (lowered 0 C₁) (lowered (suc (lowerFrom C₁ way (suc h) d .freed)) (lowerFrom C₁ way (suc h) d .counts)) .counts) ≡ length C
       go true e = length-set C (at h) (getD C (at h) 0 - 1)
       go false e = e ∙ length-set C (at h) (getD C (at h) 0 - 1)
+
+-- ---- tables that are marked and have a word in use
+
+-- how many numbers of the one list are not 0 where the other's are not either
+unfoldable pub live : List ℕ → List ℕ → ℕ
+live [] C = 0
+live (m ∷ M) [] = 0
+live (m ∷ M) (c ∷ C) = cond (eqb m 0 || eqb c 0) 0 1 + live M C
+
+pub live-few : (M C : List ℕ) → live M C ≤ inUse M
+unfolding live inUse
+live-few [] C = omega arith
+live-few (m ∷ M) [] = omega arith
+live-few (m ∷ M) (c ∷ C) = go (eqb m 0) (eqb c 0) (live-few M C)
+  where
+    go : (y z : Bool) → live M C ≤ inUse M → cond (y || z) 0 1 + live M C ≤ cond y 0 1 + inUse M
+    go true z l = omega arith
+    go false true l = omega arith
+    go false false l = omega arith
+
+-- one that stays in use
+live-kept : (M C : List ℕ) (t v : ℕ) → getD C t 0 ≢ 0 → live M (set C t v) ≤ live M C
+unfolding live
+live-kept [] C t v n = omega arith
+live-kept (m ∷ M) [] t v n = omega arith
+live-kept (m ∷ M) (c ∷ C) zero v n = go (eqb m 0) (eqb v 0)
+  where
+    e : eqb c 0 ≡ false
+    e = ne-eqb c 0 n
+
+    go : (y z : Bool) → cond (y || z) 0 1 + live M C ≤ cond (y || eqb c 0) 0 1 + live M C
+    go true z = omega arith
+    go false true = rw e (omega arith)
+    go false false = rw e (omega arith)
+live-kept (m ∷ M) (c ∷ C) (suc t) v n = omega (arith, live-kept M C t v n)
+
+-- one that was the last of its table
+live-less : (M C : List ℕ) (t : ℕ) → getD M t 0 ≢ 0 → getD C t 0 ≢ 0 → suc (live M (set C t 0)) ≡ live M C
+unfolding live
+live-less [] C t m n = absurd (m refl)
+live-less (m ∷ M) [] t k n = absurd (n refl)
+live-less (m ∷ M) (c ∷ C) zero k n = let e : eqb m 0 ≡ false = ne-eqb m 0 k in let f : eqb c 0 ≡ false = ne-eqb c 0 n in rw (e, f) (omega arith)
+live-less (m ∷ M) (c ∷ C) (suc t) k n = omega (arith, live-less M C t k n)
+
+-- the tables that come free are no more live
+pub lower-live : (M way : List ℕ) (d h : ℕ) (C : List ℕ) → ((i j : ℕ) → h ≤ i → i < j → j < h + d → atHeight way i ≢ atHeight way j)
+    → ((j : ℕ) → h ≤ j → j < h + d → (getD M (atHeight way j) 0 ≢ 0) × (getD C (atHeight way j) 0 ≢ 0))
+    → lowerFrom C way h d .freed + live M (lowerFrom C way h d .counts) ≤ live M C
+unfolding lowerFrom
+lower-live M way zero h C apart f = omega arith
+lower-live M way (suc d) h C apart f =
+    go (ltb 1 n) refl
+    (lower-live M way d (suc h) C₁ (λ i j u v w. apart i j (omega arith) v (omega arith))
+    (λ j u v. (f j (omega arith) (omega arith) .0, λ z. f j (omega arith) (omega arith) .1 (sym (getD-set-other C t (atHeight way j) (n - 1) 0 (λ q. apart h j (omega arith) (omega arith) (omega arith) (sym q))) ∙ z))))
+  where
+    t : ℕ
+    t = atHeight way h
+
+    n : ℕ
+    n = getD C t 0
+
+    C₁ : List ℕ
+    C₁ = set C t (n - 1)
+
+    r : Lowered
+    r = lowerFrom C₁ way (suc h) d
+
+    pick : Bool → Lowered
+    pick y = cond y (lowered 0 C₁) (lowered (suc (r .freed)) (r .counts))
+
+    used : n ≢ 0
+    used = f h (omega arith) (omega arith) .1
+
+    go : (y : Bool) → ltb 1 n ≡ y → r .freed + live M (r .counts) ≤ live M C₁ → pick y .freed + live M (pick y .counts) ≤ live M C
+    go true e l = omega (arith, live-kept M C t (n - 1) used)
+    go false e l =
+        let z : n - 1 ≡ 0 = omega (arith, ltb-false 1 n e, used) in
+        omega (arith, l, live-less M C t (f h (omega arith) (omega arith) .0) used, ap (λ (v : ℕ). live M (set C t v)) z)

@@ -32,7 +32,7 @@ use Rattle.model.specs.LeftLaws.{performed-length}
 use Rattle.model.specs.RangeWalks.{readBy, Came, there, further, came-low, came-moved, came-long, Through, Stopped, left-low, same-index, walk-stopped, stopped-walk, stopped-apart, stopped-in, stopped-last, stopped-through, through-table}
 use Rattle.model.specs.RangeUnmapped.{givenAt, few-levels, removedAt, high, word-stays, hole-there, hole-region, walk-kept}
 use Rattle.sweeps.specs.Parts.{inUse, usedIn, Lowered, lowered, lowerFrom}
-use Rattle.sweeps.specs.Counting.{used-same, used-less, lower-freed, lower-hit, lower-miss, lower-long}
+use Rattle.sweeps.specs.Counting.{some-used, live, lower-live, used-same, used-less, lower-freed, lower-hit, lower-miss, lower-long}
 
 -- ---- zeros stay
 
@@ -176,6 +176,9 @@ module _ (G : Granule) (Z : Sane G) (p : Pool) (good : goodPool G p ≡ true) (x
       let T = stopped-through E low refl top a (omega arith) in
       through-table E low refl top a (omega arith) ∙ came-first (T .above) refl
 
+  pub above-root : (j : ℕ) → o .left ≤ j → j < top → at j ≢ 0
+  above-root j a c z = apart j top a c (omega arith) (z ∙ sym root)
+
   -- each entry on the way is in use
   entry-used : (j : ℕ) → o .left ≤ j → j ≤ top → wordAt G (p .words) (at j) (idx j) ≢ 0
   entry-used j a c z = go (ℕ-discrete (o .left) j)
@@ -290,6 +293,12 @@ module _ (G : Granule) (Z : Sane G) (p : Pool) (good : goodPool G p ≡ true) (x
                 by (no w) = omega (arith, top-high)
         go (inr f) =
             lower-miss (o .tables) (top - o .left) (o .left) C t (λ j a c d. f j a (omega (arith, frees))) ∙ counted t s l ∙ sym (miss t l f)
+
+    pub frees-live : (M : List ℕ) → ((j : ℕ) → o .left ≤ j → j < top → getD M (at j) 0 ≢ 0) → L .freed + live M (L .counts) ≤ live M C
+    frees-live M f =
+        lower-live M (o .tables) (top - o .left) (o .left) C apart-below
+        (λ j a c. let d : j < top = omega (arith, left-top) in
+        (f j a d, λ z. omega (arith, z, counted (at j) (not-root j a d) (at-low j a (omega arith)), some-used G (p .words) n long (at j) (idx j) (at-low j a (omega arith)) (idx-low x j (omega (arith, low))) (entry-used j a (omega arith)))))
 
     pub counts-long : length (L .counts) ≡ 512
     counts-long = lower-long (o .tables) (top - o .left) (o .left) C ∙ size

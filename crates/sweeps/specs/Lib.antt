@@ -8,3 +8,4 @@ pub mod Sweeping
 pub mod Rooms
 pub mod Rows
 pub mod Clearing
+pub mod RowChecks

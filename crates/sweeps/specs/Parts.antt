@@ -2,19 +2,21 @@
 use Prim.Native.Nat.{ℕ, zero, suc, _+_, _-_, _*_, _%_, _≤_, _<_}
 use mathlib.Core.Path.{_≡_}
 use mathlib.Core.Logic.{_≢_, _⊎_}
-use mathlib.Core.Bool.{Bool, true, cond}
-use mathlib.Core.List.{List, [], _∷_}
+use mathlib.Core.Bool.{Bool, true, cond, _||_, not}
+use mathlib.Core.List.{List, [], _∷_, List·Memᴰ}
 use lib.Dec.{ltb, eqb}
 use lib.ListN.{length, getD, set}
 use Rattle.laws.specs.Lists.{part}
 use Rattle.path.specs.Geometry.{Granule, pageSize, entries, sizeAt, physical, spaceOf}
-use Rattle.path.specs.Paths.{baseAt}
+use Rattle.path.specs.Paths.{indexAt, baseAt}
+use Rattle.entry.specs.Words.{frameAt}
 use Rattle.entry.specs.declared.Entry.the-variants.{Empty, Frame, Damaged}
 use Rattle.model.specs.declared.Walked.{Walked}
 use Rattle.model.specs.Answers.{tablesIn, Pool}
 use Rattle.model.specs.Walk.{slot, atHeight}
 use Rattle.model.specs.Calls.{goodPool, walkTo, unmapW}
-use Rattle.model.specs.Ranges.{unmapRangeTests, pagesFrom, pagesOf, pageWalks, spoiled, anyCutBy, leftBy, answersOf, sumOf, acceptedIn}
+use Rattle.model.specs.Ranges.{unmapRangeTests, pagesFrom, pagesOf, pageWalks, isDamaged, spoiled, anyCutBy, leftBy, answersOf, sumOf, acceptedIn}
+use Rattle.ranges.specs.Stretches.{stretchAt}
 
 -- the lesser of two numbers
 abbrev pub lesser : ℕ → ℕ → ℕ
@@ -57,6 +59,11 @@ pub record Allowed (G : Granule) (p : Pool) (a len : ℕ) : Type 0 where
   pub tests : unmapRangeTests G (p .numbers .levels) a len ≡ 0
   pub walks : walksSay G p a len ≡ 0
 
+-- every table on the ways of a range's pages is marked
+abbrev pub AllNoted : Granule → Pool → ℕ → ℕ → List ℕ → Type 0
+AllNoted G p a len M =
+    (x : ℕ) → List·Memᴰ x (pagesOf G a len) → (j : ℕ) → walkTo G p 0 x .left ≤ j → j < p .numbers .levels → getD M (atHeight (walkTo G p 0 x .tables) j) 0 ≢ 0
+
 -- what a walk met, as a number: below 4 a hole, below 8 a frame, and the height is added; else damage
 pub record Meets (o : Walked) (met : ℕ) (way : List ℕ) : Type 0 where
   pub damage : 8 ≤ met → o .entry ≡ Damaged
@@ -77,6 +84,25 @@ inUse (x ∷ xs) = cond (eqb x 0) 0 1 + inUse xs
 -- the first n words may be cleared by themselves: none of all is in use and n is their number, or the one after them is
 abbrev pub Clearable : List ℕ → ℕ → Type 0
 Clearable l n = (((i : ℕ) → i < length l → getD l i 0 ≡ 0) × (n ≡ length l)) ⊎ ((n < length l) × (getD l n 0 ≢ 0))
+
+-- a word of the last level is empty or that of a page
+abbrev pub isFine : Granule → ℕ → Bool
+isFine G w = eqb w 0 || not (isDamaged (frameAt G 0 w))
+
+-- how many are not
+unfoldable pub misfitsIn : Granule → List ℕ → ℕ
+misfitsIn G [] = 0
+misfitsIn G (w ∷ ws) = cond (isFine G w) 0 1 + misfitsIn G ws
+
+-- the words of table t from that of address x on, as many as the range up to `end` has in the table
+abbrev pub rowOf : Granule → List ℕ → ℕ → ℕ → ℕ → List ℕ
+rowOf G ws t x end = part ws (slot G t (indexAt G x 0)) (stretchAt G x (end - x) 0)
+
+-- where walks go on after one for x that ended at a height: past its region, or at the last level past its row, and 0 where the row has a damaged word
+pub record Beyond (G : Granule) (ws : List ℕ) (t x left end next : ℕ) : Type 0 where
+  pub past-region : 0 < left → next ≡ untilEnd G x left end
+  pub faulty : left ≡ 0 → misfitsIn G (rowOf G ws t x end) ≢ 0 → next ≡ 0
+  pub past-row : left ≡ 0 → misfitsIn G (rowOf G ws t x end) ≡ 0 → next ≡ x + stretchAt G x (end - x) 0 * pageSize G
 
 -- how many words of table t are
 abbrev pub usedIn : Granule → List ℕ → ℕ → ℕ

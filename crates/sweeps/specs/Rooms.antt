@@ -1,33 +1,37 @@
 -- Laws of the room in the free list, by what the code has of a sweep: what a look met, and what its lowering comes to.
 use Prim.Native.Nat.{ℕ, zero, suc, _+_, _-_, _*_, _/_, _%_, _≤_, _<_}
 use mathlib.Core.Path.{_≡_, refl, ap, sym, _∙_, subst}
-use mathlib.Core.Logic.{_⊎_, inl, inr, ⊎-elim}
+use mathlib.Core.Logic.{_≢_, _⊎_, inl, inr, ⊎-elim}
 use mathlib.Core.Bool.{Bool, true, false, cond, not}
 use mathlib.Core.List.{List, [], _∷_, List·Memᴰ}
 use native.Mathlib.Nat.{add-mul, div-add-mod'}
 use native.Mathlib.Omega.{arith}
 use native.Mathlib.Decide.{decLt}
-use lib.ListN.{length, getD}
+use lib.ListN.{length, getD, set, drop}
+use lib.Seq.{getD-set-other}
 use borrow.Author.Tests.{not-false}
 use Rattle.path.specs.Geometry.{Granule, Sane, pageSize}
 use Rattle.path.specs.Areas.{areaOf, total}
 use Rattle.path.specs.Laws.{good-setup, space-physical}
 use Rattle.path.specs.Paths.{pathOf}
-use Rattle.entry.specs.declared.Entry.the-variants.{Empty, Frame, Damaged}
+use Rattle.entry.specs.declared.Entry.{Entry}
+use Rattle.entry.specs.declared.Entry.the-variants.{Empty, Table, Frame, Damaged}
 use Rattle.model.specs.declared.Walked.{Walked}
 use Rattle.model.specs.Answers.{Pool}
-use Rattle.model.specs.Walk.{noWay}
+use Rattle.model.specs.Walk.{atHeight, noWay}
 use Rattle.model.specs.Calls.{goodPool, walkTo, unmapW}
 use Rattle.model.specs.DescentLaws.{clash}
 use Rattle.model.specs.Ranges.{unmapRangeTests, pagesFrom, pagesOf, Probe, pageWalks, anyEnds, isDamaged, onWays, oneRegionEach, spoiled, anyCutBy, answersOf, anyRefused}
 use Rattle.model.specs.RangeLaws.{FineUnmap, unmap-fine, pages-has, or-false}
 use Rattle.model.specs.RangeWalks.{left-low}
+use Rattle.model.specs.RefusalLaws.{no-table-last}
 use Rattle.model.specs.RangeUnmapped.{few-levels, Ok, start}
-use Rattle.sweeps.specs.Parts.{untilEnd, Rest, walksSay, Allowed, Meets, usedIn, Lowered, lowered, lowerFrom}
+use Rattle.sweeps.specs.Parts.{untilEnd, Rest, walksSay, Allowed, AllNoted, Meets, inUse, usedIn, Lowered, lowered, lowerFrom}
 use Rattle.sweeps.specs.Pages.{Ends, ends-at}
 use Rattle.sweeps.specs.Removing.{pages-whole}
-use Rattle.sweeps.specs.Counting.{lower-most}
-use Rattle.sweeps.specs.Sweeping.{Swept, swept-none, hole-swept, full-swept, frame-swept}
+use Rattle.sweeps.specs.Counting.{lower-most, live, live-few}
+use Rattle.sweeps.specs.Emptied.{above-root}
+use Rattle.sweeps.specs.Sweeping.{Swept, swept-none, swept-all, hole-swept, full-swept, swept-live, frame-swept}
 
 -- ---- before the first page
 
@@ -135,3 +139,89 @@ module _ (G : Granule) (Z : Sane G) (p : Pool) (a len : ℕ) (R : Rest G p a (a 
 
 pub sweep-same : (G : Granule) {p : Pool} {a len x : ℕ} {C D : List ℕ} {f g : ℕ} → Swept G p a len x C f → D ≡ C → g ≡ f → Swept G p a len x D g
 sweep-same G {p} {a} {len} {x} {C} {D} {f} {g} S u v = subst (λ (n : ℕ). Swept G p a len x D n) (sym v) (subst (λ (z : List ℕ). Swept G p a len x z f) (sym u) S)
+
+-- ---- marks that leave room
+
+-- so many values of a function, from i on
+unfoldable values : (ℕ → ℕ) → ℕ → ℕ → List ℕ
+values f i zero = []
+values f i (suc k) = f i ∷ values f (suc i) k
+
+values-long : (f : ℕ → ℕ) (k i : ℕ) → length (values f i k) ≡ k
+unfolding values
+values-long f zero i = refl
+values-long f (suc k) i = ap suc (values-long f k (suc i))
+
+values-at : (f : ℕ → ℕ) (k i j : ℕ) → j < k → getD (values f i k) j 0 ≡ f (i + j)
+unfolding values
+values-at f zero i j l = absurd (omega arith)
+values-at f (suc k) i zero l = ap f (omega arith)
+values-at f (suc k) i (suc j) l = values-at f k (suc i) j (omega arith) ∙ ap f (omega arith)
+
+-- the marks but the root's
+unmark : (M : List ℕ) → inUse (set M 0 0) ≡ inUse (drop 1 M)
+unfolding inUse
+unmark [] = refl
+unmark (m ∷ M) = omega arith
+
+-- The tables that a range gives back are among those on its ways, each once. So there is room for them where there is for all that are marked, the root
+-- excepted.
+module _ (G : Granule) (Z : Sane G) (p : Pool) (a len : ℕ) (A : Allowed G p a len) (M : List ℕ) (N : AllNoted G p a len M)
+    (room : p .numbers .free + inUse (drop 1 M) ≤ total (areaOf (p .numbers)) - 1) where
+  abbrev W : ℕ
+  W = pageSize G
+
+  abbrev M₁ : List ℕ
+  M₁ = set M 0 0
+
+  R : Rest G p a (a + len)
+  R = fine-rest G Z p a len (A .good) (A .tests)
+
+  still : p .numbers .levels ≤ 4
+  still = few-levels G Z p (A .good)
+
+  in-range : {x : ℕ} {C : List ℕ} {free : ℕ} → Swept G p a len x C free → x < a + len → List·Memᴰ x (pagesOf G a len)
+  in-range {x} S l = pages-has G (len / W) a x (R .starts) (S .ok .aligned) (omega (arith, S .next-is)) (omega (arith, whole-length G (p .numbers .levels) a len (A .tests)))
+
+  first-in : {x : ℕ} {C : List ℕ} {free : ℕ} (S : Swept G p a len x C free) → x < a + len → List·Memᴰ x (pagesFrom G x (S .rest))
+  first-in {x} S l = pages-has G (S .rest) x x (S .ok .aligned) (S .ok .aligned) (omega arith) (omega (arith, S .next-is, S .all-pages, add-mul (S .pages) (S .rest) W))
+
+  marked : {x : ℕ} {C : List ℕ} {free : ℕ} → Swept G p a len x C free → x < a + len → (b c : ℕ) → walkTo G p 0 x .entry ≡ Frame b c
+      → (j : ℕ) → walkTo G p 0 x .left ≤ j → j < p .numbers .levels - 1 → getD M₁ (atHeight (walkTo G p 0 x .tables) j) 0 ≢ 0
+  marked {x} S l b c e j u v z =
+      N x (in-range S l) j u (omega arith) (sym (getD-set-other M 0 (atHeight (walkTo G p 0 x .tables) j) 0 0 (above-root G Z p (A .good) x b c e j u v)) ∙ z)
+
+  sweeps-on : (fuel : ℕ) {x : ℕ} {C : List ℕ} {free : ℕ} → Swept G p a len x C free → x ≤ a + len → a + len - x ≤ fuel → free + live M₁ C ≤ total (areaOf (p .numbers)) - 1
+      → anyRefused 8 (answersOf (unmapW G) p (pagesOf G a len)) ≡ false
+  sweeps-on zero {x} S l f m = swept-all G Z p a len S (omega arith)
+  sweeps-on (suc fuel) {x} {C} {free} S l f m =
+      go (decLt x (a + len)) (walkTo G p 0 x .entry) refl
+      (λ next D g T u v w. sweeps-on fuel T u v w)
+    where
+      Goal : Type 0
+      Goal = anyRefused 8 (answersOf (unmapW G) p (pagesOf G a len)) ≡ false
+
+      next : ℕ
+      next = untilEnd G x (walkTo G p 0 x .left) (a + len)
+
+      go : Dec (x < a + len) → (e : Entry) → walkTo G p 0 x .entry ≡ e
+          → ((y : ℕ) (D : List ℕ) (g : ℕ) → Swept G p a len y D g → y ≤ a + len → a + len - y ≤ fuel → g + live M₁ D ≤ total (areaOf (p .numbers)) - 1 → Goal) → Goal
+      go (no n) e q ih = swept-all G Z p a len S (omega arith)
+      go (yes n) Empty q ih =
+          let E = ends-at G x (walkTo G p 0 x .left) (a + len) n (R .ends) in
+          ih next C free (hole-swept G Z p a len S still n E q) (E .in-range) (omega (arith, E .further)) m
+      go (yes n) (Frame b c) q ih =
+          let E = ends-at G x (walkTo G p 0 x .left) (a + len) n (R .ends) in
+          let L = lowerFrom C (walkTo G p 0 x .tables) (walkTo G p 0 x .left) (p .numbers .levels - 1 - walkTo G p 0 x .left) in
+          let k = swept-live G Z p a len S still n E b c q M₁ (marked S n b c q) in
+          ih next (L .counts) (free + L .freed) (frame-swept G Z p a len S still n E b c q (omega (arith, k, m))) (E .in-range) (omega (arith, E .further)) (omega (arith, k, m))
+      go (yes n) (Table c) q ih = absurd (no-table-last G p x c q)
+      go (yes n) Damaged q ih =
+          absurd (⊎-elim (λ e. S .ok .undamaged x (first-in S n) (ap (λ (w : Walked). w .entry) e ∙ q)) (λ e. let z = e .0 in clash (cc)) (S .along x (first-in S n)))
+
+  pub roomy : anyRefused 8 (answersOf (unmapW G) p (pagesOf G a len)) ≡ false
+  roomy =
+      let C = values (usedIn G (p .words)) 0 512 in
+      sweeps-on len (sweep-none G Z A {C = C} (values-long (usedIn G (p .words)) 512 0)
+      (λ t l. values-at (usedIn G (p .words)) 512 0 t (omega (arith, l, good-setup (A .good))) ∙ ap (usedIn G (p .words)) (omega arith)))
+      (omega arith) (omega arith) (omega (arith, room, live-few M₁ C, unmark M))

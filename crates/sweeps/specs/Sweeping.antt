@@ -33,7 +33,8 @@ use Rattle.model.specs.RangeLeft.{left-leaves}
 use Rattle.model.specs.LeftLaws.{unmap-leaves}
 use Rattle.sweeps.specs.Parts.{Rest, usedIn, Lowered, lowerFrom}
 use Rattle.sweeps.specs.Pages.{pages-between, pages-some, Ends, ends-at}
-use Rattle.sweeps.specs.Emptied.{frees, counts-on, counts-long, own-empty, page-goes-on}
+use Rattle.sweeps.specs.Counting.{live}
+use Rattle.sweeps.specs.Emptied.{frees, frees-live, counts-on, counts-long, own-empty, page-goes-on}
 
 -- a page of the range is walked as at entry, or was a hole and is one
 abbrev pub Along : Granule → Pool → Pool → ℕ → Type 0
@@ -265,6 +266,14 @@ module _ (G : Granule) (Z : Sane G) (p : Pool) (a len : ℕ) where
 
         given-is : L .freed ≡ givenAt G q x
         given-is = ap (λ (z : Lowered). z .freed) (sym same-lowered) ∙ frees G Z q (S .ok .good) x b c framed′ C (S .long) counted′
+
+        -- the tables that come back are live no more
+        pub swept-live : (M : List ℕ) → ((j : ℕ) → o .left ≤ j → j < p .numbers .levels - 1 → getD M (atHeight (o .tables) j) 0 ≢ 0) → L .freed + live M (L .counts) ≤ live M C
+        swept-live M f =
+            subst (λ (z : Lowered). z .freed + live M (z .counts) ≤ live M C) same-lowered
+            (frees-live G Z q (S .ok .good) x b c framed′ C (S .long) counted′ M
+            (λ j u v. subst (λ (w : Walked). getD M (atHeight (w .tables) j) 0 ≢ 0) (sym same)
+            (f j (subst (λ (w : Walked). w .left ≤ j) same u) (subst (λ (k : ℕ). j < k - 1) (kept .levels) v))))
 
         -- the free list has no room
         pub full-swept : total (areaOf (p .numbers)) - 1 < free + L .freed → anyRefused 8 (answersOf (unmapW G) p (pagesOf G a len)) ≡ true

@@ -1,3 +1,4 @@
+-- `rangeunmaps::check_walks` checks walk after walk, and the pages of a row with the first.
 use mathlib.Core.Path.{_≡_, refl, sym, ap, _∙_}
 use native.Mathlib.Omega.{arith}
 use borrow.Author.Needs.{needs}
@@ -6,23 +7,18 @@ use Prim.Native.Nat.{ℕ, _+_, _-_, _%_, _<_, _≤_}
 use mathlib.Core.Bool.{Bool}
 use mathlib.Core.List.{[], _++_}
 use lib.ListN.{length, length-replicate}
-use Rattle.path.specs.Geometry.{granuleOf, sizeAt, physical}
-use Rattle.path.specs.Laws.{granule-sane, level-some, size-fits}
+use Rattle.path.specs.Geometry.{granuleOf, entries, sizeAt, physical}
+use Rattle.path.specs.Laws.{granule-sane, level-some, size-fits, good-setup, table-ends}
 use Rattle.path.specs.RegionLaws.{base-le}
 use Rattle.model.specs.Answers.{pool}
 use Rattle.marks.specs.Marks.{noted}
-use Rattle.sweeps.specs.Checking.{Checked, checked-none, checked-like, says-like, checked-all, turn-damaged, turn-clash, turn-on}
+use Rattle.sweeps.specs.Checking.{Checked, checked-none, checked-like, says-like, checked-all, turn-damaged, turn-clash}
+use Rattle.sweeps.specs.RowChecks.{row-in, turn-fault, turn-next}
 use Rattle.rangeunmaps.proofs.Steps.{met-low}
 use Rattle.rangeunmaps.proofs.check_walks.Statement.{statement}
 use Rattle.rangeunmaps.proofs.check_walks.Tie as tie
 use Rattle.rangeunmaps.proofs.check_walks.Reads as reads
 use Rattle.rangeunmaps.proofs.check_walks.Lts as lts
-use Rattle.marks.proofs.note_way.Reads as note-way-reads
-use Rattle.indices.proofs.base_at.Reads as base-at-reads
-use Rattle.indices.proofs.size_at.Reads as size-at-reads
-use Rattle.rangeunmaps.proofs.cut_by.Reads as cut-by-reads
-use Rattle.rangeunmaps.proofs.least.Reads as least-reads
-use Rattle.rangeunmaps.proofs.look.Reads as look-reads
 
 abbrev Inv-loop : tie.InvT-loop
 Inv-loop s words second address bytes end stands₀ way₀ no₀ x₀ stands way no' x =
@@ -42,15 +38,16 @@ look-requires c κs = (c .before .before .before .before .before .pre .0, c .bef
 
 returns : tie.Need-returns Inv-loop μ-loop
 returns c =
-    let a = c .before .before .before .before .before .before .before .args in
+    let s = c .before .before .before .before .before .before .before in
+    let a = s .args in
     let l = c .before .before .before .before .loop in
     let G = granuleOf (a .s .granule) in
     let Z = granule-sane (a .s .granule) in
     let ws = a .words .now ++ a .second .now in
     let cut = length (a .words .now) in
-    let list = c .before .before .before .before .before .before .before .pre .0 in
+    let list = s .pre .0 in
     let p = pool (a .s) ws cut list in
-    let R = c .before .before .before .before .before .before .before .pre .1 in
+    let R = s .pre .1 in
     let C = checked-like G (a .s) ws cut [] list (l .inv .1) in
     let back = says-like G (a .s) ws cut list [] (a .address) (a .bytes) in
     turn-damaged G Z p (a .address) (a .bytes) R C (omega arith) (c .before .look .ensures) (c .if1 .taken) ∙ back
@@ -63,15 +60,16 @@ note-way-requires c κs = search needs
 
 returns-2 : tie.Need-returns-2 Inv-loop μ-loop
 returns-2 c =
-    let a = c .before .before .before .before .before .before .before .before .before .before .before .args in
+    let s = c .before .before .before .before .before .before .before .before .before .before .before in
+    let a = s .args in
     let l = c .before .before .before .before .before .before .before .before .loop in
     let G = granuleOf (a .s .granule) in
     let Z = granule-sane (a .s .granule) in
     let ws = a .words .now ++ a .second .now in
     let cut = length (a .words .now) in
-    let list = c .before .before .before .before .before .before .before .before .before .before .before .pre .0 in
+    let list = s .pre .0 in
     let p = pool (a .s) ws cut list in
-    let R = c .before .before .before .before .before .before .before .before .before .before .before .pre .1 in
+    let R = s .pre .1 in
     let C = checked-like G (a .s) ws cut [] list (l .inv .1) in
     let back = says-like G (a .s) ws cut list [] (a .address) (a .bytes) in
     let N = c .before .before .note-way in
@@ -85,67 +83,93 @@ size-at-requires c κs = search needs
 
 cut-by-requires : tie.Need-cut-by-requires Inv-loop μ-loop
 cut-by-requires c κs =
-    let a = c .before .before .before .before .before .before .before .before .before .before .before .before .before .args in
+    let s = c .before .before .before .before .before .before .before .before .before .before .before .before .before in
+    let a = s .args in
     let G = granuleOf (a .s .granule) in
     let Z = granule-sane (a .s .granule) in
-    let m = met-low (granuleOf (c .before .before .before .before .before .before .before .before .before .before .before .before .before .args .s .granule)) (granule-sane (c .before .before .before .before .before .before .before .before .before .before .before .before .before .args .s .granule)) (pool (c .before .before .before .before .before .before .before .before .before .before .before .before .before .args .s) (c .before .before .before .before .before .before .before .before .before .before .before .before .before .args .words .now ++ c .before .before .before .before .before .before .before .before .before .before .before .before .before .args .second .now) (length (c .before .before .before .before .before .before .before .before .before .before .before .before .before .args .words .now)) (c .before .before .before .before .before .before .before .before .before .before .before .before .before .pre .0)) (c .before .before .before .before .before .before .before .before .before .before .before .before .before .pre .1 .good) _ (c .before .before .before .before .before .before .before .look .ensures) (c .before .before .before .before .before .before .if1 .left) in
+    let m = met-low G Z (pool (a .s) (a .words .now ++ a .second .now) (length (a .words .now)) (s .pre .0)) (s .pre .1 .good) _ (c .before .before .before .before .before .before .before .look .ensures) (c .before .before .before .before .before .before .if1 .left) in
     let h = c .before .before .before .before .before .before .before .look .result % 4 in
-    let s : sizeAt G h ≤ physical = size-fits G Z (omega arith) in
-    omega (arith, c .before .base-at .ensures ∙ level-some G m _, c .size-at .ensures ∙ level-some G m _, base-le G (c .before .before .before .before .before .before .before .before .before .before .loop .x) h, c .before .before .before .before .before .before .before .before .before .before .before .before .before .pre .1 .in-space)
+    let f : sizeAt G h ≤ physical = size-fits G Z (omega arith) in
+    omega (arith, c .before .base-at .ensures ∙ level-some G m _, c .size-at .ensures ∙ level-some G m _, base-le G (c .before .before .before .before .before .before .before .before .before .before .loop .x) h, s .pre .1 .in-space)
 
-add-least : tie.Need-add-least Inv-loop μ-loop
-add-least c =
-    let a = c .before .before .before .before .before .before .before .before .before .before .before .before .before .before .args in
-    let G = granuleOf (a .s .granule) in
-    let Z = granule-sane (a .s .granule) in
-    let m = met-low (granuleOf (c .before .before .before .before .before .before .before .before .before .before .before .before .before .before .args .s .granule)) (granule-sane (c .before .before .before .before .before .before .before .before .before .before .before .before .before .before .args .s .granule)) (pool (c .before .before .before .before .before .before .before .before .before .before .before .before .before .before .args .s) (c .before .before .before .before .before .before .before .before .before .before .before .before .before .before .args .words .now ++ c .before .before .before .before .before .before .before .before .before .before .before .before .before .before .args .second .now) (length (c .before .before .before .before .before .before .before .before .before .before .before .before .before .before .args .words .now)) (c .before .before .before .before .before .before .before .before .before .before .before .before .before .before .pre .0)) (c .before .before .before .before .before .before .before .before .before .before .before .before .before .before .pre .1 .good) _ (c .before .before .before .before .before .before .before .before .look .ensures) (c .before .before .before .before .before .before .before .if1 .left) in
-    let h = c .before .before .before .before .before .before .before .before .look .result % 4 in
-    let s : sizeAt G h ≤ physical = size-fits G Z (omega arith) in
-    omega (arith, c .before .before .base-at .ensures ∙ level-some G m _, c .before .size-at .ensures ∙ level-some G m _, base-le G (c .before .before .before .before .before .before .before .before .before .before .before .loop .x) h, c .before .before .before .before .before .before .before .before .before .before .before .before .before .before .pre .1 .in-space)
+array-read-beyond : tie.Need-array-read-beyond Inv-loop μ-loop
+array-read-beyond c = search needs
 
-least-requires : tie.Need-least-requires Inv-loop μ-loop
-least-requires c κs = search needs
-
-on : (c : tie.After-least Inv-loop μ-loop)
-    → let a = c .before .before .before .before .before .before .before .before .before .before .before .before .before .before .before .args in
-    let p = pool (a .s) (a .words .now ++ a .second .now) (length (a .words .now)) (c .before .before .before .before .before .before .before .before .before .before .before .before .before .before .before .pre .0) in
-    Checked (granuleOf (a .s .granule)) p (a .address) (a .bytes) (c .least .result) (c .before .before .before .before .before .before .note-way .last .1 .0) (c .before .cut-by .result) × (c .before .before .before .before .before .before .before .before .before .before .before .before .loop .x < c .least .result) × (c .least .result ≤ a .address + a .bytes)
-on c =
-    let a = c .before .before .before .before .before .before .before .before .before .before .before .before .before .before .before .args in
-    let l = c .before .before .before .before .before .before .before .before .before .before .before .before .loop in
+beyond-requires : tie.Need-beyond-requires Inv-loop μ-loop
+beyond-requires c κs =
+    let s = c .before .before .before .before .before .before .before .before .before .before .before .before .before .before in
+    let a = s .args in
+    let l = c .before .before .before .before .before .before .before .before .before .before .before .loop in
     let G = granuleOf (a .s .granule) in
     let Z = granule-sane (a .s .granule) in
     let ws = a .words .now ++ a .second .now in
     let cut = length (a .words .now) in
-    let list = c .before .before .before .before .before .before .before .before .before .before .before .before .before .before .before .pre .0 in
+    let list = s .pre .0 in
     let p = pool (a .s) ws cut list in
-    let R = c .before .before .before .before .before .before .before .before .before .before .before .before .before .before .before .pre .1 in
+    let R = s .pre .1 in
+    let C = checked-like G (a .s) ws cut [] list (l .inv .1) in
+    let N = good-setup (R .good) .numbers in (
+      (met-low G Z p (R .good) (l .x) (c .before .before .before .before .before .before .before .before .look .ensures) (c .before .before .before .before .before .before .before .if1 .left), (omega arith, R .in-space)),
+      λ z. ((a .s .tables, N .cut-is), omega (arith, N .words-are, table-ends (entries G) (row-in G Z p (a .address) (a .bytes) R C (omega arith) (c .before .before .before .before .before .before .before .before .look .ensures) (c .before .before .before .before .before .before .before .if1 .left) z))),
+    )
+
+returns-3 : tie.Need-returns-3 Inv-loop μ-loop
+returns-3 c =
+    let s = c .before .before .before .before .before .before .before .before .before .before .before .before .before .before .before .before in
+    let a = s .args in
+    let l = c .before .before .before .before .before .before .before .before .before .before .before .before .before .loop in
+    let G = granuleOf (a .s .granule) in
+    let Z = granule-sane (a .s .granule) in
+    let ws = a .words .now ++ a .second .now in
+    let cut = length (a .words .now) in
+    let list = s .pre .0 in
+    let p = pool (a .s) ws cut list in
+    let R = s .pre .1 in
     let C = checked-like G (a .s) ws cut [] list (l .inv .1) in
     let back = says-like G (a .s) ws cut list [] (a .address) (a .bytes) in
-    let N = c .before .before .before .before .before .before .note-way in
-    let m = met-low (granuleOf (c .before .before .before .before .before .before .before .before .before .before .before .before .before .before .before .args .s .granule)) (granule-sane (c .before .before .before .before .before .before .before .before .before .before .before .before .before .before .before .args .s .granule)) (pool (c .before .before .before .before .before .before .before .before .before .before .before .before .before .before .before .args .s) (c .before .before .before .before .before .before .before .before .before .before .before .before .before .before .before .args .words .now ++ c .before .before .before .before .before .before .before .before .before .before .before .before .before .before .before .args .second .now) (length (c .before .before .before .before .before .before .before .before .before .before .before .before .before .before .before .args .words .now)) (c .before .before .before .before .before .before .before .before .before .before .before .before .before .before .before .pre .0)) (c .before .before .before .before .before .before .before .before .before .before .before .before .before .before .before .pre .1 .good) _ (c .before .before .before .before .before .before .before .before .before .look .ensures) (c .before .before .before .before .before .before .before .before .if1 .left) in
-    turn-on G Z p (a .address) (a .bytes) R C (omega arith) (c .before .before .before .before .before .before .before .before .before .look .ensures) (c .before .before .before .before .before .before .before .before .if1 .left) (N .kept .1 .0) (ap (λ (f : Bool). noted f (N .last .1 .0)) (sym (not-false _ (c .before .before .before .before .if2 .left))) ∙ N .ensures)
-    (c .before .before .before .base-at .ensures ∙ level-some G m _) (c .before .before .size-at .ensures ∙ level-some G m _) (c .before .cut-by .ensures) (c .least .ensures)
+    turn-fault G Z p (a .address) (a .bytes) R C (omega (arith, c .before .before .before .before .before .before .before .before .before .before .before .before .loop-test .taken)) (c .before .before .before .before .before .before .before .before .before .before .look .ensures) (c .before .before .before .before .before .before .before .before .before .if1 .left) (c .before .beyond .ensures) (c .if3 .taken) ∙ back
+
+on : (c : tie.Else3 Inv-loop μ-loop)
+    → let a = c .before .before .before .before .before .before .before .before .before .before .before .before .before .before .before .before .args in
+    let p = pool (a .s) (a .words .now ++ a .second .now) (length (a .words .now)) (c .before .before .before .before .before .before .before .before .before .before .before .before .before .before .before .before .pre .0) in
+    Checked (granuleOf (a .s .granule)) p (a .address) (a .bytes) (c .before .beyond .result) (c .before .before .before .before .before .before .before .note-way .last .1 .0) (c .before .before .cut-by .result) × (c .before .before .before .before .before .before .before .before .before .before .before .before .before .loop .x < c .before .beyond .result) × (c .before .beyond .result ≤ a .address + a .bytes)
+on c =
+    let s = c .before .before .before .before .before .before .before .before .before .before .before .before .before .before .before .before in
+    let a = s .args in
+    let l = c .before .before .before .before .before .before .before .before .before .before .before .before .before .loop in
+    let G = granuleOf (a .s .granule) in
+    let Z = granule-sane (a .s .granule) in
+    let ws = a .words .now ++ a .second .now in
+    let cut = length (a .words .now) in
+    let list = s .pre .0 in
+    let p = pool (a .s) ws cut list in
+    let R = s .pre .1 in
+    let C = checked-like G (a .s) ws cut [] list (l .inv .1) in
+    let N = c .before .before .before .before .before .before .before .note-way in
+    let m = met-low G Z p (R .good) (l .x) (c .before .before .before .before .before .before .before .before .before .before .look .ensures) (c .before .before .before .before .before .before .before .before .before .if1 .left) in
+    turn-next G Z p (a .address) (a .bytes) R C (omega (arith, c .before .before .before .before .before .before .before .before .before .before .before .before .loop-test .taken)) (c .before .before .before .before .before .before .before .before .before .before .look .ensures) (c .before .before .before .before .before .before .before .before .before .if1 .left) (c .before .beyond .ensures) (c .if3 .left) (N .kept .1 .0) (ap (λ (f : Bool). noted f (N .last .1 .0)) (sym (not-false _ (c .before .before .before .before .before .if2 .left))) ∙ N .ensures)
+    (c .before .before .before .before .base-at .ensures ∙ level-some G m _) (c .before .before .before .size-at .ensures ∙ level-some G m _) (c .before .before .cut-by .ensures)
 
 loop-less : tie.Need-loop-less Inv-loop μ-loop
 loop-less c = omega (arith, on c .1, on c .2)
 
 loop-again : tie.Need-loop-again Inv-loop μ-loop
 loop-again c =
-    let a = c .before .before .before .before .before .before .before .before .before .before .before .before .before .before .before .args in
-    (on c .2, checked-like (granuleOf (a .s .granule)) (a .s) (a .words .now ++ a .second .now) (length (a .words .now)) (c .before .before .before .before .before .before .before .before .before .before .before .before .before .before .before .pre .0) [] (on c .0))
+    let a = c .before .before .before .before .before .before .before .before .before .before .before .before .before .before .before .before .args in
+    (on c .2, checked-like (granuleOf (a .s .granule)) (a .s) (a .words .now ++ a .second .now) (length (a .words .now)) (c .before .before .before .before .before .before .before .before .before .before .before .before .before .before .before .before .pre .0) [] (on c .0))
 
-returns-3 : tie.Need-returns-3 Inv-loop μ-loop
-returns-3 c =
-    let a = c .before .before .before .before .args in
+returns-4 : tie.Need-returns-4 Inv-loop μ-loop
+returns-4 c =
+    let s = c .before .before .before .before in
+    let a = s .args in
     let l = c .before .loop in
     let G = granuleOf (a .s .granule) in
     let Z = granule-sane (a .s .granule) in
     let ws = a .words .now ++ a .second .now in
     let cut = length (a .words .now) in
-    let list = c .before .before .before .before .pre .0 in
+    let list = s .pre .0 in
     let p = pool (a .s) ws cut list in
-    let R = c .before .before .before .before .pre .1 in
+    let R = s .pre .1 in
     let C = checked-like G (a .s) ws cut [] list (l .inv .1) in
     let back = says-like G (a .s) ws cut list [] (a .address) (a .bytes) in
     checked-all G Z p (a .address) (a .bytes) R C (omega (arith, l .inv .0)) ∙ back
@@ -166,8 +190,9 @@ check-walks-spec =
     base-at-requires
     size-at-requires
     cut-by-requires
-    add-least
-    least-requires
+    array-read-beyond
+    beyond-requires
+    returns-3
     loop-less
     loop-again
-    returns-3)
+    returns-4)
