@@ -591,6 +591,26 @@ impl Lent {
             let r = tried(|| audit::tree_count(setup(), &self.words, &self.second, places));
             line(&format!("{} tree_count {places} = {r}", self.name));
         }
+        for room in [0, 1023, 1024, 4096] {
+            self.saved(room);
+        }
+    }
+
+    // The image in a run of so many bytes.
+    fn saved(&self, room: usize) -> Vec<u8> {
+        let (mut image, mut answer) = (vec![9; room], [77; 1]);
+        let r = tried(|| oakabut::oak_save(&self.setup, &self.words, &self.second, &self.list, &mut image, &mut answer));
+        line(&format!("{} save {room} = {r} {answer:?} {:x}", self.name, hash(image.iter().map(|&b| b as u64))));
+        image
+    }
+
+    // The pool that an image makes in this memory, with this setup.
+    fn restored(&self, what: &str, image: &[u8]) -> Lent {
+        let (mut copy, mut answer) = (self.clone(), [55; 8]);
+        let r = tried(|| oakabut::oak_restore(&self.setup, &mut copy.words, &mut copy.second, &mut copy.list, image, &mut answer));
+        copy.told(&format!("restore {what}"), format!("{r} {answer:?}"));
+        copy.setup.copy_from_slice(&answer[..7]);
+        copy
     }
 
     fn audit(&self) {
@@ -696,6 +716,92 @@ fn of_16_kib(tables: u64, tables2: u64) {
         Lent::format_two("levels of 16 KiB", levels, BASE, 4, 0, 0, KIB16, 4, 0);
     }
     Lent::format_two("half a table of 16 KiB", 3, BASE + PAGE, 4, 0, 0, KIB16, 4, 0);
+}
+
+// The check of a block.
+fn check_of(words: &[u64]) -> u64 {
+    words[..63].iter().zip(0u64..).fold(0, |sum: u64, (&w, i)| sum.wrapping_add(w.wrapping_mul(2 * i + 1)))
+}
+
+// Blocks read and written.
+fn blocks_of() {
+    for n in numbers() {
+        ask!(blocks::granule_word, n);
+        ask!(blocks::records_in, n);
+    }
+    let bytes: Vec<u8> = (0..600).map(|i| (i * i % 251) as u8).collect();
+    for at in [0, 1, 8, 503, 504, 505, 592, 593, 600, 601, usize::MAX - 7, usize::MAX] {
+        ask!(blocks::word, &bytes[..], at);
+        ask!(blocks::word, &bytes[..7], at);
+    }
+    let (places, entries): ([u64; 31], [u64; 31]) = (std::array::from_fn(|i| 7 * i as u64 + 12), std::array::from_fn(|i| 5 + 9 * i as u64));
+    for (at, k, n) in [(0, 1, 31), (1, 2, 3), (88, u32::MAX, u32::MAX), (89, 1, 1), (601, 1, 1), (usize::MAX, 1, 1)] {
+        let mut run = bytes.clone();
+        let r = tried(|| blocks::put_block(&mut run, at, k, n, places, entries));
+        line(&format!("put_block {at} {k} {n} = {r} {:x}", hash(run.iter().map(|&b| b as u64))));
+    }
+    for (levels, count, granule, room) in [(3, 0, PAGE, 512), (4, 77, PAGE, 600), (3, 5, KIB16, 512), (3, 5, PAGE, 511), (9, 1 << 40, 8, 512)] {
+        let mut run = bytes[..room].to_vec();
+        let r = tried(|| blocks::put_head(&mut run, levels, count, granule));
+        line(&format!("put_head {levels} {count} {granule} {room} = {r} {:x}", hash(run.iter().map(|&b| b as u64))));
+    }
+}
+
+// Images of a pool, whole and changed, restored.
+fn images(granule: u64) {
+    let mut lent = Lent::format_two(&format!("image {granule}"), 3, BASE, 6, 0, 0, granule, 6, 0);
+    let large = if granule == KIB16 { MIB32 } else { MIB2 };
+    for i in 0..40 {
+        lent.map(granule * i, 2 * GIB + granule * i, granule, i % 16);
+    }
+    lent.map(3 * large, 4 * large, large, 3);
+    let image = lent.saved(3 * 512);
+    for room in [0, 512, 1535, 1536, 1537, 4096] {
+        lent.saved(room);
+    }
+    let again = lent.restored("whole", &image);
+    again.audit();
+    again.asked(granule);
+    lent.setup[3] = 77;
+    lent.restored("whole, with a free count that is not read", &image);
+    for cut in [0, 1, 511, 512, 1000, 1024, 1535] {
+        lent.restored(&format!("{cut} bytes"), &image[..cut]);
+    }
+    for more in [1, 512] {
+        lent.restored(&format!("{more} bytes more"), &[&image[..], &vec![0; more]].concat());
+    }
+    let words: Vec<u64> = image.chunks(8).map(|eight| u64::from_le_bytes(eight.try_into().unwrap())).collect();
+    // a word changed, with the check as it was and with a right one
+    for at in [0, 1, 2, 3, 4, 62, 63, 64, 65, 66, 67, 69, 125, 126, 127, 128, 129, 130, 147, 148, 149, 190] {
+        for word in [words[at] ^ 1, words[at].wrapping_add(1 << 12), words[at].wrapping_add(1 << 32), words[at] - words[at] % 4096, words[at] | 1 << 41, 2, words[65], words[125]] {
+            let mut changed = words.clone();
+            changed[at] = word;
+            for right in [false, true] {
+                if right {
+                    let block = at / 64 * 64;
+                    changed[block + 63] = check_of(&changed[block..block + 64]);
+                }
+                let bytes: Vec<u8> = changed.iter().flat_map(|word| word.to_le_bytes()).collect();
+                lent.restored(&format!("word {at} {word:#x} {right}"), &bytes);
+            }
+        }
+    }
+    // more mappings than an image may have
+    for count in [1 << 20, (1 << 20) + 1, u64::MAX] {
+        let mut changed = words.clone();
+        changed[2] = count;
+        changed[63] = check_of(&changed[..64]);
+        let bytes: Vec<u8> = changed.iter().flat_map(|word| word.to_le_bytes()).collect();
+        lent.restored(&format!("count {count}"), &bytes);
+    }
+    for (levels, base, tables, other) in [(4, BASE, 6, granule), (3, 2 * GIB, 6, granule), (3, BASE, 2, granule), (2, BASE, 6, granule), (3, BASE, 6, PAGE), (3, BASE, 0, granule)] {
+        let mut other = Lent { setup: [levels, base, tables, 1, 0, 0, other], ..lent.clone() };
+        other.words.truncate((entries_with(granule) * tables) as usize);
+        other.list.truncate(tables as usize);
+        other.restored(&format!("into {levels} {base:#x} {tables}"), &image);
+    }
+    let two = Lent::format_two(&format!("image {granule} in two"), 3, BASE, 2, MORE, 4, granule, 2, 4);
+    two.restored("whole", &image);
 }
 
 // A history of calls, with damaged copies on the way.
@@ -939,6 +1045,9 @@ fn main() {
     ranges(PAGE);
     ranges(KIB16);
     planned();
+    blocks_of();
+    images(PAGE);
+    images(KIB16);
     histories();
     of_16_kib(9, 0);
     of_16_kib(3, 5);

@@ -212,19 +212,28 @@ fn other_pools() {
 fn records_that_are_refused() {
     let mut met = [0; 16];
     for granule in plain::GRANULES {
-        let (pool, image) = three_blocks(granule);
+        let (full, image) = three_blocks(granule);
+        // with no table more than the mappings need
+        let pool = Pool::blank(3, 0x4000_0000, full.setup.total() - full.setup.free, 0, 0, granule);
         let random = Random::new(granule);
         for _ in 0..20_000 {
             let mut words: Vec<u64> = image.chunks(8).map(|eight| u64::from_le_bytes(eight.try_into().unwrap())).collect();
             let at = random.pick(&[1, 2, 3, 64, 65, 66, 66, 67, 100, 125, 126, 128, 129, 130, 144, 145, 147]) as usize;
             let bit = 1u64 << random.below(64);
-            words[at] = match random.below(8) {
+            let large = u64::from(Shape::of(granule).size(2).trailing_zeros());
+            words[at] = match random.below(10) {
                 0 => random.number(),
                 1 => words[at].wrapping_add(granule),
                 2 => words[at].wrapping_sub(1),
                 3 => words[at] & !0xFFF | random.pick(&[12, 14, 21, 25, 30, 39, 63, 64, 4095]),
                 4 => 0,
                 5 => pool.setup.base | words[at] & 0xFFFF_0000_0000_0FFF,
+                6 => words[at].wrapping_add(1 << 37),
+                7 => {
+                    // the first page becomes a large frame, which the second page then meets
+                    (words[65], words[66]) = (large, words[66] - 2);
+                    words[at]
+                }
                 _ => words[at] ^ bit,
             };
             for block in words.chunks_mut(64) {
