@@ -575,6 +575,23 @@ pub extern "C" fn oak_save<'a>(
     saved(a, answer)
 }
 
+// Restore by setup numbers.
+fn restore_by(
+    s: Setup,
+    words: &mut [u64],
+    second: &mut [u64],
+    list: &mut [u32],
+    image: &[u8],
+    answer: &mut [u64; 8],
+) -> u64
+    ensures { λ r. ⌜ Left (restoreN (s .granule) (s .levels) (areaOf s) (now (words .entry) ++ now (second .entry)) (length (now (words .entry))) (now (list .entry)) (now (image .entry)))
+        restorePlaces r (now (answer .exit)) (now (words .exit)) (now (second .exit)) (now (list .exit)) ⌝ }
+{
+    let d = pagetable::restore(s, words, second, list, image);
+    let a = d.answer;
+    restored(a, d.setup, answer)
+}
+
 // Formats the pool and maps the records of an image in it, and answers the setup; with 12 also the number of the block that is bad.
 #[no_mangle]
 pub extern "C" fn oak_restore(
@@ -589,7 +606,8 @@ pub extern "C" fn oak_restore(
         (now (words .entry) ++ now (second .entry)) (length (now (words .entry))) (now (list .entry)) (now (image .entry)))
         restorePlaces r (now (answer .exit)) (now (words .exit)) (now (second .exit)) (now (list .exit)) ⌝ }
 {
-    let d = pagetable::restore(setup_at(s), words, second, list, image);
-    let a = d.answer;
-    restored(a, d.setup, answer)
+    if s[6] == path::KIB4 {
+        return restore_by(setup_of_four(s), words, second, list, image, answer);
+    }
+    restore_by(setup_at(s), words, second, list, image, answer)
 }

@@ -1,24 +1,23 @@
--- `oakabut::oak_restore` hands on what the call of `pagetable` answers. Assumes nothing.
-use mathlib.Core.Path.{ap, _∙_}
+-- `oakabut::oak_restore` is the call by setup numbers, of 4 KiB with that number written out. Assumes nothing.
+use mathlib.Core.Path.{ap}
 use mathlib.Core.List.{_++_}
 use lib.ListN.{length}
 use Rattle.path.specs.Areas.{areaOf}
 use Rattle.path.specs.declared.Setup.{Setup}
 use Rattle.image.specs.Images.{restoreN}
-use Rattle.oakabut.specs.Surface.{restorePlaces}
-use Rattle.oakabut.proofs.Hands.{leaves}
+use Rattle.oakabut.proofs.Hands.{stays}
 use borrow.Author.Needs.{needs}
 use Rattle.oakabut.proofs.oak_restore.Statement.{statement}
 use Rattle.oakabut.proofs.oak_restore.Tie as tie
 
-setup-at-requires : tie.Need-setup-at-requires
-setup-at-requires c κs = search needs
+element-copy-out-if1 : tie.Need-element-copy-out-if1
+element-copy-out-if1 c = search needs
 
-restore-requires : tie.Need-restore-requires
-restore-requires c κs = search needs
+setup-of-four-requires : tie.Need-setup-of-four-requires
+setup-of-four-requires c κs = search needs
 
-restored-requires : tie.Need-restored-requires
-restored-requires c κs = search needs
+restore-by-requires : tie.Need-restore-by-requires
+restore-by-requires c κs = search needs
 
 same-length : tie.Need-same-length
 same-length c = search needs
@@ -31,18 +30,43 @@ same-length-3 c = search needs
 
 returns : tie.Need-returns
 returns c =
-    let a = c .before .before .before .before .before .before .before .before .before .before .before .before .before .before .before .before .before .args in
-    let e = ap (λ (z : Setup). restoreN (z .granule) (z .levels) (areaOf z) (a .words .now ++ a .second .now) (length (a .words .now)) (a .list .now) (a .image .now)) (c .before .before .before .before .before .before .before .before .before .before .before .before .setup-at .ensures) in
-    leaves restorePlaces (c .before .before .before .before .before .before .before .before .restore .ensures .0 ∙ e) (c .restored .ensures)
+    let a = c .before .before .before .before .before .before .before .before .before .before .before .before .before .before .before .before .before .before .args in
+    stays (ap (λ (z : Setup). restoreN (z .granule) (z .levels) (areaOf z) (a .words .now ++ a .second .now) (length (a .words .now)) (a .list .now) (a .image .now)) (c .before .before .before .before .before .before .before .before .before .before .before .setup-of-four .ensures (c .before .before .before .before .before .before .before .before .before .before .before .before .if1 .taken))) (c .before .before .before .before .before .before .restore-by .ensures)
+
+setup-at-requires : tie.Need-setup-at-requires
+setup-at-requires c κs = search needs
+
+restore-by-requires-2 : tie.Need-restore-by-requires-2
+restore-by-requires-2 c κs = search needs
+
+same-length-4 : tie.Need-same-length-4
+same-length-4 c = search needs
+
+same-length-5 : tie.Need-same-length-5
+same-length-5 c = search needs
+
+same-length-6 : tie.Need-same-length-6
+same-length-6 c = search needs
+
+returns-2 : tie.Need-returns-2
+returns-2 c =
+    let a = c .before .before .before .before .before .before .before .before .before .before .before .before .before .before .before .before .before .before .args in
+    stays (ap (λ (z : Setup). restoreN (z .granule) (z .levels) (areaOf z) (a .words .now ++ a .second .now) (length (a .words .now)) (a .list .now) (a .image .now)) (c .before .before .before .before .before .before .before .before .before .before .before .setup-at .ensures)) (c .before .before .before .before .before .before .restore-by2 .ensures)
 
 pub oak-restore-spec : {M : Type 1} → statement M
 oak-restore-spec =
     tie.close
     (tie.spec
-    setup-at-requires
-    restore-requires
-    restored-requires
+    element-copy-out-if1
+    setup-of-four-requires
+    restore-by-requires
     same-length
     same-length-2
     same-length-3
-    returns)
+    returns
+    setup-at-requires
+    restore-by-requires-2
+    same-length-4
+    same-length-5
+    same-length-6
+    returns-2)
