@@ -69,6 +69,10 @@ enum Work {
     Format,
     /// From a start on, into runs of so many places.
     List(u64, usize),
+    /// All mappings as an image.
+    Save,
+    /// From an image of all mappings.
+    Restore,
 }
 
 impl Case {
@@ -86,6 +90,10 @@ impl Case {
         if let Work::List(_, room) = self.work {
             pool.runs = [vec![0; room], vec![0; room]];
         }
+        if let Work::Save | Work::Restore = self.work {
+            pool.image = vec![0; 512 * (1 + (self.mappings.len() + 30) / 31)];
+            pool.save(&mut Kept::default());
+        }
         pool
     }
 
@@ -94,7 +102,7 @@ impl Case {
         self.rounds
             * match &self.work {
                 Work::Query(addresses) | Work::MapUnmap(addresses) => addresses.len(),
-                Work::Audit | Work::Format | Work::List(..) => 1,
+                Work::Audit | Work::Format | Work::List(..) | Work::Save | Work::Restore => 1,
             }
     }
 
@@ -114,6 +122,8 @@ impl Case {
                 Work::Audit => pool.audit(note),
                 Work::Format => pool.format(levels, granule, self.tables, self.second_tables, note),
                 Work::List(start, _) => pool.list(*start, note),
+                Work::Save => pool.save(note),
+                Work::Restore => pool.restore(note),
             }
         }
     }
@@ -164,6 +174,13 @@ pub fn all(smoke: bool) -> Vec<Case> {
         list("16 from the middle", 16, 3584, 16, share(400)),
         list("all", 16, 0, 7168, share(100)),
     ]);
+    for (what, work) in [("save", [Work::Save, Work::Save]), ("restore", [Work::Restore, Work::Restore])] {
+        for (work, (tables, rounds)) in work.into_iter().zip([(512, 8), (16, 100)]) {
+            let pages = (tables - 2) * THREE.entries();
+            let name = format!("{what}, {pages} pages in {tables} tables");
+            cases.push(Case { name, work, ..audit_of("", THREE, tables, 1, share(rounds)) });
+        }
+    }
     cases.extend([format(16, share(2000)), format(64, share(500)), format(512, share(80))]);
     cases.push(Case::new("format, 16 tables of 16 KiB".to_string(), LARGE, 16, vec![], Work::Format, share(500)));
     cases
