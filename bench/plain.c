@@ -869,3 +869,163 @@ uint64_t plain_unmap_range(const oak_setup *s, uint64_t *words, size_t words_len
     answer->setup.free += c.given;
     return 0;
 }
+
+/* ---- save and restore */
+
+enum { BLOCK_BYTES = 512, BLOCK_WORDS = 64, BLOCK_RECORDS = 31 };
+
+static uint64_t check_of(const uint64_t *block) {
+    uint64_t sum = 0;
+    for (uint64_t i = 0; i < BLOCK_WORDS - 1; i++) sum += (2 * i + 1) * block[i];
+    return sum;
+}
+
+static uint64_t granule_word(uint64_t granule) { return granule == OAK_16_KIB ? granule : 0; }
+
+typedef struct {
+    const oak_setup *s;
+    runs r;
+    uint8_t *at;
+    uint64_t block[BLOCK_WORDS], number, records, mappings;
+} saving;
+
+static void put_block(saving *w) {
+    w->block[BLOCK_WORDS - 1] = check_of(w->block);
+    for (size_t i = 0; i < BLOCK_WORDS; i++)
+        for (size_t j = 0; j < 8; j++) w->at[8 * i + j] = (uint8_t)(w->block[i] >> (8 * j));
+    w->at += BLOCK_BYTES;
+    memset(w->block, 0, sizeof w->block);
+}
+
+static void put_records(saving *w) {
+    w->block[0] = w->number++ + (w->records << 32);
+    put_block(w);
+    w->records = 0;
+}
+
+static inline void put_record(saving *w, uint64_t place, uint64_t word) {
+    w->block[1 + 2 * w->records] = place;
+    w->block[2 + 2 * w->records++] = word;
+    if (w->records == BLOCK_RECORDS) put_records(w);
+}
+
+ALWAYS_INLINE void save_pages(unsigned bits, saving *w, const uint64_t *table, uint64_t first, bool counts) {
+    for (size_t i = 0; i < entries_of(bits); i++) {
+        if (counts)
+            w->mappings += table[i] != 0;
+        else if (table[i] != 0)
+            put_record(w, first + (i << bits) + bits, table[i]);
+    }
+}
+
+/* Counts the mappings of a table of a sound tree, or writes their records. */
+static void save_table(unsigned bits, saving *w, size_t table, unsigned left, uint64_t first, bool counts) {
+    const uint64_t *t = table_at(bits, w->r, table);
+    unsigned shift = shift_of(bits, left);
+    if (left == 1) {
+        if (counts)
+            bits == FOUR ? save_pages(FOUR, w, t, first, true) : save_pages(SIXTEEN, w, t, first, true);
+        else
+            bits == FOUR ? save_pages(FOUR, w, t, first, false) : save_pages(SIXTEEN, w, t, first, false);
+        return;
+    }
+    for (size_t i = 0; i < entries_of(bits); i++) {
+        if (t[i] == 0) continue;
+        uint64_t child = child_in(bits, w->s, t[i]), base = first + ((uint64_t)i << shift);
+        if (child != 0)
+            save_table(bits, w, child, left - 1, base, counts);
+        else if (counts)
+            w->mappings++;
+        else
+            put_record(w, base + shift, t[i]);
+    }
+}
+
+uint64_t plain_save(const oak_setup *s, const uint64_t *words, size_t words_len, const uint64_t *second, size_t second_len,
+                    const uint32_t *list, size_t list_len, uint8_t *image, size_t image_len, oak_saved *answer) {
+    (void)list;
+    answer->blocks = 0;
+    if (!OF_GRANULE(s->granule, good, s, words_len, second_len, list_len)) return OAK_REFUSED_SETUP;
+    unsigned bits = s->granule == OAK_16_KIB ? SIXTEEN : FOUR;
+    audit a = {.s = s, .r = runs_of(words, words_len, second)};
+    if (!look(bits, &a, 0, (unsigned)s->levels, 0, 0)) return OAK_REFUSED_DAMAGED;
+    saving w = {.s = s, .r = a.r, .at = image};
+    save_table(bits, &w, 0, (unsigned)s->levels, 0, true);
+    answer->blocks = 1 + (w.mappings + BLOCK_RECORDS - 1) / BLOCK_RECORDS;
+    if (image_len < BLOCK_BYTES * answer->blocks) return OAK_REFUSED_IMAGE;
+    w.block[1] = s->levels, w.block[2] = w.mappings, w.block[3] = granule_word(s->granule);
+    put_block(&w);
+    w.number = 1;
+    save_table(bits, &w, 0, (unsigned)s->levels, 0, false);
+    if (w.records > 0) put_records(&w);
+    return 0;
+}
+
+/* The words of the block at the start of so many bytes; false where it is not whole or its check is wrong. */
+static bool get_block(const uint8_t *at, size_t length, uint64_t *block) {
+    if (length < BLOCK_BYTES) return false;
+    for (size_t i = 0; i < BLOCK_WORDS; i++) {
+        block[i] = 0;
+        for (size_t j = 0; j < 8; j++) block[i] |= (uint64_t)at[8 * i + j] << (8 * j);
+    }
+    return block[BLOCK_WORDS - 1] == check_of(block);
+}
+
+static bool all_zero(const uint64_t *block, size_t from) {
+    uint64_t any = 0;
+    for (size_t i = from; i < BLOCK_WORDS - 1; i++) any |= block[i];
+    return any == 0;
+}
+
+/* Maps an image's records; 0 or a refusal, and with 12 the block. */
+static uint64_t map_image(uint64_t *words, size_t words_len, uint64_t *second, size_t second_len, const uint32_t *list, size_t list_len,
+                          const uint8_t *image, size_t length, oak_restored *r) {
+    uint64_t block[BLOCK_WORDS], least = 0;
+    oak_mapped m = {.setup = r->setup};
+    r->block = 0;
+    if (!get_block(image, length, block) || block[0] != 0 || block[1] != r->setup.levels || block[2] > UINT64_C(1) << 20 ||
+        block[3] != granule_word(r->setup.granule) || !all_zero(block, 4))
+        return OAK_REFUSED_IMAGE;
+    uint64_t left = block[2], k = 1;
+    for (; left > 0; k++) {
+        uint64_t count = left < BLOCK_RECORDS ? left : BLOCK_RECORDS;
+        r->block = k;
+        image += BLOCK_BYTES, length -= BLOCK_BYTES;
+        if (!get_block(image, length, block) || block[0] != k + (count << 32) || !all_zero(block, 1 + 2 * count)) return OAK_REFUSED_IMAGE;
+        for (uint64_t i = 0; i < count; i++) {
+            uint64_t base = OAK_PLACE_BASE(block[1 + 2 * i]);
+            if (base < least) return OAK_REFUSED_IMAGE;
+            least = base + 1;
+        }
+        r->block = 0;
+        for (uint64_t i = 0; i < count; i++) {
+            uint64_t place = block[1 + 2 * i], power = place & 0xFFF, size = power < 64 ? UINT64_C(1) << power : 0;
+            bool sized = r->setup.granule == OAK_16_KIB ? size == OAK_16_KIB || size == OAK_32_MIB
+                                                        : size == OAK_4_KIB || size == OAK_2_MIB || size == OAK_1_GIB;
+            if (!sized) return OAK_REFUSED_SIZE;
+            uint64_t meaning = plain_word_meaning(block[2 + 2 * i], size);
+            if (meaning < OAK_REFUSALS) return OAK_REFUSED_DAMAGED;
+            oak_setup s = m.setup;
+            uint64_t number = plain_map(&s, words, words_len, second, second_len, list, list_len, OAK_PLACE_BASE(place),
+                                        OAK_MEANING_BASE(meaning), size, OAK_MEANING_ATTRIBUTES(meaning), &m);
+            if (number != 0) return number;
+        }
+        left -= count;
+    }
+    r->block = length == BLOCK_BYTES ? 0 : k;
+    r->setup = m.setup;
+    return r->block == 0 ? 0 : OAK_REFUSED_IMAGE;
+}
+
+uint64_t plain_restore(const oak_setup *s, uint64_t *words, size_t words_len, uint64_t *second, size_t second_len, uint32_t *list,
+                       size_t list_len, const uint8_t *image, size_t image_len, oak_restored *answer) {
+    answer->block = 0;
+    uint64_t number = plain_format(s->levels, s->base, s->tables, s->second_base, s->second_tables, s->granule, words, words_len, second,
+                                   second_len, list, list_len, &answer->setup);
+    if (number != 0) return number;
+    number = map_image(words, words_len, second, second_len, list, list_len, image, image_len, answer);
+    if (number != 0)
+        plain_format(s->levels, s->base, s->tables, s->second_base, s->second_tables, s->granule, words, words_len, second, second_len, list,
+                     list_len, &answer->setup);
+    return number;
+}

@@ -41,4 +41,10 @@ uint64_t plain_list(const oak_setup *s, const uint64_t *words, size_t words_len,
                     const uint32_t *list, size_t list_len, uint64_t start, uint64_t *places, size_t places_len, uint64_t *entries,
                     size_t entries_len, oak_listed *answer);
 
+uint64_t plain_save(const oak_setup *s, const uint64_t *words, size_t words_len, const uint64_t *second, size_t second_len,
+                    const uint32_t *list, size_t list_len, uint8_t *image, size_t image_len, oak_saved *answer);
+
+uint64_t plain_restore(const oak_setup *s, uint64_t *words, size_t words_len, uint64_t *second, size_t second_len, uint32_t *list,
+                       size_t list_len, const uint8_t *image, size_t image_len, oak_restored *answer);
+
 #endif

@@ -71,6 +71,10 @@ enum Work {
     List(u64, usize),
     /// A range is mapped and unmapped, each in one call or page by page.
     Range(Range),
+    /// All mappings as an image.
+    Save,
+    /// From an image of all mappings.
+    Restore,
 }
 
 #[derive(Clone, Copy)]
@@ -97,6 +101,10 @@ impl Case {
         if let Work::List(_, room) = self.work {
             pool.runs = [vec![0; room], vec![0; room]];
         }
+        if let Work::Save | Work::Restore = self.work {
+            pool.image = vec![0; 512 * (1 + (self.mappings.len() + 30) / 31)];
+            pool.save(&mut Kept::default());
+        }
         pool
     }
 
@@ -105,7 +113,7 @@ impl Case {
         self.rounds
             * match &self.work {
                 Work::Query(addresses) | Work::MapUnmap(addresses) => addresses.len(),
-                Work::Audit | Work::Format | Work::List(..) | Work::Range(_) => 1,
+                Work::Audit | Work::Format | Work::List(..) | Work::Range(_) | Work::Save | Work::Restore => 1,
             }
     }
 
@@ -126,6 +134,8 @@ impl Case {
                 Work::Format => pool.format(levels, granule, self.tables, self.second_tables, note),
                 Work::List(start, _) => pool.list(*start, note),
                 Work::Range(range) => self.run_range(*range, pool, note),
+                Work::Save => pool.save(note),
+                Work::Restore => pool.restore(note),
             }
         }
     }
@@ -210,6 +220,13 @@ pub fn all(smoke: bool) -> Vec<Case> {
         range("640 MiB in 20 pieces", LARGE, 640 << 20, 0, [true, true], share(400)),
         range("160 MiB in 10,240 pieces", LARGE, 160 << 20, 16384, [true, true], share(40)),
     ]);
+    for (what, work) in [("save", [Work::Save, Work::Save]), ("restore", [Work::Restore, Work::Restore])] {
+        for (work, (tables, rounds)) in work.into_iter().zip([(512, 8), (16, 100)]) {
+            let pages = (tables - 2) * THREE.entries();
+            let name = format!("{what}, {pages} pages in {tables} tables");
+            cases.push(Case { name, work, ..audit_of("", THREE, tables, 1, share(rounds)) });
+        }
+    }
     cases.extend([format(16, share(2000)), format(64, share(500)), format(512, share(80))]);
     cases.push(Case::new("format, 16 tables of 16 KiB".to_string(), LARGE, 16, vec![], Work::Format, share(500)));
     cases

@@ -3,7 +3,7 @@
 
 use std::slice::{from_raw_parts, from_raw_parts_mut};
 
-use oakabut::raw::{Found, Listed, Mapped, Removed, Unmapped};
+use oakabut::raw::{Found, Listed, Mapped, Removed, Restored, Saved, Unmapped};
 use oakabut::{Audit, Hole, Mapping, Setup};
 use plain::Refusal;
 
@@ -182,4 +182,33 @@ pub unsafe extern "C" fn list(
     let listed = plain::list(to_plain(&*setup), words, second, list, start, places, entries)
         .map(|plain::Listed { written, next }| Listed { written, more: u64::from(next.is_some()), next: next.unwrap_or(0) });
     hand_over(listed, |_| Listed { written: 0, more: 0, next: 0 }, answer)
+}
+
+/// # Safety
+/// As for `oak_save`.
+#[inline(never)]
+pub unsafe extern "C" fn save(
+    setup: *const Setup, words: *const u64, words_len: usize, second: *const u64, second_len: usize, list: *const u32,
+    list_len: usize, image: *mut u8, image_len: usize, answer: *mut Saved,
+) -> u64 {
+    let (words, second) = (from_raw_parts(words, words_len), from_raw_parts(second, second_len));
+    let (list, image) = (from_raw_parts(list, list_len), from_raw_parts_mut(image, image_len));
+    let result = plain::save(to_plain(&*setup), words, second, list, image);
+    *answer = Saved { blocks: result.unwrap_or_else(|refusal| refusal.block().unwrap_or(0)) };
+    result.map_or_else(|refusal| refusal.number(), |_| 0)
+}
+
+/// # Safety
+/// As for `oak_restore`.
+#[inline(never)]
+pub unsafe extern "C" fn restore(
+    setup: *const Setup, words: *mut u64, words_len: usize, second: *mut u64, second_len: usize, list: *mut u32, list_len: usize,
+    image: *const u8, image_len: usize, answer: *mut Restored,
+) -> u64 {
+    let (words, second) = (from_raw_parts_mut(words, words_len), from_raw_parts_mut(second, second_len));
+    let (list, image) = (from_raw_parts_mut(list, list_len), from_raw_parts(image, image_len));
+    let (setup, result) = plain::restore(to_plain(&*setup), words, second, list, image);
+    let block = result.err().and_then(plain::Refusal::block).unwrap_or(0);
+    *answer = Restored { setup: from_plain(setup), block };
+    result.map_or_else(|refusal| refusal.number(), |()| 0)
 }

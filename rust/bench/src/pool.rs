@@ -5,7 +5,9 @@ use std::slice::from_raw_parts_mut;
 
 use oakabut::Setup;
 
-use crate::sides::{numbers, Side, NOT_AUDITED, NOT_FOUND, NOT_LISTED, NOT_MAPPED, NOT_REMOVED, NOT_UNMAPPED, NO_SETUP};
+use crate::sides::{
+    numbers, Side, NOT_AUDITED, NOT_FOUND, NOT_LISTED, NOT_MAPPED, NOT_REMOVED, NOT_RESTORED, NOT_SAVED, NOT_UNMAPPED, NO_SETUP,
+};
 
 /// The address of table 0, and of the second region.
 const BASE: u64 = 0x4000_0000;
@@ -71,6 +73,8 @@ pub struct Pool {
     pub list: Vec<u32>,
     /// The two runs of a list.
     pub runs: [Vec<u64>; 2],
+    /// An image.
+    pub image: Vec<u8>,
 }
 
 impl Pool {
@@ -79,7 +83,8 @@ impl Pool {
         let room = |tables: u64| Words::new((granule / 8 * tables) as usize);
         let list = vec![0; (tables + second_tables) as usize];
         let runs = [vec![], vec![]];
-        let mut pool = Pool { side, setup: NO_SETUP, tables: room(tables), second: room(second_tables), list, runs };
+        let mut pool =
+            Pool { side, setup: NO_SETUP, tables: room(tables), second: room(second_tables), list, runs, image: vec![] };
         pool.format(levels, granule, tables, second_tables, &mut Timed);
         pool
     }
@@ -164,6 +169,27 @@ impl Pool {
         let (pp, pl, ep, el) = (places.as_mut_ptr(), places.len(), entries.as_mut_ptr(), entries.len());
         let mut answer = NOT_LISTED;
         let refusal = unsafe { (self.side.list)(&self.setup, wp, wl, vp, vl, lp, ll, start, pp, pl, ep, el, &mut answer) };
+        note.note(refusal, numbers(&answer));
+    }
+
+    #[inline(always)]
+    pub fn save(&mut self, note: &mut impl Note) {
+        let (w, v, l) = (self.tables.all(), self.second.all(), &self.list);
+        let (wp, wl, vp, vl, lp, ll) = (w.as_ptr(), w.len(), v.as_ptr(), v.len(), l.as_ptr(), l.len());
+        let (ip, il) = (self.image.as_mut_ptr(), self.image.len());
+        let mut answer = NOT_SAVED;
+        let refusal = unsafe { (self.side.save)(&self.setup, wp, wl, vp, vl, lp, ll, ip, il, &mut answer) };
+        note.note(refusal, numbers(&answer));
+    }
+
+    #[inline(always)]
+    pub fn restore(&mut self, note: &mut impl Note) {
+        let (w, v, l) = (self.tables.all(), self.second.all(), &mut self.list);
+        let (wp, wl, vp, vl, lp, ll) = (w.as_mut_ptr(), w.len(), v.as_mut_ptr(), v.len(), l.as_mut_ptr(), l.len());
+        let (ip, il) = (self.image.as_ptr(), self.image.len());
+        let mut answer = NOT_RESTORED;
+        let refusal = unsafe { (self.side.restore)(&self.setup, wp, wl, vp, vl, lp, ll, ip, il, &mut answer) };
+        self.setup = answer.setup;
         note.note(refusal, numbers(&answer));
     }
 }

@@ -4,7 +4,7 @@ use std::mem::size_of;
 use std::slice::from_raw_parts;
 
 use judge::{numbers as of_setup, Answer, Call, Engine, Lent};
-use oakabut::raw::{self, Found, Listed, Mapped, Removed, Unmapped};
+use oakabut::raw::{self, Found, Listed, Mapped, Removed, Restored, Saved, Unmapped};
 use oakabut::{Audit, Hole, Mapping, Setup};
 
 type FrameWord = unsafe extern "C" fn(u64, u64, u64) -> u64;
@@ -48,6 +48,21 @@ type List = unsafe extern "C" fn(
     *mut Listed,
 ) -> u64;
 
+type Save = unsafe extern "C" fn(
+    *const Setup,
+    *const u64,
+    usize,
+    *const u64,
+    usize,
+    *const u32,
+    usize,
+    *mut u8,
+    usize,
+    *mut Saved,
+) -> u64;
+type Restore =
+    unsafe extern "C" fn(*const Setup, *mut u64, usize, *mut u64, usize, *mut u32, usize, *const u8, usize, *mut Restored) -> u64;
+
 /// The functions of one side. They are called through these pointers, so that no side is inlined into the measuring.
 #[derive(Clone, Copy)]
 pub struct Side {
@@ -63,6 +78,8 @@ pub struct Side {
     pub audit: AuditCall,
     pub add: Add,
     pub list: List,
+    pub save: Save,
+    pub restore: Restore,
 }
 
 /// bench/plain.h
@@ -109,6 +126,14 @@ mod c {
             list_len: usize, start: u64, places: *mut u64, places_len: usize, entries: *mut u64, entries_len: usize,
             answer: *mut Listed,
         ) -> u64;
+        pub fn plain_save(
+            s: *const Setup, words: *const u64, words_len: usize, second: *const u64, second_len: usize, list: *const u32,
+            list_len: usize, image: *mut u8, image_len: usize, answer: *mut Saved,
+        ) -> u64;
+        pub fn plain_restore(
+            s: *const Setup, words: *mut u64, words_len: usize, second: *mut u64, second_len: usize, list: *mut u32,
+            list_len: usize, image: *const u8, image_len: usize, answer: *mut Restored,
+        ) -> u64;
     }
 }
 
@@ -127,6 +152,8 @@ pub const SIDES: [Side; 3] = [
         audit: raw::oak_audit,
         add: raw::oak_add,
         list: raw::oak_list,
+        save: raw::oak_save,
+        restore: raw::oak_restore,
     },
     Side {
         name: "plain Rust",
@@ -141,6 +168,8 @@ pub const SIDES: [Side; 3] = [
         audit: bench::audit,
         add: bench::add,
         list: bench::list,
+        save: bench::save,
+        restore: bench::restore,
     },
     Side {
         name: "plain C",
@@ -155,6 +184,8 @@ pub const SIDES: [Side; 3] = [
         audit: c::plain_audit,
         add: c::plain_add,
         list: c::plain_list,
+        save: c::plain_save,
+        restore: c::plain_restore,
     },
 ];
 
@@ -165,6 +196,8 @@ pub const NOT_UNMAPPED: Unmapped = Unmapped { setup: NO_SETUP, frame: 0, size: 0
 pub const NOT_REMOVED: Removed = Removed { setup: NO_SETUP, removed: 0, given: 0 };
 pub const NOT_FOUND: Found = Found { mapping: Mapping { base: 0, frame: 0, size: 0, attributes: 0 }, hole: NO_HOLE };
 pub const NOT_AUDITED: Audit = Audit { tables: 0, mappings: 0 };
+pub const NOT_SAVED: Saved = Saved { blocks: 0 };
+pub const NOT_RESTORED: Restored = Restored { setup: NO_SETUP, block: 0 };
 pub const NOT_LISTED: Listed = Listed { written: 0, more: 0, next: 0 };
 
 /// The numbers of an answer of the C surface, which is a run of 64-bit numbers without a gap.
