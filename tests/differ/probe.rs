@@ -316,11 +316,6 @@ fn pools() {
         let mut w = words.clone();
         let r = tried(|| pool::clear(&mut w));
         told(&format!("pool::clear {n}"), r, &w, &[]);
-        for (start, count) in [(0, 0), (0, 1), (0, n), (1, 1), (1, 2), (n, 0), (n, 1), (2, n), (usize::MAX, 1), (1, usize::MAX)] {
-            let mut w = words.clone();
-            let r = tried(|| pool::wipe_from(&mut w, start, count));
-            told(&format!("pool::wipe_from {n} {start} {count}"), r, &w, &[]);
-        }
     }
     for (granule, k) in [(PAGE, 512), (KIB16, 2048)] {
         tables(granule, k);

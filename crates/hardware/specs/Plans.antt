@@ -8,10 +8,10 @@ use native.Mathlib.Omega.{arith}
 use native.Mathlib.Decide.{ℕ-discrete, decLt}
 use lib.Dec.{ltb}
 use lib.ListN.{length, getD, set, take, drop, replicate, length-set, take-append-drop}
-use lib.Seq.{ext-getD, set-out, getD-set-same, getD-set-other, take-suc-set, take-all, drop-set-lt}
+use lib.Seq.{set-out, getD-set-same, getD-set-other, take-suc-set, take-all, drop-set-lt}
 use borrow.Author.Tests.{ltb-true}
 use Rattle.laws.specs.Lists.{zeroed, down, among}
-use Rattle.laws.specs.ListLaws.{length-zeroed, getD-zeroed, getD-zeroed-before, getD-zeroed-after, getD-past, down-suc}
+use Rattle.laws.specs.ListLaws.{zeroed-more, zeroed-zero, getD-past, down-suc}
 use Rattle.path.specs.Geometry.{Granule, entries}
 use Rattle.path.specs.Areas.{Area, areaOf, total, tableAt, GoodArea}
 use Rattle.model.specs.Walk.{slot}
@@ -58,40 +58,6 @@ visible-take (suc j) [] = refl
 visible-take (suc j) (w ∷ ws) = ap {B = List Write} (λ (l : List Write). w ∷ l) (visible-take j ws)
 
 -- ---- words
-
--- one word after another to 0
-zeroed-more : (ws : List ℕ) (i k : ℕ) → i + suc k ≤ length ws → zeroed (set ws i 0) (suc i) k ≡ zeroed ws i (suc k)
-zeroed-more ws i k l = ext-getD 0 _ _ long (λ j _. at j (decLt j i) (ℕ-discrete j i) (decLt j (i + suc k)))
-  where
-    long : length (zeroed (set ws i 0) (suc i) k) ≡ length (zeroed ws i (suc k))
-    long = length-zeroed (set ws i 0) (suc i) k ∙ length-set ws i 0 ∙ sym (length-zeroed ws i (suc k))
-
-    in-set : suc i + k ≤ length (set ws i 0)
-    in-set = omega (arith, length-set ws i 0)
-
-    at : (j : ℕ) → Dec (j < i) → Dec (j ≡ i) → Dec (j < i + suc k) → getD (zeroed (set ws i 0) (suc i) k) j 0 ≡ getD (zeroed ws i (suc k)) j 0
-    at j (yes a) b c =
-        getD-zeroed-before (set ws i 0) (suc i) k j (omega arith)
-        ∙ getD-set-other ws i j 0 0 (λ e. omega arith)
-        ∙ sym (getD-zeroed-before ws i (suc k) j a)
-    at j (no a) (yes b) c =
-        getD-zeroed-before (set ws i 0) (suc i) k j (omega arith)
-        ∙ ap (λ (x : ℕ). getD (set ws i 0) x 0) b
-        ∙ getD-set-same ws i 0 0 (omega arith)
-        ∙ sym (getD-zeroed ws i (suc k) l j (omega arith) (omega arith))
-    at j (no a) (no b) (yes c) =
-        getD-zeroed (set ws i 0) (suc i) k in-set j (omega arith) (omega arith) ∙ sym (getD-zeroed ws i (suc k) l j (omega arith) c)
-    at j (no a) (no b) (no c) =
-        getD-zeroed-after (set ws i 0) (suc i) k j (omega arith)
-        ∙ getD-set-other ws i j 0 0 b
-        ∙ sym (getD-zeroed-after ws i (suc k) j (omega arith))
-
-zeroed-none : (ws : List ℕ) (i : ℕ) → zeroed ws i 0 ≡ ws
-zeroed-none ws i = ext-getD 0 _ _ (length-zeroed ws i 0) (λ j _. at j (decLt j i))
-  where
-    at : (j : ℕ) → Dec (j < i) → getD (zeroed ws i 0) j 0 ≡ getD ws j 0
-    at j (yes a) = getD-zeroed-before ws i 0 j a
-    at j (no a) = getD-zeroed-after ws i 0 j (omega arith)
 
 -- what stands at a place after a word is written
 set-cases : (ws : List ℕ) (i x j : ℕ) → ((j ≡ i) × (getD (set ws i x) j 0 ≡ x)) ⊎ (getD (set ws i x) j 0 ≡ getD ws j 0)
@@ -165,7 +131,7 @@ places-beyond c n (suc k) i = (tt, places-beyond c n k (suc i))
 module _ (G : Granule) where
   pub zeros-carried : (k i : ℕ) (ws l : List ℕ) → i + k ≤ length ws → performAll G (zerosFrom i k) (memory ws l) ≡ memory (zeroed ws i k) l
   unfolding performAll zerosFrom
-  zeros-carried zero i ws l b = ap (λ (x : List ℕ). memory x l) (sym (zeroed-none ws i))
+  zeros-carried zero i ws l b = ap (λ (x : List ℕ). memory x l) (sym (zeroed-zero ws i))
   zeros-carried (suc k) i ws l b =
       zeros-carried k (suc i) (set ws i 0) l (omega (arith, length-set ws i 0)) ∙ ap (λ (x : List ℕ). memory x l) (zeroed-more ws i k b)
 

@@ -10,8 +10,8 @@ use native.Mathlib.Decide.{decLe, decLt, ℕ-discrete}
 use native.Mathlib.Omega.{arith}
 use borrow.Author.Tests.{eqb-true, eqb-false, eq-eqb, ne-eqb, le-leb, lt-leb, not-true}
 use lib.Dec.{eqb}
-use lib.ListN.{length, take, drop, getD, set, replicate, length-append, length-take, length-drop, length-replicate, getD-replicate, drop-of-length-le, List·getD-append, List·getD-eq-default}
-use lib.Seq.{length-take-le, take-all, take-at, drop-at, take-nil, drop-cons, take-append-le, drop-append-le, take-take, drop-drop, set-split, set-out, getD-take, getD-drop, getD-append-add, drop-set-add, drop-set-lt, take-set-lt, take-set-le}
+use lib.ListN.{length, take, drop, getD, set, replicate, length-append, length-set, length-take, length-drop, length-replicate, getD-replicate, drop-of-length-le, List·getD-append, List·getD-eq-default}
+use lib.Seq.{ext-getD, getD-set-same, getD-set-other, set-getD, length-take-le, take-all, take-at, drop-at, take-nil, drop-cons, take-append-le, drop-append-le, take-take, drop-drop, set-split, set-out, getD-take, getD-drop, getD-append-add, drop-set-add, drop-set-lt, take-set-lt, take-set-le}
 use Rattle.laws.specs.Lists.{part, zeroed, allZero, among, distinct, down}
 
 -- ---- parts
@@ -515,3 +515,45 @@ zeroed-later (y ∷ a) b zero k l = absurd (omega arith)
 zeroed-later (y ∷ a) b (suc at) k l =
     zeroed-cons y (a ++ b) at k
     ∙ ap (λ (c : List ℕ). y ∷ c) (zeroed-later a b at k (omega arith) ∙ ap (λ (j : ℕ). a ++ zeroed b j k) (sym (suc-sub-suc at (length a))))
+
+-- ---- zeros, one word after the other
+
+-- one word after another to 0
+pub zeroed-more : (ws : List ℕ) (i k : ℕ) → i + suc k ≤ length ws → zeroed (set ws i 0) (suc i) k ≡ zeroed ws i (suc k)
+zeroed-more ws i k l = ext-getD 0 _ _ long (λ j _. at j (decLt j i) (ℕ-discrete j i) (decLt j (i + suc k)))
+  where
+    long : length (zeroed (set ws i 0) (suc i) k) ≡ length (zeroed ws i (suc k))
+    long = length-zeroed (set ws i 0) (suc i) k ∙ length-set ws i 0 ∙ sym (length-zeroed ws i (suc k))
+
+    in-set : suc i + k ≤ length (set ws i 0)
+    in-set = omega (arith, length-set ws i 0)
+
+    at : (j : ℕ) → Dec (j < i) → Dec (j ≡ i) → Dec (j < i + suc k) → getD (zeroed (set ws i 0) (suc i) k) j 0 ≡ getD (zeroed ws i (suc k)) j 0
+    at j (yes a) b c =
+        getD-zeroed-before (set ws i 0) (suc i) k j (omega arith)
+        ∙ getD-set-other ws i j 0 0 (λ e. omega arith)
+        ∙ sym (getD-zeroed-before ws i (suc k) j a)
+    at j (no a) (yes b) c =
+        getD-zeroed-before (set ws i 0) (suc i) k j (omega arith)
+        ∙ ap (λ (x : ℕ). getD (set ws i 0) x 0) b
+        ∙ getD-set-same ws i 0 0 (omega arith)
+        ∙ sym (getD-zeroed ws i (suc k) l j (omega arith) (omega arith))
+    at j (no a) (no b) (yes c) =
+        getD-zeroed (set ws i 0) (suc i) k in-set j (omega arith) (omega arith) ∙ sym (getD-zeroed ws i (suc k) l j (omega arith) c)
+    at j (no a) (no b) (no c) =
+        getD-zeroed-after (set ws i 0) (suc i) k j (omega arith)
+        ∙ getD-set-other ws i j 0 0 b
+        ∙ sym (getD-zeroed-after ws i (suc k) j (omega arith))
+
+pub zeroed-zero : (ws : List ℕ) (i : ℕ) → zeroed ws i 0 ≡ ws
+zeroed-zero ws i = ext-getD 0 _ _ (length-zeroed ws i 0) (λ j _. at j (decLt j i))
+  where
+    at : (j : ℕ) → Dec (j < i) → getD (zeroed ws i 0) j 0 ≡ getD ws j 0
+    at j (yes a) = getD-zeroed-before ws i 0 j a
+    at j (no a) = getD-zeroed-after ws i 0 j (omega arith)
+
+-- a word that is 0 need not be written
+pub zeroed-kept : (ws : List ℕ) (i k : ℕ) → i + suc k ≤ length ws → getD ws i 0 ≡ 0 → zeroed ws (suc i) k ≡ zeroed ws i (suc k)
+zeroed-kept ws i k l e =
+    let kept : set ws i 0 ≡ ws = ap (λ (x : ℕ). set ws i x) (sym e) ∙ set-getD ws i 0 in
+    ap (λ (x : List ℕ). zeroed x (suc i) k) (sym kept) ∙ zeroed-more ws i k l

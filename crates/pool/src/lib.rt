@@ -70,7 +70,7 @@ pub fn clear(words: &mut [u64])
 }
 
 // So many words from a place of one run on become 0, where there are so many.
-pub fn wipe_from(words: &mut [u64], start: usize, count: usize)
+fn wipe_from(words: &mut [u64], start: usize, count: usize)
     ensures { λ _. ⌜ now (words .exit) ≡ zeroed (now (words .entry)) start count ⌝ }
 {
     let n = words.len();

@@ -2,12 +2,12 @@
 use Prim.Native.Nat.{ℕ, zero, suc, _+_, _-_, _*_, _/_, _%_, _≤_, _<_}
 use mathlib.Core.Path.{_≡_, refl, ap, sym, _∙_, subst}
 use mathlib.Core.Logic.{_≢_}
-use mathlib.Core.Bool.{cond}
+use mathlib.Core.Bool.{Bool, true, false, cond}
 use mathlib.Core.List.{List, [], _∷_}
 use native.Mathlib.Omega.{arith}
 use native.Mathlib.Numerals.{add-one}
 use lib.Dec.{eqb}
-use lib.ListN.{length, getD, set, drop, drop-of-length-le}
+use lib.ListN.{length, getD, set, drop, length-drop, drop-of-length-le}
 use lib.Seq.{drop-cons}
 use borrow.Author.Tests.{eq-eqb, ne-eqb}
 use Rattle.entry.specs.declared.Entry.{Entry}
@@ -57,6 +57,18 @@ use-more l i m n = ap inUse (drop-cons l i 0 m) ∙ rw (ne-eqb (getD l i 0) 0 n,
 pub use-same : (l : List ℕ) (i : ℕ) → i < length l → getD l i 0 ≡ 0 → inUse (drop i l) ≡ inUse (drop (i + 1) l)
 unfolding inUse
 use-same l i m e = ap inUse (drop-cons l i 0 m) ∙ rw (eq-eqb (getD l i 0) 0 e, add-one i) (omega arith)
+
+use-most : (l : List ℕ) → inUse l ≤ length l
+unfolding inUse
+use-most [] = omega arith
+use-most (x ∷ l) = go (eqb x 0) (use-most l)
+  where
+    go : (y : Bool) → inUse l ≤ length l → cond y 0 1 + inUse l ≤ suc (length l)
+    go true m = omega arith
+    go false m = omega arith
+
+pub use-few : (l : List ℕ) (i : ℕ) → inUse (drop i l) ≤ length l
+use-few l i = omega (arith, use-most (drop i l), length-drop i l)
 
 -- ---- lowering, from table to table
 

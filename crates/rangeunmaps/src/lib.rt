@@ -1,5 +1,5 @@
 // Unmap a range. Every test is made first, on the memory as it is: the walks of its pages, and whether the free list has room for the tables that come back. Then the
-// mappings go, one after the other.
+// mappings go, in rising order: pages side by side in one table at once, as far as no table comes free, any other mapping by unmap.
 use entry::Entry;
 use model::RangeUnmapped;
 use model::UnmapAnswer;
@@ -9,7 +9,7 @@ ghost use mathlib.Core.Path.{_≡_};
 ghost use mathlib.Core.Bool.{true, false, cond, not};
 ghost use mathlib.Core.List.{List, [], _++_};
 ghost use Prim.Native.Nat.{ℕ, _+_, _-_, _*_, _^_, _≤_, _<_};
-ghost use lib.ListN.{length, getD};
+ghost use lib.ListN.{length, getD, drop, replicate};
 ghost use Rattle.laws.specs.Lists.{part, zeroed};
 ghost use Rattle.path.specs.Geometry.{granuleOf, entries, physical};
 ghost use Rattle.path.specs.Paths.{indexAt};
@@ -17,7 +17,7 @@ ghost use Rattle.model.specs.Walk.{slot};
 ghost use Rattle.model.specs.Answers.{saysUnmapRange, refused, pool, unmapRangeDid};
 ghost use Rattle.model.specs.Calls.{goodPool, walkTo, unmapW};
 ghost use Rattle.model.specs.Ranges.{pagesOf, answersOf, anyRefused, unmapRangeW};
-ghost use Rattle.sweeps.specs.Parts.{lesser, untilEnd, Rest, Sure, walksSay, Allowed, Meets, cutOr, inUse, Clearable, isFine, misfitsIn, Beyond, usedIn, lowered, lowerFrom};
+ghost use Rattle.sweeps.specs.Parts.{lesser, untilEnd, Rest, Sure, walksSay, Allowed, AllNoted, Meets, cutOr, inUse, Clearable, isFine, misfitsIn, Beyond, usedIn, lowered, lowerFrom};
 ghost use Rattle.rangeunmaps.specs.Dones.{SomePool, SomeRest, SomeAllowed, SomeSure, Clears, Did};
 
 // A count for each table that a pool may have.
@@ -166,12 +166,20 @@ fn beyond<'a>(
 }
 
 // The walks of all pages of a range: 8 where one meets damage or they come to one table for two regions, else 10 where the range cuts a mapping, else 0.
-fn check_walks<'a>(s: Setup, words: &'a [u64], second: &'a [u64], address: u64, bytes: u64) -> u64
-    requires { ⌜ SomeRest (granuleOf (s .granule)) s (now words ++ now second) (length (now words)) address (address + bytes) ⌝ }
-    ensures { λ r. ⌜ r ≡ walksSay (granuleOf (s .granule)) (pool s (now (words .entry) ++ now (second .entry)) (length (now (words .entry))) []) address bytes ⌝ }
+// The tables on their ways are noted.
+fn check_walks<'a>(
+    s: Setup,
+    words: &'a [u64],
+    second: &'a [u64],
+    stands: &mut [u32],
+    address: u64,
+    bytes: u64,
+) -> u64
+    requires { ⌜ SomeRest (granuleOf (s .granule)) s (now words ++ now second) (length (now words)) address (address + bytes) × (now stands ≡ replicate 512 0) ⌝ }
+    ensures { λ r. ⌜ (r ≡ walksSay (granuleOf (s .granule)) (pool s (now (words .entry) ++ now (second .entry)) (length (now (words .entry))) []) address bytes)
+        × (r ≡ 0 → AllNoted (granuleOf (s .granule)) (pool s (now (words .entry) ++ now (second .entry)) (length (now (words .entry))) []) address bytes (now (stands .exit))) ⌝ }
 {
     let end = address + bytes;
-    let mut stands = [0u32; TABLES];
     let mut way = [0u32; 4];
     let mut no: u64 = 0;
     let mut x = address;
@@ -181,7 +189,7 @@ fn check_walks<'a>(s: Setup, words: &'a [u64], second: &'a [u64], address: u64, 
             return 8;
         }
         let left = (met % 4) as usize;
-        if !marks::note_way(s.granule, &mut stands, way, x, left, s.levels) {
+        if !marks::note_way(s.granule, stands, way, x, left, s.levels) {
             return 8;
         }
         let base = indices::base_at(s.granule, x, left);
@@ -286,6 +294,42 @@ fn has_room<'a>(s: Setup, words: &'a [u64], second: &'a [u64], address: u64, byt
     true
 }
 
+// How many tables are noted, the root excepted.
+fn marked(stands: &[u32]) -> u64
+    requires { ⌜ length (now stands) ≡ 512 ⌝ }
+    ensures { λ r. ⌜ r ≡ inUse (drop 1 (now (stands .entry))) ⌝ }
+{
+    let mut n: u64 = 0;
+    let mut left = stands.len();
+    while 1 < left {
+        left -= 1;
+        if stands[left] != 0 {
+            n += 1;
+        }
+    }
+    n
+}
+
+// Whether the free list has room for all tables that come back, which are among those noted: soon told where there is room for all of these.
+fn fits<'a>(
+    s: Setup,
+    words: &'a [u64],
+    second: &'a [u64],
+    stands: &[u32],
+    address: u64,
+    bytes: u64,
+) -> bool
+    requires { ⌜ SomeAllowed (granuleOf (s .granule)) s (now words ++ now second) (length (now words)) address bytes
+        × ((length (now stands) ≡ 512) × AllNoted (granuleOf (s .granule)) (pool s (now words ++ now second) (length (now words)) []) address bytes (now stands)) ⌝ }
+    ensures { λ r. ⌜ ((list : List ℕ) → goodPool (granuleOf (s .granule)) (pool s (now (words .entry) ++ now (second .entry)) (length (now (words .entry))) list) ≡ true
+        → r ≡ not (anyRefused 8 (answersOf (unmapW (granuleOf (s .granule))) (pool s (now (words .entry) ++ now (second .entry)) (length (now (words .entry))) list) (pagesOf (granuleOf (s .granule)) address bytes)))) ⌝ }
+{
+    if s.free + marked(stands) < s.tables + s.tables2 {
+        return true;
+    }
+    has_room(s, words, second, address, bytes)
+}
+
 // A part of a range that is done: where it ends, the setup then, how many mappings went and how many tables came back.
 struct Gone {
     next: u64,
@@ -345,6 +389,27 @@ fn ahead<'a>(s: Setup, words: &'a [u64], second: &'a [u64], address: u64, end: u
     Slots { place, count, used }
 }
 
+// The words in use of a part of a run become 0, each by one store of its own: a walker may read them meanwhile.
+fn clear_used(run: &mut [u64], start: usize, count: usize)
+    ensures { λ _. ⌜ now (run .exit) ≡ zeroed (now (run .entry)) start count ⌝ }
+{
+    let n = run.len();
+    if start > n {
+        return;
+    }
+    if n - start < count {
+        return;
+    }
+    let end = start + count;
+    let mut i = start;
+    while i < end {
+        if run[i] != 0 {
+            run[i] = 0;
+        }
+        i += 1;
+    }
+}
+
 // So many words from a place of the two runs on become 0, where one of them holds all.
 fn clear_words(words: &mut [u64], second: &mut [u64], place: usize, count: usize)
     requires { ⌜ (place < length (now words) → place + count ≤ length (now words)) ⌝ }
@@ -352,11 +417,11 @@ fn clear_words(words: &mut [u64], second: &mut [u64], place: usize, count: usize
 {
     let n = words.len();
     if place < n {
-        pool::wipe_from(words, place, count);
+        clear_used(words, place, count);
         return;
     }
     let at = place - n;
-    pool::wipe_from(second, at, count);
+    clear_used(second, at, count);
 }
 
 // Unmap at an address. What it finds there, a mapping or a hole, is done then.
@@ -488,11 +553,12 @@ pub fn unmap_range(
     if no != 0 {
         return range_refused(no, s);
     }
-    let met = check_walks(s, &words[..], &second[..], address, bytes);
+    let mut stands = [0u32; TABLES];
+    let met = check_walks(s, &words[..], &second[..], &mut stands, address, bytes);
     if met != 0 {
         return range_refused(met, s);
     }
-    if !has_room(s, &words[..], &second[..], address, bytes) {
+    if !fits(s, &words[..], &second[..], &stands, address, bytes) {
         return range_refused(8, s);
     }
     let g = remove_all(s, words, second, list, address, bytes);

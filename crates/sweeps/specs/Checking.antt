@@ -33,7 +33,7 @@ use Rattle.model.specs.RangeUnmapped.{few-levels}
 use Rattle.model.specs.RangeSkips.{pages-append}
 use Rattle.marks.specs.Marks.{Noted, noted, noteWay}
 use Rattle.marks.specs.MarkLaws.{Marked, Clash, Noting, agreed, clashes, marked-none, marked-like, marked-each, clash-like, clash-each, onWays-append, note-walk, ways-from, Within}
-use Rattle.sweeps.specs.Parts.{lesser, untilEnd, Rest, walksSay, Meets, cutOr}
+use Rattle.sweeps.specs.Parts.{lesser, untilEnd, Rest, walksSay, AllNoted, Meets, cutOr}
 use Rattle.sweeps.specs.Pages.{pages-between, pages-some, Ends, ends-at}
 use Rattle.sweeps.specs.Removing.{pages-whole}
 
@@ -338,6 +338,15 @@ module _ (G : Granule) (Z : Sane G) (p : Pool) (a len : ℕ) (R : Rest G p a (a 
       let k : len / W ≡ C .pages = ap (λ (z : ℕ). z / W) s ∙ mul-div-cancel (C .pages) (page-pos G) in
       subst (λ (i : ℕ). no ≡ cond (spoiled G levels (pageWalks G p (pagesFrom G a i))) 8 (cond (anyCutBy G a len (pageWalks G p (pagesFrom G a i))) 10 0)) (sym k)
       (rw (C .undamaged, marked-each (C .marked)) (sym (C .cut-is)))
+
+  -- and every table on their ways is marked
+  pub checked-noted : {x : ℕ} {M : List ℕ} {no : ℕ} → Checked G p a len x M no → x ≡ end → AllNoted G p a len M
+  checked-noted {x} {M} {no} C e y i j u v z =
+      let s : len ≡ C .pages * W = omega (arith, C .next-is) in
+      let k : len / W ≡ C .pages = ap (λ (z : ℕ). z / W) s ∙ mul-div-cancel (C .pages) (page-pos G) in
+      let m : List·Memᴰ y (pagesFrom G a (C .pages)) = subst (λ (n : ℕ). List·Memᴰ y (pagesFrom G a n)) k i in
+      let S = C .marked .shown (standingAt G y (walkTo G p 0 y .tables) j) (ways-has G levels (pageWalks G p (pagesFrom G a (C .pages))) (pageWalk G p y) (Memᴰ·map (pageWalk G p) m) j u v) in
+      omega (arith, S .mark, z)
 
 -- the number that the code has of a cut
 pub cut-or : (G : Granule) (a len x was : ℕ) {o : Walked} {met : ℕ} {way : List ℕ} → Meets o met way → met < 8

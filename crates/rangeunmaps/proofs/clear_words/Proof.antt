@@ -8,10 +8,10 @@ use Rattle.rangeunmaps.proofs.clear_words.Statement.{statement}
 use Rattle.rangeunmaps.proofs.clear_words.Tie as tie
 use Rattle.rangeunmaps.proofs.clear_words.Reads as reads
 use Rattle.rangeunmaps.proofs.clear_words.Lts as lts
-use Rattle.pool.proofs.wipe_from.Reads as wipe-from-reads
+use Rattle.rangeunmaps.proofs.clear_used.Reads as clear-used-reads
 
-wipe-from-requires : tie.Need-wipe-from-requires
-wipe-from-requires c κs = search needs
+clear-used-requires : tie.Need-clear-used-requires
+clear-used-requires c κs = search needs
 
 same-length : tie.Need-same-length
 same-length c = search needs
@@ -19,10 +19,10 @@ same-length c = search needs
 returns : tie.Need-returns
 returns c =
     let a = c .before .before .before .before .before .before .before .args in
-    ap (λ (l : List ℕ). l ++ a .second .now) (c .before .before .wipe-from .ensures) ∙ sym (zeroed-first (a .words .now) (a .second .now) (a .place) (a .count) (c .before .before .before .before .before .before .before .pre (omega arith)))
+    ap (λ (l : List ℕ). l ++ a .second .now) (c .before .before .clear-used .ensures) ∙ sym (zeroed-first (a .words .now) (a .second .now) (a .place) (a .count) (c .before .before .before .before .before .before .before .pre (omega arith)))
 
-wipe-from-requires-2 : tie.Need-wipe-from-requires-2
-wipe-from-requires-2 c κs = search needs
+clear-used-requires-2 : tie.Need-clear-used-requires-2
+clear-used-requires-2 c κs = search needs
 
 same-length-2 : tie.Need-same-length-2
 same-length-2 c = search needs
@@ -30,9 +30,9 @@ same-length-2 c = search needs
 returns-2 : tie.Need-returns-2
 returns-2 c =
     let a = c .before .before .before .before .before .before .before .args in
-    ap (λ (l : List ℕ). a .words .now ++ l) (c .before .before .wipe-from2 .ensures) ∙ sym (zeroed-later (a .words .now) (a .second .now) (a .place) (a .count) (omega arith))
+    ap (λ (l : List ℕ). a .words .now ++ l) (c .before .before .clear-used2 .ensures) ∙ sym (zeroed-later (a .words .now) (a .second .now) (a .place) (a .count) (omega arith))
 
 pub clear-words-spec : {M : Type 1} → statement M
 clear-words-spec =
     tie.close
-    (tie.spec wipe-from-requires same-length returns wipe-from-requires-2 same-length-2 returns-2)
+    (tie.spec clear-used-requires same-length returns clear-used-requires-2 same-length-2 returns-2)

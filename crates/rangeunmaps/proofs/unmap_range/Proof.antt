@@ -5,7 +5,7 @@ use mathlib.Core.Bool.{true, not}
 use mathlib.Core.List.{[], _++_}
 use native.Mathlib.Omega.{arith}
 use borrow.Author.Tests.{not-true}
-use lib.ListN.{length}
+use lib.ListN.{length, length-replicate}
 use Rattle.path.specs.Geometry.{granuleOf}
 use Rattle.path.specs.Laws.{granule-sane}
 use Rattle.model.specs.Answers.{Pool, pool}
@@ -21,12 +21,6 @@ use Rattle.rangeunmaps.proofs.unmap_range.Statement.{statement}
 use Rattle.rangeunmaps.proofs.unmap_range.Tie as tie
 use Rattle.rangeunmaps.proofs.unmap_range.Reads as reads
 use Rattle.rangeunmaps.proofs.unmap_range.Lts as lts
-use Rattle.ranges.proofs.unmap_tests.Reads as unmap-tests-reads
-use Rattle.rangeunmaps.proofs.check_walks.Reads as check-walks-reads
-use Rattle.rangeunmaps.proofs.has_room.Reads as has-room-reads
-use Rattle.rangeunmaps.proofs.range_refused.Reads as range-refused-reads
-use Rattle.rangeunmaps.proofs.remove_all.Reads as remove-all-reads
-use Rattle.setups.proofs.good_setup.Reads as good-setup-reads
 
 -- the pool at entry
 abbrev at : tie.Start → Pool
@@ -46,19 +40,19 @@ rest : (c : tie.Else2) → let a = c .before .before .before .before .before .be
 rest c = let a = c .before .before .before .before .before .before .before .args in fine-rest (granuleOf (a .s .granule)) (granule-sane (a .s .granule)) (at (c .before .before .before .before .before .before .before)) (a .address) (a .bytes) (good (c .before .before)) (tests c)
 
 -- what the walks say
-says : (c : tie.After-check-walks) → let a = c .before .before .before .before .before .before .before .before .before .before .args in c .check-walks .result ≡ walksSay (granuleOf (a .s .granule)) (at (c .before .before .before .before .before .before .before .before .before .before)) (a .address) (a .bytes)
+says : (c : tie.After-check-walks) → let a = c .before .before .before .before .before .before .before .before .before .before .before .args in c .check-walks .result ≡ walksSay (granuleOf (a .s .granule)) (at (c .before .before .before .before .before .before .before .before .before .before .before)) (a .address) (a .bytes)
 says c =
-    let a = c .before .before .before .before .before .before .before .before .before .before .args in
-    c .check-walks .ensures ∙ says-like (granuleOf (a .s .granule)) (a .s) (a .words .now ++ a .second .now) (length (a .words .now)) [] (a .list .now) (a .address) (a .bytes)
+    let a = c .before .before .before .before .before .before .before .before .before .before .before .args in
+    c .check-walks .ensures .0 ∙ says-like (granuleOf (a .s .granule)) (a .s) (a .words .now ++ a .second .now) (length (a .words .now)) [] (a .list .now) (a .address) (a .bytes)
 
 -- past the third they say nothing
-quiet : (c : tie.Else3) → let a = c .before .before .before .before .before .before .before .before .before .before .before .args in walksSay (granuleOf (a .s .granule)) (at (c .before .before .before .before .before .before .before .before .before .before .before)) (a .address) (a .bytes) ≡ 0
-quiet c = sym (says (c .before)) ∙ c .if3 .left
+quiet : (c : tie.Else3) → let a = c .before .before .before .before .before .before .before .before .before .before .before .before .before .args in walksSay (granuleOf (a .s .granule)) (at (c .before .before .before .before .before .before .before .before .before .before .before .before .before)) (a .address) (a .bytes) ≡ 0
+quiet c = sym (says (c .before .before)) ∙ c .if3 .left
 
 -- whether there is room
-room : (c : tie.After-has-room) → let a = c .before .before .before .before .before .before .before .before .before .before .before .before .before .before .args in
-    c .has-room .result ≡ not (anyRefused 8 (answersOf (unmapW (granuleOf (a .s .granule))) (at (c .before .before .before .before .before .before .before .before .before .before .before .before .before .before)) (pagesOf (granuleOf (a .s .granule)) (a .address) (a .bytes))))
-room c = c .has-room .ensures (c .before .before .before .before .before .before .before .before .before .before .before .before .before .before .args .list .now) (good (c .before .before .before .before .before .before .before .before .before))
+room : (c : tie.After-fits2) → let a = c .before .before .before .before .before .before .before .before .before .before .before .before .before .before .before .before .before .args in
+    c .fits2 .result ≡ not (anyRefused 8 (answersOf (unmapW (granuleOf (a .s .granule))) (at (c .before .before .before .before .before .before .before .before .before .before .before .before .before .before .before .before .before)) (pagesOf (granuleOf (a .s .granule)) (a .address) (a .bytes))))
+room c = c .fits2 .ensures (c .before .before .before .before .before .before .before .before .before .before .before .before .before .before .before .before .before .args .list .now) (good (c .before .before .before .before .before .before .before .before .before .before .before .before))
 
 good-setup-requires : tie.Need-good-setup-requires
 good-setup-requires c κs = search needs
@@ -84,8 +78,11 @@ returns-2 c =
     refusing (a .words .now ++ a .second .now) (length (a .words .now)) (a .list .now) (c .range-refused2 .ensures)
     ∙ range-tested (granuleOf (a .s .granule)) (at (c .before .before .before .before .before .before .before .before)) (a .address) (a .bytes) (good-both (granuleOf (a .s .granule)) (a .s) (a .words .now) (a .second .now) (a .list .now) (c .before .before .before .before .good-setup .ensures)) (c .before .before .before .if1 .left) (c .before .before .unmap-tests .ensures) (c .before .if2 .taken)
 
+slice-aggregate-check-walks : tie.Need-slice-aggregate-check-walks
+slice-aggregate-check-walks c = search needs
+
 check-walks-requires : tie.Need-check-walks-requires
-check-walks-requires c κs = (c .before .before .before .before .before .before .before .before .before .args .list .now, rest (c .before .before))
+check-walks-requires c κs = ((c .before .before .before .before .before .before .before .before .before .before .args .list .now, rest (c .before .before .before)), refl)
 
 range-refused-requires-3 : tie.Need-range-refused-requires-3
 range-refused-requires-3 c κs = search needs
@@ -98,12 +95,18 @@ same-length-2 c = search needs
 
 returns-3 : tie.Need-returns-3
 returns-3 c =
-    let a = c .before .before .before .before .before .before .before .before .before .before .before .before .args in
+    let a = c .before .before .before .before .before .before .before .before .before .before .before .before .before .before .args in
     refusing (a .words .now ++ a .second .now) (length (a .words .now)) (a .list .now) (c .range-refused3 .ensures)
-    ∙ range-met (granuleOf (a .s .granule)) (at (c .before .before .before .before .before .before .before .before .before .before .before .before)) (a .address) (a .bytes) (good-both (granuleOf (a .s .granule)) (a .s) (a .words .now) (a .second .now) (a .list .now) (c .before .before .before .before .before .before .before .before .good-setup .ensures)) (c .before .before .before .before .before .before .before .if1 .left) (c .before .before .before .before .before .before .unmap-tests .ensures) (c .before .before .before .before .before .if2 .left) (says (c .before .before)) (c .before .if3 .taken)
+    ∙ range-met (granuleOf (a .s .granule)) (at (c .before .before .before .before .before .before .before .before .before .before .before .before .before .before)) (a .address) (a .bytes) (good-both (granuleOf (a .s .granule)) (a .s) (a .words .now) (a .second .now) (a .list .now) (c .before .before .before .before .before .before .before .before .before .before .good-setup .ensures)) (c .before .before .before .before .before .before .before .before .before .if1 .left) (c .before .before .before .before .before .before .before .before .unmap-tests .ensures) (c .before .before .before .before .before .before .before .if2 .left) (says (c .before .before .before)) (c .before .if3 .taken)
 
-has-room-requires : tie.Need-has-room-requires
-has-room-requires c κs = (c .before .before .before .before .before .before .before .before .before .before .before .before .before .args .list .now, record { good = good (c .before .before .before .before .before .before .before .before); tests = tests (c .before .before .before .before .before .before); walks = quiet (c .before .before) })
+slice-aggregate-fits : tie.Need-slice-aggregate-fits
+slice-aggregate-fits c = search needs
+
+fits-requires : tie.Need-fits-requires
+fits-requires c κs = (
+  (c .before .before .before .before .before .before .before .before .before .before .before .before .before .before .before .before .args .list .now, record { good = good (c .before .before .before .before .before .before .before .before .before .before .before); tests = tests (c .before .before .before .before .before .before .before .before .before); walks = quiet (c .before .before .before) }),
+  (c .before .before .before .before .before .check-walks .kept .1 .1 .1 .0 ∙ length-replicate {A = ℕ} 512 0, c .before .before .before .before .before .check-walks .ensures .1 (c .before .before .before .if3 .left)),
+)
 
 range-refused-requires-4 : tie.Need-range-refused-requires-4
 range-refused-requires-4 c κs = search needs
@@ -116,12 +119,12 @@ same-length-4 c = search needs
 
 returns-4 : tie.Need-returns-4
 returns-4 c =
-    let a = c .before .before .before .before .before .before .before .before .before .before .before .before .before .before .before .before .args in
+    let a = c .before .before .before .before .before .before .before .before .before .before .before .before .before .before .before .before .before .before .before .args in
     refusing (a .words .now ++ a .second .now) (length (a .words .now)) (a .list .now) (c .range-refused4 .ensures)
-    ∙ range-full (granuleOf (a .s .granule)) (at (c .before .before .before .before .before .before .before .before .before .before .before .before .before .before .before .before)) (a .address) (a .bytes) (good-both (granuleOf (a .s .granule)) (a .s) (a .words .now) (a .second .now) (a .list .now) (c .before .before .before .before .before .before .before .before .before .before .before .before .good-setup .ensures)) (c .before .before .before .before .before .before .before .before .before .before .before .if1 .left) (c .before .before .before .before .before .before .before .before .before .before .unmap-tests .ensures) (c .before .before .before .before .before .before .before .before .before .if2 .left) (quiet (c .before .before .before .before .before)) (room (c .before .before)) (c .before .if4 .taken)
+    ∙ range-full (granuleOf (a .s .granule)) (at (c .before .before .before .before .before .before .before .before .before .before .before .before .before .before .before .before .before .before .before)) (a .address) (a .bytes) (good-both (granuleOf (a .s .granule)) (a .s) (a .words .now) (a .second .now) (a .list .now) (c .before .before .before .before .before .before .before .before .before .before .before .before .before .before .before .good-setup .ensures)) (c .before .before .before .before .before .before .before .before .before .before .before .before .before .before .if1 .left) (c .before .before .before .before .before .before .before .before .before .before .before .before .before .unmap-tests .ensures) (c .before .before .before .before .before .before .before .before .before .before .before .before .if2 .left) (quiet (c .before .before .before .before .before .before)) (room (c .before .before)) (c .before .if4 .taken)
 
 remove-all-requires : tie.Need-remove-all-requires
-remove-all-requires c κs = (record { good = good (c .before .before .before .before .before .before .before .before .before .before .before .before .before); tests = tests (c .before .before .before .before .before .before .before .before .before .before .before); walks = quiet (c .before .before .before .before .before .before .before) }, not-true _ (passed (room (c .before .before .before .before)) (c .before .before .before .if4 .left)))
+remove-all-requires c κs = (record { good = good (c .before .before .before .before .before .before .before .before .before .before .before .before .before .before .before .before); tests = tests (c .before .before .before .before .before .before .before .before .before .before .before .before .before .before); walks = quiet (c .before .before .before .before .before .before .before .before) }, not-true _ (passed (room (c .before .before .before .before)) (c .before .before .before .if4 .left)))
 
 same-length-5 : tie.Need-same-length-5
 same-length-5 c = search needs
@@ -134,8 +137,8 @@ same-length-7 c = search needs
 
 returns-5 : tie.Need-returns-5
 returns-5 c =
-    let a = c .before .before .before .before .before .before .before .before .before .before .before .before .before .before .before .before .before .before .before .before .before .before .before .before .before .before .args in
-    range-clears (granuleOf (a .s .granule)) (at (c .before .before .before .before .before .before .before .before .before .before .before .before .before .before .before .before .before .before .before .before .before .before .before .before .before .before)) (a .address) (a .bytes) (good-both (granuleOf (a .s .granule)) (a .s) (a .words .now) (a .second .now) (a .list .now) (c .before .before .before .before .before .before .before .before .before .before .before .before .before .before .before .before .before .before .before .before .before .before .good-setup .ensures)) (c .before .before .before .before .before .before .before .before .before .before .before .before .before .before .before .before .before .before .before .before .before .if1 .left) (c .before .before .before .before .before .before .before .before .before .before .before .before .before .before .before .before .before .before .before .before .unmap-tests .ensures) (c .before .before .before .before .before .before .before .before .before .before .before .before .before .before .before .before .before .before .before .if2 .left) (quiet (c .before .before .before .before .before .before .before .before .before .before .before .before .before .before .before)) (room (c .before .before .before .before .before .before .before .before .before .before .before .before)) (c .before .before .before .before .before .before .before .before .before .before .before .if4 .left) (c .before .before .before .before .before .before .before .remove-all .ensures .0) (c .before .before .before .before .before .before .before .remove-all .ensures .1)
+    let a = c .before .before .before .before .before .before .before .before .before .before .before .before .before .before .before .before .before .before .before .before .before .before .before .before .before .before .before .before .before .args in
+    range-clears (granuleOf (a .s .granule)) (at (c .before .before .before .before .before .before .before .before .before .before .before .before .before .before .before .before .before .before .before .before .before .before .before .before .before .before .before .before .before)) (a .address) (a .bytes) (good-both (granuleOf (a .s .granule)) (a .s) (a .words .now) (a .second .now) (a .list .now) (c .before .before .before .before .before .before .before .before .before .before .before .before .before .before .before .before .before .before .before .before .before .before .before .before .before .good-setup .ensures)) (c .before .before .before .before .before .before .before .before .before .before .before .before .before .before .before .before .before .before .before .before .before .before .before .before .if1 .left) (c .before .before .before .before .before .before .before .before .before .before .before .before .before .before .before .before .before .before .before .before .before .before .before .unmap-tests .ensures) (c .before .before .before .before .before .before .before .before .before .before .before .before .before .before .before .before .before .before .before .before .before .before .if2 .left) (quiet (c .before .before .before .before .before .before .before .before .before .before .before .before .before .before .before .before)) (room (c .before .before .before .before .before .before .before .before .before .before .before .before)) (c .before .before .before .before .before .before .before .before .before .before .before .if4 .left) (c .before .before .before .before .before .before .before .remove-all .ensures .0) (c .before .before .before .before .before .before .before .remove-all .ensures .1)
 
 pub unmap-range-spec : {M : Type 1} → statement M
 unmap-range-spec =
@@ -147,12 +150,14 @@ unmap-range-spec =
     unmap-tests-requires
     range-refused-requires-2
     returns-2
+    slice-aggregate-check-walks
     check-walks-requires
     range-refused-requires-3
     same-length
     same-length-2
     returns-3
-    has-room-requires
+    slice-aggregate-fits
+    fits-requires
     range-refused-requires-4
     same-length-3
     same-length-4
