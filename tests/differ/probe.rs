@@ -431,22 +431,18 @@ fn audits(granule: u64) {
     }
 }
 
-fn planned() {
+fn steps() {
     use plans::Step::*;
-    let plan = [Store { place: 513, value: 6 }, Give { place: 1, table: 9 }, Wipe { table: 2 }, Nothing, Store { place: 7, value: 1 << 40 }, Give { place: 5, table: 4 }, Wipe { table: 9 }];
-    for (first, more) in [(1536, 0), (1024, 512), (512, 1024)] {
+    let all = [Store { place: 513, value: 6 }, Give { place: 1, table: 9 }, Wipe { table: 2 }, Store { place: 7, value: 1 << 40 }, Give { place: 5, table: 4 }, Wipe { table: 9 }];
+    let runs = [(PAGE, 1536, 0), (PAGE, 1024, 512), (PAGE, 512, 1024), (KIB16, 6144, 0), (KIB16, 4096, 2048), (KIB16, 2048, 4096)];
+    for (granule, first, more) in runs {
         let (mut w, mut s, mut l) = (vec![3; first], vec![4; more], vec![8; 3]);
-        let r = tried(|| plans::write_words(PAGE, &mut w, &mut s, plan));
-        told_two(&format!("plans::write_words {first} {more}"), r, &w, &s, &l);
-        let r = tried(|| plans::write_all(PAGE, &mut w, &mut s, &mut l, plan));
-        told_two(&format!("plans::write_all {first} {more}"), r, &w, &s, &l);
-    }
-    for (first, more) in [(6144, 0), (4096, 2048), (2048, 4096)] {
-        let (mut w, mut s, mut l) = (vec![3; first], vec![4; more], vec![8; 3]);
-        let r = tried(|| plans::write_words(KIB16, &mut w, &mut s, plan));
-        told_two(&format!("plans::write_words of 16 KiB {first} {more}"), r, &w, &s, &l);
-        let r = tried(|| plans::write_all(KIB16, &mut w, &mut s, &mut l, plan));
-        told_two(&format!("plans::write_all of 16 KiB {first} {more}"), r, &w, &s, &l);
+        for (i, step) in all.into_iter().enumerate() {
+            let r = tried(|| plans::step_words(granule, &mut w, &mut s, step));
+            told_two(&format!("plans::step_words {granule} {first} {more} {i}"), r, &w, &s, &l);
+            let r = tried(|| plans::step_all(granule, &mut w, &mut s, &mut l, step));
+            told_two(&format!("plans::step_all {granule} {first} {more} {i}"), r, &w, &s, &l);
+        }
     }
 }
 
@@ -1039,7 +1035,7 @@ fn main() {
     audits(KIB16);
     ranges(PAGE);
     ranges(KIB16);
-    planned();
+    steps();
     blocks_of();
     images(PAGE);
     images(KIB16);

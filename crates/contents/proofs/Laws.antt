@@ -71,9 +71,6 @@ module _ (ws : List ℕ) (but : ℕ) where
       go (yes e) = left-out l e
       go (no d) = kept-in d ∙ z
 
-  pub zero-step : (i : ℕ) → i + 8 ≤ length ws → ((k : ℕ) → k < 8 → getD ws (i + k) 0 ≡ 0) → allZero (part (set ws but 0) i 8) ≡ true
-  zero-step i l f = allZero-part-of (set ws but 0) i 8 (λ k h. zero-too (i + k) (omega arith) (f k h))
-
 -- ---- word by word, from one place to another
 
 module _ (xs : List ℕ) where
@@ -98,12 +95,24 @@ module _ (xs : List ℕ) where
 
   -- ---- step by step
 
-  pub step-passed : {i : ℕ} → Passed 0 i → allZero (part xs i 8) ≡ true → Passed 0 (i + 8)
-  step-passed {i} f e k l m = go (decLt k i)
+  pub passed-step : {from i : ℕ} → Passed from i → ((k : ℕ) → k < 8 → getD xs (i + k) 0 ≡ 0) → Passed from (i + 8)
+  passed-step {from} {i} f e k l m = go (decLt k i)
     where
       go : Dec (k < i) → getD xs k 0 ≡ 0
       go (yes h) = f k l h
-      go (no h) = let z : i + (k - i) ≡ k = omega arith in ap (λ (j : ℕ). getD xs j 0) (sym z) ∙ allZero-part-at xs i 8 e (k - i) (omega arith)
+      go (no h) = let z : i + (k - i) ≡ k = omega arith in ap (λ (j : ℕ). getD xs j 0) (sym z) ∙ e (k - i) (omega arith)
+
+  pub passed-both : {from i to : ℕ} → Passed from i → Passed i to → Passed from to
+  passed-both {from} {i} f g k l m = go (decLt k i)
+    where
+      go : Dec (k < i) → getD xs k 0 ≡ 0
+      go (yes h) = f k l h
+      go (no h) = g k (omega arith) m
+
+  pub between-passed : {from to : ℕ} → allZero (part xs from (to - from)) ≡ true → Passed from to
+  between-passed {from} {to} e k l m =
+      let z : from + (k - from) ≡ k = omega arith in
+      ap (λ (j : ℕ). getD xs j 0) (sym z) ∙ allZero-part-at xs from (to - from) e (k - from) (omega arith)
 
   pub step-stops : (i n : ℕ) → allZero (part xs i n) ≡ false → allZero xs ≡ false
   step-stops i n e = let (k, _, d) = allZero-part-some xs i n e in allZero-not xs (i + k) d
@@ -119,6 +128,10 @@ module _ (xs : List ℕ) where
           at k h (yes l) = f k (omega arith) l
           at k h (no l) = let z : i + (k - i) ≡ k = omega arith in ap (λ (j : ℕ). getD xs j 0) (sym z) ∙ allZero-part-at xs i (n - i) e (k - i) (omega arith)
       go false e = sym (step-stops i (n - i) e)
+
+-- words that are 0 are so with one left out
+pub passed-too : (ws : List ℕ) (but : ℕ) {from to : ℕ} → to ≤ length ws → Passed ws from to → Passed (set ws but 0) from to
+passed-too ws but l f k h m = zero-too ws but k (omega arith) (f k h m)
 
 -- ---- the part of a table
 

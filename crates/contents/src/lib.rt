@@ -2,7 +2,7 @@
 ghost use mathlib.Core.Path.{_≡_};
 ghost use mathlib.Core.Bool.{false, not};
 ghost use mathlib.Core.List.{_++_};
-ghost use Prim.Native.Nat.{ℕ, _+_, _-_, _*_, _≤_, _<_};
+ghost use Prim.Native.Nat.{ℕ, _+_, _-_, _*_, _%_, _≤_, _<_};
 ghost use lib.Dec.{eqb};
 ghost use lib.ListN.{length, getD, set};
 ghost use Rattle.laws.specs.Lists.{part, allZero};
@@ -79,30 +79,38 @@ fn zeros_between(w: &[u64], from: usize, to: usize, but: usize) -> bool
     true
 }
 
-// The same of the words of a step: they are read at once, and one by one only where one is in use.
-fn zeros_in_step(w: &[u64], i: usize, but: usize) -> bool
-    requires { ⌜ i + 8 ≤ length (now w) ⌝ }
-    ensures { λ r. ⌜ r ≡ allZero (part (set (now (w .entry)) but 0) i 8) ⌝ }
+// Of the steps from one place to another, the first that has a word in use, by its place; the end where none has.
+fn used_step(w: &[u64], from: usize, to: usize) -> usize
+    requires { ⌜ (from ≤ to) × ((to ≤ length (now w)) × ((to - from) % 8 ≡ 0)) ⌝ }
+    ensures { λ r. ⌜ ((from ≤ r) × ((r ≤ to) × ((to - r) % 8 ≡ 0))) × ((k : ℕ) → from ≤ k → k < r → getD (now (w .entry)) k 0 ≡ 0) ⌝ }
 {
-    if !any_in_step(w, i) {
-        return true;
+    let mut at = from;
+    while at < to {
+        if any_in_step(w, at) {
+            return at;
+        }
+        at += STEP;
     }
-    zeros_between(w, i, i + STEP, but)
+    to
 }
 
-// Whether all words are 0 but for the one to leave out. It goes by steps, and ends at the first that has a word in use.
+// Whether all words are 0 but for the one to leave out. It goes by steps to the first that has a word in use; where that word is the one to leave out, it goes
+// on behind that step, and ends at the next such step.
 pub fn zeros_but(w: &[u64], but: usize) -> bool
     ensures { λ r. ⌜ r ≡ allZero (set (now (w .entry)) but 0) ⌝ }
 {
     let n = w.len();
-    let mut at = 0;
-    while n - at >= STEP {
-        if !zeros_in_step(w, at, but) {
-            return false;
-        }
-        at += STEP;
+    let last = n - n % STEP;
+    let at = used_step(w, 0, last);
+    if at >= last {
+        return zeros_between(w, at, n, but);
     }
-    zeros_between(w, at, n, but)
+    let past = at + STEP;
+    if !zeros_between(w, at, past, but) {
+        return false;
+    }
+    let next = used_step(w, past, last);
+    zeros_between(w, next, n, but)
 }
 
 // Whether all words of table t are 0.

@@ -23,10 +23,8 @@ use Rattle.model.specs.Walk.{slot, atHeight, noWay, stop}
 use Rattle.model.specs.Writes.{Write, memory, performAll, mapWrites, mayTake}
 use Rattle.model.specs.Calls.{goodPool, walkTo, mapTests, mapHere, mapAt, mapW}
 use Rattle.model.specs.Refusing.{passed}
-use Rattle.lookup.specs.WalkLaws.{walk-above}
+use Rattle.lookup.specs.WalkLaws.{walk-above, walk-within}
 use Rattle.lookup.specs.Reaches.{Came, came-again, came-word}
-use Rattle.plans.specs.Plan.{planned}
-use Rattle.plans.specs.declared.Step.{Step}
 use Rattle.maps.specs.Parts.{metBy, mapFrom}
 use Rattle.maps.proofs.Links.{map-list}
 
@@ -89,6 +87,12 @@ module _ {G : Granule} {p : Pool} {a h r : ℕ} {way : List ℕ} (C : Came G p h
         (ap (λ (x : Entry). stop x (r % 4) way) (sym (ap (entryAt G (areaOf (p .numbers)) (r % 4)) z ∙ entry-zero G _ _))
         ∙ came-word C l e)
 
+    -- it ended no higher than the root
+    pub came-left : {w : ℕ} → w ≡ getD (p .words) (r / 4) 0 → r % 4 ≤ p .numbers .levels - 1
+    came-left e =
+        rw (ap (λ (o : Walked). o .left) (came-word C l e))
+        (walk-within G (p .words) (areaOf (p .numbers)) h (pathOf G a) (p .numbers .levels - 1) noWay 0)
+
     -- it ended no lower than the frame's height
     pub came-above : {w : ℕ} → w ≡ getD (p .words) (r / 4) 0 → h ≤ p .numbers .levels - 1 → h ≤ r % 4
     came-above e low =
@@ -131,22 +135,16 @@ module _ (G : Granule) (s : Setup) (ws : List ℕ) (cut : ℕ) (list : List ℕ)
     here-unfit n = rw (le-ltb _ _ l, sym e ∙ not-true _ n)
 
     pub here-done :
-        not r ≡ false
-        → (plan : List Step) {path : List ℕ} {word : ℕ} {w : List ℕ} {own : ℕ} {t : Setup}
-        → path ≡ pathOf G a → word ≡ frameWord b h k
-        → planned plan ≡ mapWrites G (areaOf s) path list h word (getD way (3 - left) 0) (s .free) (left - h)
-        → ((x : List ℕ) → w ≡ performAll G (planned plan) (memory ws x) .words)
+        not r ≡ false → {word : ℕ} {w : List ℕ} {own : ℕ} {t : Setup} → word ≡ frameWord b h k
+        → ((x : List ℕ) → w ≡ performAll G (mapWrites G (areaOf s) (pathOf G a) list h word (getD way (3 - left) 0) (s .free) (left - h)) (memory ws x) .words)
         → own ≡ cut → t ≡ withFree s (s .free - (left - h))
         → done (took (left - h)) (pool t w own list) ≡ hereAt
     unfolding mapHere
-    here-done n plan {path} {word} {w} {own} {t} q m d v u f =
+    here-done n {word} {w} {own} {t} m v u f =
         rw (le-ltb _ _ l, passed e n) (λ i. done (took (left - h)) (pool (f i) (new i) (u i) (same i)))
       where
-        plan-all : planned plan ≡ all
-        plan-all = d ∙ (λ i. mapWrites G (areaOf s) (q i) list h (m i) (getD way (3 - left) 0) (s .free) (left - h))
-
         new : w ≡ performAll G all (memory ws list) .words
-        new = v list ∙ ap (λ (x : List Write). performAll G x (memory ws list) .words) plan-all
+        new = v list ∙ (λ i. performAll G (mapWrites G (areaOf s) (pathOf G a) list h (m i) (getD way (3 - left) 0) (s .free) (left - h)) (memory ws list) .words)
 
         same : list ≡ performAll G all (memory ws list) .list
         same = sym (map-list G (areaOf s) (pathOf G a) list h (frameWord b h k) (getD way (3 - left) 0) (s .free) (left - h) (memory ws list))

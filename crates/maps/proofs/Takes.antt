@@ -61,6 +61,12 @@ module _ (list : List ℕ) (n : ℕ) where
   unfolding mayTake
   take-end seen f k e = rw e
 
+  -- a number above 0 is not among zeros
+  not-zeros : (xs : List ℕ) {c : ℕ} → c ≢ 0 → ((k : ℕ) → getD xs k 0 ≡ 0) → among c xs ≡ false
+  unfolding among
+  not-zeros [] p f = refl
+  not-zeros (x ∷ xs) {c} p f = rw (ne-eqb x c (λ e. p (sym e ∙ f 0))) (not-zeros xs p (λ k. f (suc k)))
+
   -- The loop: `taken` holds the i tables that passed, and zeros; what is left to test answers for all.
   pub record Taking (way : List ℕ) (free need : ℕ) (taken : List ℕ) (i : ℕ) : Type 0 where
     pub few : i ≤ need
@@ -103,6 +109,10 @@ module _ (list : List ℕ) (n : ℕ) where
           taking-twice r =
               let seen : among c (taken ++ way) ≡ true = among-append c taken way ∙ rw r in
               sym (T .same ∙ take-seen (taken ++ way) (free - i) (need - i) (omega arith) at-end (omega arith) q seen)
+
+          -- before the first, none is taken
+          pub taking-first : i ≤ 0 → among c taken ≡ false
+          taking-first l = not-zeros taken p (λ k. T .rest k (omega arith))
 
           pub taking-next : need ≤ 4 → among c way ≡ false → among c taken ≡ false → Taking way free need (set taken i c) (i + 1)
           unfolding among

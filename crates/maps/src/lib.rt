@@ -1,4 +1,4 @@
-// Map. It makes every test first, then plans its single writes, then carries them out.
+// Map. It makes every test first, then its single writes, one after the other.
 use entry::Entry;
 use model::MapAnswer;
 use model::Mapped;
@@ -6,21 +6,22 @@ use path::Setup;
 use plans::Step;
 ghost use mathlib.Core.Path.{_≡_};
 ghost use mathlib.Core.Bool.{true};
-ghost use mathlib.Core.List.{_++_};
-ghost use Prim.Native.Nat.{ℕ, _+_, _-_, _≤_};
+ghost use mathlib.Core.List.{List, _++_};
+ghost use Prim.Native.Nat.{ℕ, _+_, _-_, _*_, _≤_, _<_};
 ghost use lib.ListN.{length};
-ghost use Rattle.path.specs.Geometry.{granuleOf, physical, heightOf};
-ghost use Rattle.path.specs.Areas.{areaAt, areaOf};
-ghost use Rattle.path.specs.Numbers.{goodSetup};
+ghost use Rattle.path.specs.Geometry.{granuleOf, entries, physical, heightOf};
+ghost use Rattle.path.specs.Areas.{areaOf};
+ghost use Rattle.path.specs.Numbers.{mostTables, goodSetup};
+ghost use Rattle.path.specs.Paths.{pathOf};
 ghost use Rattle.entry.specs.Words.{frameWord};
 ghost use Rattle.entry.specs.declared.Entry.the-variants.{Empty};
 ghost use Rattle.model.specs.Answers.{saysMap, refused, pool, mapDid};
-ghost use Rattle.model.specs.Walk.{stop};
-ghost use Rattle.model.specs.Writes.{mapWrites, mayTake};
+ghost use Rattle.model.specs.Walk.{slot, atHeight, stop};
+ghost use Rattle.model.specs.Writes.{memory, performAll, mapWrites, mayTake};
 ghost use Rattle.model.specs.Calls.{mapTests, mapHere, mapW};
 ghost use Rattle.lookup.specs.Walks.{walkBy};
-ghost use Rattle.plans.specs.Plan.{planned};
-ghost use Rattle.maps.specs.Parts.{metBy, mapFrom};
+ghost use Rattle.plans.specs.Plan.{writeOf, IsWrite};
+ghost use Rattle.maps.specs.Parts.{lastTaken, metBy, mapFrom};
 
 // Map's tests 2 to 5 and then 11, or 0, for a size of this height.
 fn map_tests(s: Setup, address: u64, frame: u64, size: u64, height: usize, attributes: u64) -> u64
@@ -70,8 +71,10 @@ fn may_take(list: &[u32], tables: u32, way: [u32; 4], free: usize, need: usize) 
         if pool::among_four(way, c) {
             return false;
         }
-        if pool::among_four(taken, c) {
-            return false;
+        if i > 0 {
+            if pool::among_four(taken, c) {
+                return false;
+            }
         }
         taken[i] = c;
         i += 1;
@@ -79,41 +82,87 @@ fn may_take(list: &[u32], tables: u32, way: [u32; 4], free: usize, need: usize) 
     true
 }
 
-// The writes of a map: each missing table is taken from the end of the free list, top first, filled with zeros and then linked; the frame's word comes
-// last.
-fn map_plan(
+// The place of the entry that is written once k tables are taken: in the last of these; `first`, where the walk ended, while there is none.
+fn map_place(
     granule: u64,
-    base: u64,
-    tables: u16,
-    base2: u64,
-    path: [u16; 4],
     list: &[u32],
+    address: u64,
     height: usize,
-    word: u64,
-    table: u32,
+    first: usize,
     free: usize,
     need: usize,
-) -> [Step; plans::STEPS]
-    requires { ⌜ ((base ≤ physical) × (base2 ≤ physical)) × ((height + need ≤ 3) × (need ≤ free)) ⌝ }
-    ensures { λ r. ⌜ ((m : ℕ) → planned r ≡ mapWrites (granuleOf granule) (areaAt base tables base2 m) path (now (list .entry)) height word table free need) ⌝ }
+    k: usize,
+) -> usize
+    requires { ⌜ (height + need < granuleOf granule .most) × ((k ≤ need) × (need ≤ free)) ⌝ }
+    ensures { λ r. ⌜ ((t : ℕ) → first ≡ slot (granuleOf granule) t (atHeight (pathOf (granuleOf granule) address) (height + need))
+        → r ≡ slot (granuleOf granule) (lastTaken (now (list .entry)) t free k) (atHeight (pathOf (granuleOf granule) address) (need - k + height))) ⌝ }
 {
-    let mut plan = [Step::Nothing; plans::STEPS];
-    let mut t = table;
-    let mut i = 0;
-    while i < need {
-        let c = pool::place(list, free - 1 - i);
-        let at = 3 - (height + need - i);
-        let place = pool::entry_place(granule, t, path[at]);
-        let value = links::table_word(granule, base, tables, base2, c);
-        plan[2 * i] = Step::Wipe { table: c };
-        plan[2 * i + 1] = Step::Store { place, value };
-        t = c;
-        i += 1;
+    if k == 0 {
+        return first;
     }
-    let at = 3 - height;
-    let place = pool::entry_place(granule, t, path[at]);
-    plan[2 * need] = Step::Store { place, value: word };
-    plan
+    let t = pool::place(list, free - k);
+    let i = indices::index_at(granule, address, need - k + height);
+    pool::entry_place(granule, t, i)
+}
+
+// Write i of a map: each missing table is taken from the end of the free list, top first, filled with zeros and then linked; the frame's word comes
+// last.
+fn map_step(
+    s: Setup,
+    list: &[u32],
+    address: u64,
+    height: usize,
+    word: u64,
+    first: usize,
+    need: usize,
+    i: usize,
+) -> Step
+    requires { ⌜ ((s .base ≤ physical) × ((s .base2 ≤ physical) × (s .tables ≤ mostTables))) × ((height + need < granuleOf (s .granule) .most) × ((need ≤ s .free) × (i ≤ 2 * need))) ⌝ }
+    ensures { λ r. ⌜ ((t : ℕ) → first ≡ slot (granuleOf (s .granule)) t (atHeight (pathOf (granuleOf (s .granule)) address) (height + need))
+        → IsWrite (mapWrites (granuleOf (s .granule)) (areaOf s) (pathOf (granuleOf (s .granule)) address) (now (list .entry)) height word t (s .free) need) i (writeOf r)) ⌝ }
+{
+    let k = i / 2;
+    let free = s.free as usize;
+    let place = map_place(s.granule, list, address, height, first, free, need, k);
+    if k == need {
+        return Step::Store { place, value: word };
+    }
+    let c = pool::place(list, free - 1 - k);
+    if i % 2 == 0 {
+        return Step::Wipe { table: c };
+    }
+    let value = links::table_word(s.granule, s.base, s.tables as u16, s.base2, c);
+    Step::Store { place, value }
+}
+
+// The writes of a map, in their order: two for each table, and the frame's word.
+fn map_writes(
+    s: Setup,
+    words: &mut [u64],
+    second: &mut [u64],
+    list: &[u32],
+    address: u64,
+    height: usize,
+    word: u64,
+    first: usize,
+    need: usize,
+)
+    requires { ⌜ ((s .base ≤ physical) × ((s .base2 ≤ physical) × (s .tables ≤ mostTables))) × ((height + need < granuleOf (s .granule) .most) × (need ≤ s .free)) ⌝ }
+    ensures { λ _. ⌜ ((t : ℕ) → first ≡ slot (granuleOf (s .granule)) t (atHeight (pathOf (granuleOf (s .granule)) address) (height + need))
+        → (k : ℕ) → length (now (words .entry)) ≡ entries (granuleOf (s .granule)) * k → (l : List ℕ)
+        → now (words .exit) ++ now (second .exit)
+        ≡ performAll (granuleOf (s .granule)) (mapWrites (granuleOf (s .granule)) (areaOf s) (pathOf (granuleOf (s .granule)) address) (now (list .entry)) height word t (s .free) need) (memory (now (words .entry) ++ now (second .entry)) l) .words) ⌝ }
+{
+    let mut k = 0;
+    while k < need {
+        let fill = map_step(s, list, address, height, word, first, need, 2 * k);
+        plans::step_words(s.granule, words, second, fill);
+        let link = map_step(s, list, address, height, word, first, need, 2 * k + 1);
+        plans::step_words(s.granule, words, second, link);
+        k += 1;
+    }
+    let last = map_step(s, list, address, height, word, first, need, 2 * need);
+    plans::step_words(s.granule, words, second, last);
 }
 
 // A refused map.
@@ -137,8 +186,9 @@ fn map_empty(
     word: u64,
     way: [u32; 4],
     left: usize,
+    place: usize,
 ) -> Mapped
-    requires { ⌜ (goodSetup (granuleOf (s .granule)) s (length (now words)) (length (now words ++ now second)) (length (now list)) ≡ true) × ((height ≤ left) × (left ≤ 3)) ⌝ }
+    requires { ⌜ (goodSetup (granuleOf (s .granule)) s (length (now words)) (length (now words ++ now second)) (length (now list)) ≡ true) × ((height ≤ left) × ((left ≤ s .levels - 1) × (place ≡ slot (granuleOf (s .granule)) (atHeight way left) (atHeight (pathOf (granuleOf (s .granule)) address) left)))) ⌝ }
     ensures { λ r. ⌜ ((b k : ℕ) → word ≡ frameWord b height k
         → mapDid r (now (words .exit)) (now (second .exit)) (now (list .entry))
         ≡ mapHere (granuleOf (s .granule)) (pool s (now (words .entry) ++ now (second .entry)) (length (now (words .entry))) (now (list .entry))) address b height k (stop Empty left way) (left - height)) ⌝ }
@@ -151,22 +201,7 @@ fn map_empty(
     if !may_take(list, (s.tables + s.tables2) as u32, way, free, need) {
         return map_refused(8, s);
     }
-    let path = indices::path_of(s.granule, address);
-    let at = 3 - left;
-    let plan = map_plan(
-        s.granule,
-        s.base,
-        s.tables as u16,
-        s.base2,
-        path,
-        list,
-        height,
-        word,
-        way[at],
-        free,
-        need,
-    );
-    plans::write_words(s.granule, words, second, plan);
+    map_writes(s, words, second, list, address, height, word, place, need);
     let rest = (free - need) as u64;
     Mapped {
         answer: MapAnswer::Taken(need as u64),
@@ -215,7 +250,18 @@ fn map_walk(
         return map_refused(met(s, &words[..], &second[..], height, address), s);
     }
     if left != height {
-        return map_empty(s, words, second, list, address, height, word, way, left);
+        return map_empty(
+            s,
+            words,
+            second,
+            list,
+            address,
+            height,
+            word,
+            way,
+            left,
+            place,
+        );
     }
     pool::put(words, second, place, word);
     Mapped {

@@ -28,8 +28,6 @@ use Rattle.model.specs.Calls.{goodPool, walkTo, unmapTests, unmapHere, unmapAt,
 use Rattle.model.specs.Refusing.{passed}
 use Rattle.lookup.specs.WalkLaws.{walk-within}
 use Rattle.lookup.specs.Reaches.{Came, came-again, came-word}
-use Rattle.plans.specs.Plan.{planned}
-use Rattle.plans.specs.declared.Step.{Step}
 use Rattle.unmaps.proofs.Frees.{freed-stop, freed-more, freed-end}
 
 module _ (G : Granule) (p : Pool) (a : ℕ) {r : Bool} (e : r ≡ goodPool G p) where
@@ -130,31 +128,27 @@ module _ (G : Granule) (s : Setup) (ws : List ℕ) (cut : ℕ) (list : List ℕ)
         rw (eq-eqb _ _ m, f, le-ltb (total (areaOf s) - 1) (s .free + 0) (omega arith), same)
         ((λ i. done (gave b size k 0) (pool s (u i) (v i) list)) ∙ (λ i. done (gave b (z i) k 0) (pool s (set ws (e i) 0) cut list)))
 
-    module _ {path : List ℕ} (q : path ≡ pathOf G a) {given : ℕ} (f : given ≡ freed G ws way (pathOf G a) left (s .levels - 1 - left)) where
+    module _ {given : ℕ} (f : given ≡ freed G ws way (pathOf G a) left (s .levels - 1 - left)) where
       pub there-full : total (areaOf s) - 1 < s .free + given → refuse 8 (pool s ws cut list) ≡ there
       unfolding unmapAt unmapHere
       there-full l = rw (eq-eqb _ _ m, ← f, lt-ltb _ _ l)
 
       pub there-done :
           s .free + given ≤ total (areaOf s) - 1
-          → (plan : List Step) {w x : List ℕ} {own : ℕ} {t : Setup}
-          → planned plan ≡ unmapWrites G way path left (s .free) given
-          → memory w x ≡ performAll G (planned plan) (memory ws list)
+          → {w x : List ℕ} {own : ℕ} {t : Setup}
+          → memory w x ≡ performAll G (unmapWrites G way (pathOf G a) left (s .free) given) (memory ws list)
           → own ≡ cut → t ≡ withFree s (s .free + given)
           → done (gave b size k given) (pool t w own x) ≡ there
       unfolding unmapAt unmapHere
-      there-done l plan {w} {x} {own} {t} d v o u =
-          let new : memory w x ≡ performAll G (unmapWrites G way (pathOf G a) left (s .free) given) (memory ws list) =
-          v ∙ ap (λ (y : List Write). performAll G y (memory ws list)) (d ∙ ap (λ (y : List ℕ). unmapWrites G way y left (s .free) given) q) in
+      there-done l new o u =
           rw (eq-eqb _ _ m, ← f, le-ltb _ _ l) (λ i. done (gave b (z i) k given) (pool (u i) (new i .words) (o i) (new i .list)))
 
 -- the count of the tables that come free, where the first does
 pub freed-first :
-    (G : Granule) (ws way : List ℕ) (a left top : ℕ) {path : List ℕ} {n : ℕ} → path ≡ pathOf G a → left < top
+    (G : Granule) (ws way : List ℕ) (a left top : ℕ) {n : ℕ} → left < top
     → onlyEntry G ws (atHeight way left) (atHeight (pathOf G a) left) ≡ true
-    → n ≡ freed G ws way path (left + 1) (top - (left + 1)) → n + 1 ≡ freed G ws way (pathOf G a) left (top - left)
-freed-first G ws way a left top {path} {n} q l e f =
+    → n ≡ freed G ws way (pathOf G a) (left + 1) (top - (left + 1)) → n + 1 ≡ freed G ws way (pathOf G a) left (top - left)
+freed-first G ws way a left top {n} l e f =
     let d : top - left - 1 ≡ top - (left + 1) = omega arith in
-    let c : n ≡ freed G ws way (pathOf G a) (left + 1) (top - (left + 1)) = f ∙ ap (λ (y : List ℕ). freed G ws way y (left + 1) (top - (left + 1))) q in
     let m = freed-more G ws way (pathOf G a) left (top - left) (omega arith) e in
-    omega (arith, c, rw d at m)
+    omega (arith, f, rw d at m)

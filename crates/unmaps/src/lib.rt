@@ -1,4 +1,4 @@
-// Unmap. It makes every test first, then plans its single writes, then carries them out.
+// Unmap. It makes every test first, then its single writes, one after the other.
 use entry::Entry;
 use model::UnmapAnswer;
 use model::Unmapped;
@@ -16,9 +16,9 @@ ghost use Rattle.path.specs.Numbers.{mostTables, goodSetup};
 ghost use Rattle.entry.specs.declared.Entry.the-variants.{Frame};
 ghost use Rattle.model.specs.Answers.{saysUnmap, refused, hole, pool, unmapDid};
 ghost use Rattle.model.specs.Walk.{slot, atHeight, stop};
-ghost use Rattle.model.specs.Writes.{onlyEntry, freed, unmapWrites};
+ghost use Rattle.model.specs.Writes.{memory, performAll, onlyEntry, freed, unmapWrites};
 ghost use Rattle.model.specs.Calls.{unmapTests, unmapAt, unmapW};
-ghost use Rattle.plans.specs.Plan.{planned};
+ghost use Rattle.plans.specs.Plan.{writeOf, IsWrite};
 
 // Unmap's tests 4 and 5, or 0.
 fn unmap_tests(granule: u64, levels: u64, address: u64) -> u64
@@ -39,20 +39,20 @@ fn count_freed<'a>(
     granule: u64,
     words: &'a [u64],
     second: &'a [u64],
-    way: [u32; 4],
-    path: [u16; 4],
+    way: &[u32; 4],
+    address: u64,
     left: usize,
     top: usize,
 ) -> usize
-    requires { ⌜ (left ≤ top) × (top ≤ 3) ⌝ }
+    requires { ⌜ (left ≤ top) × (top < granuleOf granule .most) ⌝ }
     ensures { λ r. ⌜ ((k : ℕ) → length (now (words .entry)) ≡ entries (granuleOf granule) * k
-        → r ≡ freed (granuleOf granule) (now (words .entry) ++ now (second .entry)) way path left (top - left)) ⌝ }
+        → r ≡ freed (granuleOf granule) (now (words .entry) ++ now (second .entry)) (now (way .entry)) (pathOf (granuleOf granule) address) left (top - left)) ⌝ }
 {
     let mut h = left;
     while h < top {
         let at = 3 - h;
         let t = way[at];
-        let i = path[at];
+        let i = indices::index_at(granule, address, h);
         if !contents::only_entry(granule, words, second, t, i) {
             return h - left;
         }
@@ -61,35 +61,62 @@ fn count_freed<'a>(
     top - left
 }
 
-// The writes of an unmap: the frame's word becomes 0; then, for each table that comes free, its parent's entry becomes 0, and after that the table goes
+// Write i of an unmap: the frame's word becomes 0; then, for each table that comes free, its parent's entry becomes 0, and after that the table goes
 // on the free list.
-fn unmap_plan(
+fn unmap_step(
     granule: u64,
-    way: [u32; 4],
-    path: [u16; 4],
+    way: &[u32; 4],
+    address: u64,
     left: usize,
     free: usize,
     given: usize,
-) -> [Step; plans::STEPS]
-    requires { ⌜ (left + given ≤ 3) × (free ≤ mostTables) ⌝ }
-    ensures { λ r. ⌜ planned r ≡ unmapWrites (granuleOf granule) way path left free given ⌝ }
+    i: usize,
+) -> Step
+    requires { ⌜ (left + given < granuleOf granule .most) × ((free ≤ mostTables) × (i ≤ 2 * given)) ⌝ }
+    ensures { λ r. ⌜ IsWrite (unmapWrites (granuleOf granule) (now (way .entry)) (pathOf (granuleOf granule) address) left free given) i (writeOf r) ⌝ }
 {
-    let mut plan = [Step::Nothing; plans::STEPS];
-    let at = 3 - left;
-    let place = pool::entry_place(granule, way[at], path[at]);
-    plan[0] = Step::Store { place, value: 0 };
+    let height = left + (i + 1) / 2;
+    if i > 0 {
+        if i % 2 == 0 {
+            let at = 3 - (height - 1);
+            let table = way[at];
+            let place = free + (height - left - 1);
+            return Step::Give { place, table };
+        }
+    }
+    let at = 3 - height;
+    let index = indices::index_at(granule, address, height);
+    let place = pool::entry_place(granule, way[at], index);
+    Step::Store { place, value: 0 }
+}
+
+// The writes of an unmap, in their order: the frame's word, and two for each table.
+fn unmap_writes(
+    granule: u64,
+    words: &mut [u64],
+    second: &mut [u64],
+    list: &mut [u32],
+    way: &[u32; 4],
+    address: u64,
+    left: usize,
+    free: usize,
+    given: usize,
+)
+    requires { ⌜ (left + given < granuleOf granule .most) × (free ≤ mostTables) ⌝ }
+    ensures { λ _. ⌜ ((k : ℕ) → length (now (words .entry)) ≡ entries (granuleOf granule) * k
+        → memory (now (words .exit) ++ now (second .exit)) (now (list .exit))
+        ≡ performAll (granuleOf granule) (unmapWrites (granuleOf granule) (now (way .entry)) (pathOf (granuleOf granule) address) left free given) (memory (now (words .entry) ++ now (second .entry)) (now (list .entry)))) ⌝ }
+{
+    let first = unmap_step(granule, way, address, left, free, given, 0);
+    plans::step_all(granule, words, second, list, first);
     let mut k = 0;
     while k < given {
-        let at = 3 - (left + k);
-        let table = way[at];
-        let up = at - 1;
-        let place = pool::entry_place(granule, way[up], path[up]);
-        let next = free + k;
-        plan[2 * k + 1] = Step::Store { place, value: 0 };
-        plan[2 * k + 2] = Step::Give { place: next, table };
+        let unlink = unmap_step(granule, way, address, left, free, given, 2 * k + 1);
+        plans::step_all(granule, words, second, list, unlink);
+        let give = unmap_step(granule, way, address, left, free, given, 2 * k + 2);
+        plans::step_all(granule, words, second, list, give);
         k += 1;
     }
-    plan
 }
 
 // A refused unmap.
@@ -124,24 +151,41 @@ fn unmap_more(
     address: u64,
     frame: u64,
     attributes: u64,
-    way: [u32; 4],
+    way: &[u32; 4],
     left: usize,
 ) -> Unmapped
-    requires { ⌜ (goodSetup (granuleOf (s .granule)) s (length (now words)) (length (now words ++ now second)) (length (now list)) ≡ true) × ((left < s .levels - 1) × ((address % sizeAt (granuleOf (s .granule)) left ≡ 0) × (onlyEntry (granuleOf (s .granule)) (now words ++ now second) (atHeight way left) (atHeight (pathOf (granuleOf (s .granule)) address) left) ≡ true))) ⌝ }
+    requires { ⌜ (goodSetup (granuleOf (s .granule)) s (length (now words)) (length (now words ++ now second)) (length (now list)) ≡ true) × ((left < s .levels - 1) × ((address % sizeAt (granuleOf (s .granule)) left ≡ 0) × (onlyEntry (granuleOf (s .granule)) (now words ++ now second) (atHeight (now way) left) (atHeight (pathOf (granuleOf (s .granule)) address) left) ≡ true))) ⌝ }
     ensures { λ r. ⌜ unmapDid r (now (words .exit)) (now (second .exit)) (now (list .exit))
-        ≡ unmapAt (granuleOf (s .granule)) (pool s (now (words .entry) ++ now (second .entry)) (length (now (words .entry))) (now (list .entry))) address (stop (Frame frame attributes) left way) (Frame frame attributes) ⌝ }
+        ≡ unmapAt (granuleOf (s .granule)) (pool s (now (words .entry) ++ now (second .entry)) (length (now (words .entry))) (now (list .entry))) address (stop (Frame frame attributes) left (now (way .entry))) (Frame frame attributes) ⌝ }
 {
     let size = indices::size_at(s.granule, left);
-    let path = indices::path_of(s.granule, address);
     let top = (s.levels - 1) as usize;
-    let given = count_freed(s.granule, &words[..], &second[..], way, path, left + 1, top) + 1;
+    let given = count_freed(
+        s.granule,
+        &words[..],
+        &second[..],
+        way,
+        address,
+        left + 1,
+        top,
+    )
+        + 1;
     let free = s.free + given as u64;
     let most = s.tables + s.tables2 - 1;
     if free > most {
         return unmap_refused(8, s);
     }
-    let plan = unmap_plan(s.granule, way, path, left, s.free as usize, given);
-    plans::write_all(s.granule, words, second, list, plan);
+    unmap_writes(
+        s.granule,
+        words,
+        second,
+        list,
+        way,
+        address,
+        left,
+        s.free as usize,
+        given,
+    );
     Unmapped {
         answer: UnmapAnswer::Given {
             frame,
@@ -183,13 +227,13 @@ fn unmap_frame(
     address: u64,
     frame: u64,
     attributes: u64,
-    way: [u32; 4],
+    way: &[u32; 4],
     left: usize,
     place: usize,
 ) -> Unmapped
-    requires { ⌜ (goodSetup (granuleOf (s .granule)) s (length (now words)) (length (now words ++ now second)) (length (now list)) ≡ true) × ((left ≤ s .levels - 1) × ((place < length (now words ++ now second)) × (place ≡ slot (granuleOf (s .granule)) (atHeight way left) (atHeight (pathOf (granuleOf (s .granule)) address) left)))) ⌝ }
+    requires { ⌜ (goodSetup (granuleOf (s .granule)) s (length (now words)) (length (now words ++ now second)) (length (now list)) ≡ true) × ((left ≤ s .levels - 1) × ((place < length (now words ++ now second)) × (place ≡ slot (granuleOf (s .granule)) (atHeight (now way) left) (atHeight (pathOf (granuleOf (s .granule)) address) left)))) ⌝ }
     ensures { λ r. ⌜ unmapDid r (now (words .exit)) (now (second .exit)) (now (list .exit))
-        ≡ unmapAt (granuleOf (s .granule)) (pool s (now (words .entry) ++ now (second .entry)) (length (now (words .entry))) (now (list .entry))) address (stop (Frame frame attributes) left way) (Frame frame attributes) ⌝ }
+        ≡ unmapAt (granuleOf (s .granule)) (pool s (now (words .entry) ++ now (second .entry)) (length (now (words .entry))) (now (list .entry))) address (stop (Frame frame attributes) left (now (way .entry))) (Frame frame attributes) ⌝ }
 {
     if indices::rest_at(s.granule, address, left) != 0 {
         return unmap_refused(10, s);
@@ -259,7 +303,7 @@ pub fn unmap(
             address,
             base,
             attributes,
-            way,
+            &way,
             left,
             place,
         ),

@@ -1,11 +1,14 @@
--- `maps::map_empty`: the tests of the free list, then the plan and its writes.
-use mathlib.Core.Path.{_∙_}
+-- `maps::map_empty`: the tests of the free list, then the writes.
+use Prim.Native.Nat.{ℕ, _+_, _-_}
+use mathlib.Core.Path.{_≡_, ap, _∙_}
 use mathlib.Core.List.{_++_}
 use lib.ListN.{length}
 use native.Mathlib.Omega.{arith}
 use borrow.Author.Needs.{needs}
 use Rattle.path.specs.Geometry.{granuleOf}
-use Rattle.path.specs.Laws.{good-setup}
+use Rattle.path.specs.Paths.{pathOf}
+use Rattle.path.specs.Laws.{granule-sane, good-setup}
+use Rattle.model.specs.Walk.{slot, atHeight}
 use Rattle.model.specs.Refusing.{refusing}
 use Rattle.maps.proofs.Maps.{here-short, here-unfit, here-done}
 use Rattle.maps.proofs.map_empty.Statement.{statement}
@@ -21,7 +24,7 @@ returns : tie.Need-returns
 returns c b k e =
     let a = c .before .before .before .before .before .args in
     refusing (a .words .now ++ a .second .now) (length (a .words .now)) (a .list .now) (c .map-refused .ensures)
-    ∙ here-short (granuleOf (a .s .granule)) (a .s) (a .words .now ++ a .second .now) (length (a .words .now)) (a .list .now) (a .address) b (a .height) k (a .left) (a .t8) (c .before .if1 .taken)
+    ∙ here-short (granuleOf (a .s .granule)) (a .s) (a .words .now ++ a .second .now) (length (a .words .now)) (a .list .now) (a .address) b (a .height) k (a .left) (a .way) (c .before .if1 .taken)
 
 add-may-take : tie.Need-add-may-take
 add-may-take c = omega (arith, good-setup (c .before .before .before .before .before .pre .0))
@@ -30,7 +33,7 @@ cast-may-take : tie.Need-cast-may-take
 cast-may-take c = omega (arith, good-setup (c .before .before .before .before .before .pre .0))
 
 may-take-requires : tie.Need-may-take-requires
-may-take-requires c κs = search needs
+may-take-requires c κs = omega (arith, granule-sane (c .before .before .before .before .before .args .s .granule), good-setup (c .before .before .before .before .before .pre .0))
 
 map-refused-requires-2 : tie.Need-map-refused-requires-2
 map-refused-requires-2 c κs = search needs
@@ -39,28 +42,10 @@ returns-2 : tie.Need-returns-2
 returns-2 c b k e =
     let a = c .before .before .before .before .before .before .before .before .args in
     refusing (a .words .now ++ a .second .now) (length (a .words .now)) (a .list .now) (c .map-refused2 .ensures)
-    ∙ here-unfit (granuleOf (a .s .granule)) (a .s) (a .words .now ++ a .second .now) (length (a .words .now)) (a .list .now) (a .address) b (a .height) k (a .left) (a .t8) (c .before .before .before .before .if1 .left) (c .before .before .may-take .ensures) (c .before .if2 .taken)
+    ∙ here-unfit (granuleOf (a .s .granule)) (a .s) (a .words .now ++ a .second .now) (length (a .words .now)) (a .list .now) (a .address) b (a .height) k (a .left) (a .way) (c .before .before .before .before .if1 .left) (c .before .before .may-take .ensures) (c .before .if2 .taken)
 
-path-of-requires : tie.Need-path-of-requires
-path-of-requires c κs = search needs
-
-sub-at : tie.Need-sub-at
-sub-at c = omega arith
-
-cast-map-plan : tie.Need-cast-map-plan
-cast-map-plan c = omega (arith, good-setup (c .before .before .before .before .before .before .before .before .before .pre .0))
-
-mul-map-plan : tie.Need-mul-map-plan
-mul-map-plan c = omega arith
-
-array-read-map-plan : tie.Need-array-read-map-plan
-array-read-map-plan c = omega arith
-
-map-plan-requires : tie.Need-map-plan-requires
-map-plan-requires c κs = omega (arith, good-setup (c .before .before .before .before .before .before .before .before .before .pre .0))
-
-write-words-requires : tie.Need-write-words-requires
-write-words-requires c κs = search needs
+map-writes-requires : tie.Need-map-writes-requires
+map-writes-requires c κs = omega (arith, granule-sane (c .before .before .before .before .before .before .before .before .before .args .s .granule), good-setup (c .before .before .before .before .before .before .before .before .before .pre .0))
 
 with-free-requires : tie.Need-with-free-requires
 with-free-requires c κs = search needs
@@ -73,17 +58,17 @@ same-length-2 c = search needs
 
 returns-3 : tie.Need-returns-3
 returns-3 c b k e =
-    let a = c .before .before .before .before .before .before .before .before .before .before .before .before .before .before .before .before .before .before .args in
-    here-done (granuleOf (a .s .granule)) (a .s) (a .words .now ++ a .second .now) (length (a .words .now)) (a .list .now) (a .address) b (a .height) k (a .left) (a .t8)
-    (c .before .before .before .before .before .before .before .before .before .before .before .before .before .before .if1 .left)
-    (c .before .before .before .before .before .before .before .before .before .before .before .before .may-take .ensures)
-    (c .before .before .before .before .before .before .before .before .before .before .before .if2 .left)
-    (c .before .before .before .before .before .before .before .before .map-plan .result)
-    (c .before .before .before .before .before .before .before .before .before .before .path-of .ensures)
+    let a = c .before .before .before .before .before .before .before .before .before .before .before .before .before .before .before .args in
+    let pre = c .before .before .before .before .before .before .before .before .before .before .before .before .before .before .before .pre in
+    let writes = c .before .before .before .before .before .map-writes in
+    let all : a .left ≡ a .height + (a .left - a .height) = omega arith in
+    here-done (granuleOf (a .s .granule)) (a .s) (a .words .now ++ a .second .now) (length (a .words .now)) (a .list .now) (a .address) b (a .height) k (a .left) (a .way)
+    (c .before .before .before .before .before .before .before .before .before .before .before .if1 .left)
+    (c .before .before .before .before .before .before .before .before .before .may-take .ensures)
+    (c .before .before .before .before .before .before .before .before .if2 .left)
     e
-    (c .before .before .before .before .before .before .before .before .map-plan .ensures _)
-    (c .before .before .before .before .before .write-words .ensures (a .s .tables) (good-setup (c .before .before .before .before .before .before .before .before .before .before .before .before .before .before .before .before .before .before .pre .0) .numbers .cut-is))
-    (c .before .before .before .before .before .write-words .kept .1 .0)
+    (writes .ensures (atHeight (a .way) (a .left)) (pre .1 .1 .1 ∙ ap (λ (h : ℕ). slot (granuleOf (a .s .granule)) (atHeight (a .way) (a .left)) (atHeight (pathOf (granuleOf (a .s .granule)) (a .address)) h)) all) (a .s .tables) (good-setup (pre .0) .numbers .cut-is))
+    (writes .kept .1 .0)
     (c .with-free .ensures)
 
 pub map-empty-spec : {M : Type 1} → statement M
@@ -98,13 +83,7 @@ map-empty-spec =
     may-take-requires
     map-refused-requires-2
     returns-2
-    path-of-requires
-    sub-at
-    cast-map-plan
-    mul-map-plan
-    array-read-map-plan
-    map-plan-requires
-    write-words-requires
+    map-writes-requires
     with-free-requires
     same-length
     same-length-2

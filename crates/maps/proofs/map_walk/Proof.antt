@@ -1,5 +1,5 @@
 -- `maps::map_walk`: by where the walk ended.
-use Prim.Native.Nat.{_%_, _/_}
+use Prim.Native.Nat.{_%_, _/_, _<_}
 use mathlib.Core.Path.{refl, ap, _∙_}
 use mathlib.Core.List.{_++_}
 use lib.ListN.{length, length-append}
@@ -13,7 +13,7 @@ use Rattle.model.specs.Refusing.{refusing}
 use Rattle.lookup.specs.WalkLaws.{walk-good}
 use Rattle.lookup.specs.Reaches.{reach-good, Came}
 use Rattle.maps.specs.Parts.{metBy}
-use Rattle.maps.proofs.Maps.{came-past, came-met, came-above, came-empty, came-here}
+use Rattle.maps.proofs.Maps.{came-past, came-met, came-left, came-above, came-empty, came-here}
 use Rattle.maps.proofs.map_walk.Statement.{statement}
 use Rattle.maps.proofs.map_walk.Tie as tie
 
@@ -77,8 +77,11 @@ returns-2 c b k e =
 map-empty-requires : tie.Need-map-empty-requires
 map-empty-requires c κs =
     let a = c .before .before .before .before .before .before .before .before .before .before .before .before .before .before .before .args in
+    let pre = c .before .before .before .before .before .before .before .before .before .before .before .before .before .before .before .pre in
     let C = came (c .before .before .before .before .before .before .before .before) in
-    (c .before .before .before .before .before .before .before .before .before .before .before .before .before .before .before .pre .0, (came-above C 0 0 (omega (arith, length-append (a .words .now) (a .second .now), c .before .before .before .before .before .before .before .if1 .left)) (c .before .before .before .before .word .ensures) (omega (arith, granule-sane (a .s .granule), good-setup (c .before .before .before .before .before .before .before .before .before .before .before .before .before .before .before .pre .0))), omega arith))
+    let inside : c .before .before .before .before .before .before .before .before .reach .result / 4 < length (a .words .now ++ a .second .now) = omega (arith, length-append (a .words .now) (a .second .now), c .before .before .before .before .before .before .before .if1 .left) in
+    let word = c .before .before .before .before .word .ensures in
+    (pre .0, (came-above C 0 0 inside word (omega (arith, granule-sane (a .s .granule), good-setup (pre .0))), (came-left C 0 0 inside word, C .place inside)))
 
 same-length-5 : tie.Need-same-length-5
 same-length-5 c = search needs

@@ -1,9 +1,10 @@
 -- `maps::may_take`: what is left to test answers for all.
 use Prim.Native.Nat.{_-_}
 use mathlib.Core.Path.{sym, _∙_}
+use mathlib.Core.Logic.{⊎-elim}
 use native.Mathlib.Omega.{arith}
 use borrow.Author.Needs.{needs}
-use Rattle.maps.proofs.Takes.{Taking, taking-start, taking-end, taking-none, taking-out, taking-way, taking-twice, taking-next}
+use Rattle.maps.proofs.Takes.{Taking, taking-start, taking-end, taking-none, taking-out, taking-way, taking-twice, taking-first, taking-next}
 use Rattle.maps.proofs.may_take.Statement.{statement}
 use Rattle.maps.proofs.may_take.Tie as tie
 
@@ -51,9 +52,9 @@ among-four-requires-2 c κs = search needs
 
 returns-4 : tie.Need-returns-4 Inv-loop μ-loop
 returns-4 c =
-    let a = c .before .before .before .before .before .before .before .before .before .before .args in
-    let l = c .before .before .before .before .before .before .before .before .loop in
-    taking-twice (a .list .now) (a .tables) (l .inv) (c .before .before .before .before .before .before .before .loop-test .taken) (c .before .before .before .before .before .before .place .ensures) (c .before .before .before .before .before .if1 .left) (c .before .before .before .before .if2 .left) (sym (c .before .among-four2 .ensures) ∙ c .if4 .taken)
+    let a = c .before .before .before .before .before .before .before .before .before .before .before .args in
+    let l = c .before .before .before .before .before .before .before .before .before .loop in
+    taking-twice (a .list .now) (a .tables) (l .inv) (c .before .before .before .before .before .before .before .before .loop-test .taken) (c .before .before .before .before .before .before .before .place .ensures) (c .before .before .before .before .before .before .if1 .left) (c .before .before .before .before .before .if2 .left) (sym (c .before .among-four2 .ensures) ∙ c .if5 .taken)
 
 mul-taken : tie.Need-mul-taken Inv-loop μ-loop
 mul-taken c = omega arith
@@ -69,9 +70,14 @@ loop-less c = omega arith
 
 loop-again : tie.Need-loop-again Inv-loop μ-loop
 loop-again c =
-    let a = c .before .before .before .before .before .before .before .before .before .before .args in
-    let l = c .before .before .before .before .before .before .before .before .loop in
-    taking-next (a .list .now) (a .tables) (l .inv) (c .before .before .before .before .before .before .before .loop-test .taken) (c .before .before .before .before .before .before .place .ensures) (c .before .before .before .before .before .if1 .left) (c .before .before .before .before .if2 .left) (omega arith) (sym (c .before .before .before .among-four .ensures) ∙ c .before .before .if3 .left) (sym (c .before .among-four2 .ensures) ∙ c .if4 .left)
+    let a = c .before .before .before .before .before .before .before .before .before .args in
+    let l = c .before .before .before .before .before .before .before .loop in
+    let h = c .before .before .before .before .before .before .loop-test .taken in
+    let e = c .before .before .before .before .before .place .ensures in
+    let p = c .before .before .before .before .if1 .left in
+    let q = c .before .before .before .if2 .left in
+    taking-next (a .list .now) (a .tables) (l .inv) h e p q (omega arith) (sym (c .before .before .among-four .ensures) ∙ c .before .if3 .left)
+    (⊎-elim (λ way. sym (way .1 .ensures) ∙ way .2 .left) (λ way. taking-first (a .list .now) (a .tables) (l .inv) h e p q (way .left)) (c .if4 .came))
 
 returns-5 : tie.Need-returns-5 Inv-loop μ-loop
 returns-5 c =

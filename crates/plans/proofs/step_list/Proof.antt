@@ -1,9 +1,9 @@
 -- `plans::step_list`: by cases of the step.
 use mathlib.Core.Path.{sym, ap, _∙_}
 use borrow.Author.Needs.{needs}
-use Rattle.model.specs.Writes.{memory, performAll}
+use Rattle.model.specs.Writes.{memory, perform}
 use Rattle.plans.specs.declared.Step.{Step}
-use Rattle.plans.specs.Plan.{writes}
+use Rattle.plans.specs.Plan.{writeOf}
 use Rattle.plans.proofs.step_list.Statement.{statement}
 use Rattle.plans.proofs.step_list.Tie as tie
 
@@ -19,35 +19,23 @@ enum-told c = search needs
 enum-told-2 : tie.Need-enum-told-2
 enum-told-2 c = search needs
 
-enum-told-3 : tie.Need-enum-told-3
-enum-told-3 c = search needs
-
 same-length : tie.Need-same-length
 same-length c = search needs
 
 returns : tie.Need-returns
-unfolding performAll
 returns c =
     let a = c .before .before .before .before .before .before .before .before .args in
-    λ G l. c .before .before .give .ensures ∙ ap (λ (s : Step). performAll G (writes s) (memory l (a .list .now)) .list) (sym (c .before .before .before .before .before .s .given .1))
+    λ G l. c .before .before .give .ensures ∙ ap (λ (s : Step). perform G (writeOf s) (memory l (a .list .now)) .list) (sym (c .before .before .before .before .before .s .given .1))
 
 returns-2 : tie.Need-returns-2
-unfolding performAll
 returns-2 c =
     let a = c .before .before .before .args in
-    λ G l. ap (λ (s : Step). performAll G (writes s) (memory l (a .list .now)) .list) (sym (c .enum-told .given .1))
+    λ G l. ap (λ (s : Step). perform G (writeOf s) (memory l (a .list .now)) .list) (sym (c .enum-told .given .1))
 
 returns-3 : tie.Need-returns-3
-unfolding performAll
 returns-3 c =
     let a = c .before .before .before .args in
-    λ G l. ap (λ (s : Step). performAll G (writes s) (memory l (a .list .now)) .list) (sym (c .enum-told2 .given .1))
-
-returns-4 : tie.Need-returns-4
-unfolding performAll
-returns-4 c =
-    let a = c .before .before .before .args in
-    λ G l. ap (λ (s : Step). performAll G (writes s) (memory l (a .list .now)) .list) (sym (c .enum-told3 .given .1))
+    λ G l. ap (λ (s : Step). perform G (writeOf s) (memory l (a .list .now)) .list) (sym (c .enum-told2 .given .1))
 
 pub step-list-spec : {M : Type 1} → statement M
 step-list-spec =
@@ -57,9 +45,7 @@ step-list-spec =
     give-requires
     enum-told
     enum-told-2
-    enum-told-3
     same-length
     returns
     returns-2
-    returns-3
-    returns-4)
+    returns-3)

@@ -3,9 +3,9 @@ use mathlib.Core.Path.{sym, ap, _∙_}
 use mathlib.Core.List.{_++_}
 use borrow.Author.Needs.{needs}
 use Rattle.path.specs.Geometry.{granuleOf}
-use Rattle.model.specs.Writes.{memory, performAll}
+use Rattle.model.specs.Writes.{memory, perform}
 use Rattle.plans.specs.declared.Step.{Step}
-use Rattle.plans.specs.Plan.{writes}
+use Rattle.plans.specs.Plan.{writeOf}
 use Rattle.plans.proofs.step_words.Statement.{statement}
 use Rattle.plans.proofs.step_words.Tie as tie
 
@@ -24,9 +24,6 @@ wipe-requires c κs = search needs
 enum-told : tie.Need-enum-told
 enum-told c = search needs
 
-enum-told-2 : tie.Need-enum-told-2
-enum-told-2 c = search needs
-
 same-length : tie.Need-same-length
 same-length c = search needs
 
@@ -34,10 +31,9 @@ same-length-2 : tie.Need-same-length-2
 same-length-2 c = search needs
 
 returns : tie.Need-returns
-unfolding performAll
 returns c =
     let a = c .before .before .before .before .before .before .before .before .before .before .before .before .args in
-    λ k e l. c .before .before .before .before .put .ensures ∙ ap (λ (s : Step). performAll (granuleOf (a .granule)) (writes s) (memory (a .words .now ++ a .second .now) l) .words) (sym (c .before .before .before .before .before .before .before .before .s .given .1))
+    λ k e l. c .before .before .before .before .put .ensures ∙ ap (λ (s : Step). perform (granuleOf (a .granule)) (writeOf s) (memory (a .words .now ++ a .second .now) l) .words) (sym (c .before .before .before .before .before .before .before .before .s .given .1))
 
 same-length-3 : tie.Need-same-length-3
 same-length-3 c = search needs
@@ -46,22 +42,14 @@ same-length-4 : tie.Need-same-length-4
 same-length-4 c = search needs
 
 returns-2 : tie.Need-returns-2
-unfolding performAll
 returns-2 c =
     let a = c .before .before .before .before .before .before .before .before .before .before .before .before .args in
-    λ k e l. c .before .before .before .before .wipe .ensures k e ∙ ap (λ (s : Step). performAll (granuleOf (a .granule)) (writes s) (memory (a .words .now ++ a .second .now) l) .words) (sym (c .before .before .before .before .before .before .before .before .s2 .given .1))
+    λ k e l. c .before .before .before .before .wipe .ensures k e ∙ ap (λ (s : Step). perform (granuleOf (a .granule)) (writeOf s) (memory (a .words .now ++ a .second .now) l) .words) (sym (c .before .before .before .before .before .before .before .before .s2 .given .1))
 
 returns-3 : tie.Need-returns-3
-unfolding performAll
 returns-3 c =
     let a = c .before .before .before .before .args in
-    λ k e l. ap (λ (s : Step). performAll (granuleOf (a .granule)) (writes s) (memory (a .words .now ++ a .second .now) l) .words) (sym (c .enum-told .given .1))
-
-returns-4 : tie.Need-returns-4
-unfolding performAll
-returns-4 c =
-    let a = c .before .before .before .before .args in
-    λ k e l. ap (λ (s : Step). performAll (granuleOf (a .granule)) (writes s) (memory (a .words .now ++ a .second .now) l) .words) (sym (c .enum-told2 .given .1))
+    λ k e l. ap (λ (s : Step). perform (granuleOf (a .granule)) (writeOf s) (memory (a .words .now ++ a .second .now) l) .words) (sym (c .enum-told .given .1))
 
 pub step-words-spec : {M : Type 1} → statement M
 step-words-spec =
@@ -72,12 +60,10 @@ step-words-spec =
     enum-known-s-2
     wipe-requires
     enum-told
-    enum-told-2
     same-length
     same-length-2
     returns
     same-length-3
     same-length-4
     returns-2
-    returns-3
-    returns-4)
+    returns-3)

@@ -105,8 +105,8 @@ enum-known-e c = search needs
 
 unmap-frame-requires : tie.Need-unmap-frame-requires
 unmap-frame-requires c κs =
-    let k = came (c .before .before .before .before .before .before .before .before .before .before .before .before .before) in
-    (good (c .before .before .before .before .before .before .before .before .before .before .before .before .before .before .before .before .before .before .before), (came-left (good (c .before .before .before .before .before .before .before .before .before .before .before .before .before .before .before .before .before .before .before)) (tests (c .before .before .before .before .before .before .before .before .before .before .before .before .before .before .before .before .before)) k (inside (c .before .before .before .before .before .before .before .before .before .before .before .before)), (inside (c .before .before .before .before .before .before .before .before .before .before .before .before), k .place (inside (c .before .before .before .before .before .before .before .before .before .before .before .before)))))
+    let k = came (c .before .before .before .before .before .before .before .before .before .before .before .before .before .before) in
+    (good (c .before .before .before .before .before .before .before .before .before .before .before .before .before .before .before .before .before .before .before .before), (came-left (good (c .before .before .before .before .before .before .before .before .before .before .before .before .before .before .before .before .before .before .before .before)) (tests (c .before .before .before .before .before .before .before .before .before .before .before .before .before .before .before .before .before .before)) k (inside (c .before .before .before .before .before .before .before .before .before .before .before .before .before)), (inside (c .before .before .before .before .before .before .before .before .before .before .before .before .before), k .place (inside (c .before .before .before .before .before .before .before .before .before .before .before .before .before)))))
 
 enum-told : tie.Need-enum-told
 enum-told c = search needs
@@ -138,7 +138,7 @@ same-length-5 c = search needs
 returns-4 : tie.Need-returns-4
 returns-4 c =
     c .before .before .before .before .before .before .unmap-frame .ensures
-    ∙ came-at (good (c .before .before .before .before .before .before .before .before .before .before .before .before .before .before .before .before .before .before .before .before .before .before .before .before .before .before)) (tests (c .before .before .before .before .before .before .before .before .before .before .before .before .before .before .before .before .before .before .before .before .before .before .before .before)) (came (c .before .before .before .before .before .before .before .before .before .before .before .before .before .before .before .before .before .before .before .before)) (inside (c .before .before .before .before .before .before .before .before .before .before .before .before .before .before .before .before .before .before .before)) (c .before .before .before .before .before .before .before .before .before .before .before .before .before .before .before .before .word .ensures) (c .before .before .before .before .before .before .before .before .before .before .before .before .before .read-word .ensures) (c .before .before .before .before .before .before .before .before .before .before .before .e .given .1)
+    ∙ came-at (good (c .before .before .before .before .before .before .before .before .before .before .before .before .before .before .before .before .before .before .before .before .before .before .before .before .before .before .before)) (tests (c .before .before .before .before .before .before .before .before .before .before .before .before .before .before .before .before .before .before .before .before .before .before .before .before .before)) (came (c .before .before .before .before .before .before .before .before .before .before .before .before .before .before .before .before .before .before .before .before .before)) (inside (c .before .before .before .before .before .before .before .before .before .before .before .before .before .before .before .before .before .before .before .before)) (c .before .before .before .before .before .before .before .before .before .before .before .before .before .before .before .before .before .word .ensures) (c .before .before .before .before .before .before .before .before .before .before .before .before .before .before .read-word .ensures) (c .before .before .before .before .before .before .before .before .before .before .before .before .e .given .1)
 
 same-length-6 : tie.Need-same-length-6
 same-length-6 c = search needs

@@ -24,7 +24,7 @@ returns : tie.Need-returns
 returns c =
     let a = c .before .before .before .before .before .before .args in
     let g = good-setup (c .before .before .before .before .before .before .pre .0) in
-    refusing (a .words .now ++ a .second .now) (length (a .words .now)) (a .list .now) (c .unmap-refused .ensures) ∙ there-inside (granuleOf (a .s .granule)) (a .s) (a .words .now ++ a .second .now) (length (a .words .now)) (a .list .now) (a .address) (a .frame) (a .attributes) (a .left) (a .way) (rest-known (granule-sane (a .s .granule)) g (c .before .before .before .before .before .before .pre .1 .0) (a .address) (c .before .before .rest-at .ensures)) (c .before .if1 .taken)
+    refusing (a .words .now ++ a .second .now) (length (a .words .now)) (a .list .now) (c .unmap-refused .ensures) ∙ there-inside (granuleOf (a .s .granule)) (a .s) (a .words .now ++ a .second .now) (length (a .words .now)) (a .list .now) (a .address) (a .frame) (a .attributes) (a .left) (a .way .now) (rest-known (granule-sane (a .s .granule)) g (c .before .before .before .before .before .before .pre .1 .0) (a .address) (c .before .before .rest-at .ensures)) (c .before .if1 .taken)
 
 sub-top : tie.Need-sub-top
 sub-top c =
@@ -41,7 +41,7 @@ unmap-more-requires : tie.Need-unmap-more-requires
 unmap-more-requires c κs =
     let a = c .before .before .before .before .before .before .before .before .before .before .before .before .before .args in
     let g = good-setup (c .before .before .before .before .before .before .before .before .before .before .before .before .before .pre .0) in
-    let w = place-parts (granuleOf (a .s .granule)) (a .way) (a .address) (a .left) (c .before .before .before .before .before .before .before .before .before .before .before .before .before .pre .1 .1 .1) in
+    let w = place-parts (granuleOf (a .s .granule)) (a .way .now) (a .address) (a .left) (c .before .before .before .before .before .before .before .before .before .before .before .before .before .pre .1 .1 .1) in
     let x = stays-not (granuleOf (a .s .granule)) (a .words .now ++ a .second .now) (a .left) (a .s .levels - 1) _ _ (c .before .before .before .before .stays .ensures (a .s .tables) (g .numbers .cut-is)) (c .before .before .before .if2 .taken) in
     (c .before .before .before .before .before .before .before .before .before .before .before .before .before .pre .0, (x .0, (sym (rest-known (granule-sane (a .s .granule)) g (c .before .before .before .before .before .before .before .before .before .before .before .before .before .pre .1 .0) (a .address) (c .before .before .before .before .before .before .before .before .before .rest-at .ensures)) ∙ c .before .before .before .before .before .before .before .before .if1 .left, rw (← w .0, ← w .1) (x .1))))
 
@@ -73,9 +73,9 @@ returns-3 : tie.Need-returns-3
 returns-3 c =
     let a = c .before .before .before .before .before .before .before .before .before .before .before .before .before .before .before .before .before .before .args in
     let g = good-setup (c .before .before .before .before .before .before .before .before .before .before .before .before .before .before .before .before .before .before .pre .0) in
-    let w = place-parts (granuleOf (a .s .granule)) (a .way) (a .address) (a .left) (c .before .before .before .before .before .before .before .before .before .before .before .before .before .before .before .before .before .before .pre .1 .1 .1) in
-    there-one (granuleOf (a .s .granule)) (a .s) (a .words .now ++ a .second .now) (length (a .words .now)) (a .list .now) (a .address) (a .frame) (a .attributes) (a .left) (a .way) (sym (rest-known (granule-sane (a .s .granule)) g (c .before .before .before .before .before .before .before .before .before .before .before .before .before .before .before .before .before .before .pre .1 .0) (a .address) (c .before .before .before .before .before .before .before .before .before .before .before .before .before .before .rest-at .ensures)) ∙ c .before .before .before .before .before .before .before .before .before .before .before .before .before .if1 .left) (size-known (granule-sane (a .s .granule)) g (c .before .before .before .before .before .before .before .before .before .before .before .before .before .before .before .before .before .before .pre .1 .0) (c .size-at .ensures))
-    (stays-none (granuleOf (a .s .granule)) (a .words .now ++ a .second .now) (a .way) (pathOf (granuleOf (a .s .granule)) (a .address)) (a .left) (a .s .levels - 1) (w .0) (w .1) (c .before .before .before .before .before .before .before .before .before .stays .ensures (a .s .tables) (g .numbers .cut-is)) (c .before .before .before .before .before .before .before .before .if2 .left))
+    let w = place-parts (granuleOf (a .s .granule)) (a .way .now) (a .address) (a .left) (c .before .before .before .before .before .before .before .before .before .before .before .before .before .before .before .before .before .before .pre .1 .1 .1) in
+    there-one (granuleOf (a .s .granule)) (a .s) (a .words .now ++ a .second .now) (length (a .words .now)) (a .list .now) (a .address) (a .frame) (a .attributes) (a .left) (a .way .now) (sym (rest-known (granule-sane (a .s .granule)) g (c .before .before .before .before .before .before .before .before .before .before .before .before .before .before .before .before .before .before .pre .1 .0) (a .address) (c .before .before .before .before .before .before .before .before .before .before .before .before .before .before .rest-at .ensures)) ∙ c .before .before .before .before .before .before .before .before .before .before .before .before .before .if1 .left) (size-known (granule-sane (a .s .granule)) g (c .before .before .before .before .before .before .before .before .before .before .before .before .before .before .before .before .before .before .pre .1 .0) (c .size-at .ensures))
+    (stays-none (granuleOf (a .s .granule)) (a .words .now ++ a .second .now) (a .way .now) (pathOf (granuleOf (a .s .granule)) (a .address)) (a .left) (a .s .levels - 1) (w .0) (w .1) (c .before .before .before .before .before .before .before .before .before .stays .ensures (a .s .tables) (g .numbers .cut-is)) (c .before .before .before .before .before .before .before .before .if2 .left))
     (omega (arith, g))
     (c .before .before .before .before .before .before .before .before .before .before .before .before .before .before .before .before .before .before .pre .1 .1 .1)
     (c .before .before .before .before .before .put .ensures) (c .before .before .before .before .before .put .kept .0)

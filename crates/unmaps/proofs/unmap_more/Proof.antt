@@ -1,4 +1,4 @@
--- `unmaps::unmap_more`: the count of the tables that come free, then the plan and its writes.
+-- `unmaps::unmap_more`: the count of the tables that come free, then the writes.
 use Prim.Native.Nat.{_+_, _-_}
 use mathlib.Core.Path.{_∙_}
 use mathlib.Core.List.{_++_}
@@ -6,6 +6,7 @@ use lib.ListN.{length}
 use native.Mathlib.Omega.{arith}
 use borrow.Author.Needs.{needs}
 use Rattle.path.specs.Geometry.{granuleOf}
+use Rattle.path.specs.Paths.{pathOf}
 use Rattle.path.specs.Laws.{granule-sane, good-setup}
 use Rattle.model.specs.Refusing.{refusing}
 use Rattle.unmaps.proofs.Frees.{freed-most}
@@ -16,43 +17,44 @@ use Rattle.unmaps.proofs.unmap_more.Tie as tie
 size-at-requires : tie.Need-size-at-requires
 size-at-requires c κs = search needs
 
-path-of-requires : tie.Need-path-of-requires
-path-of-requires c κs = search needs
-
 sub-top : tie.Need-sub-top
 sub-top c =
-    let g = good-setup (c .before .before .before .before .before .before .pre .0) in
-    omega (arith, granule-sane (c .before .before .before .before .before .before .args .s .granule), g, c .before .before .before .before .before .before .pre .1 .0)
+    let a = c .before .before .before .before .before .args in
+    let g = good-setup (c .before .before .before .before .before .pre .0) in
+    omega (arith, granule-sane (a .s .granule), g, c .before .before .before .before .before .pre .1 .0)
 
 add-count-freed : tie.Need-add-count-freed
 add-count-freed c =
-    let g = good-setup (c .before .before .before .before .before .before .before .before .pre .0) in
-    omega (arith, granule-sane (c .before .before .before .before .before .before .before .before .args .s .granule), g, c .before .before .before .before .before .before .before .before .pre .1 .0)
+    let a = c .before .before .before .before .before .before .before .args in
+    let g = good-setup (c .before .before .before .before .before .before .before .pre .0) in
+    omega (arith, granule-sane (a .s .granule), g, c .before .before .before .before .before .before .before .pre .1 .0)
 
 count-freed-requires : tie.Need-count-freed-requires
 count-freed-requires c κs =
-    let g = good-setup (c .before .before .before .before .before .before .before .before .pre .0) in
-    omega (arith, granule-sane (c .before .before .before .before .before .before .before .before .args .s .granule), g, c .before .before .before .before .before .before .before .before .pre .1 .0)
+    let a = c .before .before .before .before .before .before .before .args in
+    let g = good-setup (c .before .before .before .before .before .before .before .pre .0) in
+    omega (arith, granule-sane (a .s .granule), g, c .before .before .before .before .before .before .before .pre .1 .0)
 
 add-given : tie.Need-add-given
 add-given c =
-    let a = c .before .before .before .before .before .before .before .before .before .args in
-    let g = good-setup (c .before .before .before .before .before .before .before .before .before .pre .0) in
-    omega (arith, granule-sane (a .s .granule), g, c .before .before .before .before .before .before .before .before .before .pre .1 .0, c .count-freed .ensures (a .s .tables) (g .numbers .cut-is), freed-most (granuleOf (a .s .granule)) (a .words .now ++ a .second .now) (a .way) (c .before .before .before .before .path-of .result) (a .left + 1) (a .s .levels - 1 - (a .left + 1)))
+    let a = c .before .before .before .before .before .before .before .before .args in
+    let g = good-setup (c .before .before .before .before .before .before .before .before .pre .0) in
+    omega (arith, granule-sane (a .s .granule), g, c .before .before .before .before .before .before .before .before .pre .1 .0, c .count-freed .ensures (a .s .tables) (g .numbers .cut-is), freed-most (granuleOf (a .s .granule)) (a .words .now ++ a .second .now) (a .way .now) (pathOf (granuleOf (a .s .granule)) (a .address)) (a .left + 1) (a .s .levels - 1 - (a .left + 1)))
 
 add-free : tie.Need-add-free
 add-free c =
-    let a = c .before .before .before .before .before .before .before .before .before .before .args in
-    let g = good-setup (c .before .before .before .before .before .before .before .before .before .before .pre .0) in
-    omega (arith, granule-sane (a .s .granule), g, c .before .before .before .before .before .before .before .before .before .before .pre .1 .0, c .before .count-freed .ensures (a .s .tables) (g .numbers .cut-is), freed-most (granuleOf (a .s .granule)) (a .words .now ++ a .second .now) (a .way) (c .before .before .before .before .before .path-of .result) (a .left + 1) (a .s .levels - 1 - (a .left + 1)))
+    let a = c .before .before .before .before .before .before .before .before .before .args in
+    let g = good-setup (c .before .before .before .before .before .before .before .before .before .pre .0) in
+    omega (arith, granule-sane (a .s .granule), g, c .before .before .before .before .before .before .before .before .before .pre .1 .0, c .before .count-freed .ensures (a .s .tables) (g .numbers .cut-is), freed-most (granuleOf (a .s .granule)) (a .words .now ++ a .second .now) (a .way .now) (pathOf (granuleOf (a .s .granule)) (a .address)) (a .left + 1) (a .s .levels - 1 - (a .left + 1)))
 
 add-most : tie.Need-add-most
-add-most c = omega (arith, good-setup (c .before .before .before .before .before .before .before .before .before .before .before .pre .0))
+add-most c = omega (arith, good-setup (c .before .before .before .before .before .before .before .before .before .before .pre .0))
 
 sub-most : tie.Need-sub-most
 sub-most c =
-    let g = good-setup (c .before .before .before .before .before .before .before .before .before .before .before .pre .0) in
-    omega (arith, g, c .before .before .before .before .before .before .before .before .before .before .before .pre .1 .0)
+    let a = c .before .before .before .before .before .before .before .before .before .before .args in
+    let g = good-setup (c .before .before .before .before .before .before .before .before .before .before .pre .0) in
+    omega (arith, g, c .before .before .before .before .before .before .before .before .before .before .pre .1 .0)
 
 unmap-refused-requires : tie.Need-unmap-refused-requires
 unmap-refused-requires c κs = search needs
@@ -65,19 +67,19 @@ same-length-2 c = search needs
 
 returns : tie.Need-returns
 returns c =
-    let a = c .before .before .before .before .before .before .before .before .before .before .before .before .before .args in
-    let g = good-setup (c .before .before .before .before .before .before .before .before .before .before .before .before .before .pre .0) in
-    refusing (a .words .now ++ a .second .now) (length (a .words .now)) (a .list .now) (c .unmap-refused .ensures)
-    ∙ there-full (granuleOf (a .s .granule)) (a .s) (a .words .now ++ a .second .now) (length (a .words .now)) (a .list .now) (a .address) (a .frame) (a .attributes) (a .left) (a .way) (c .before .before .before .before .before .before .before .before .before .before .before .before .before .pre .1 .1 .0) (size-known (granule-sane (a .s .granule)) g (omega (arith, c .before .before .before .before .before .before .before .before .before .before .before .before .before .pre .1 .0)) (c .before .before .before .before .before .before .before .before .before .size-at .ensures)) (c .before .before .before .before .before .before .before .before .path-of .ensures) (freed-first (granuleOf (a .s .granule)) (a .words .now ++ a .second .now) (a .way) (a .address) (a .left) (a .s .levels - 1) (c .before .before .before .before .before .before .before .before .path-of .ensures) (c .before .before .before .before .before .before .before .before .before .before .before .before .before .pre .1 .0) (c .before .before .before .before .before .before .before .before .before .before .before .before .before .pre .1 .1 .1) (c .before .before .before .before .count-freed .ensures (a .s .tables) (g .numbers .cut-is))) (c .before .if1 .taken)
-
-unmap-plan-requires : tie.Need-unmap-plan-requires
-unmap-plan-requires c κs =
     let a = c .before .before .before .before .before .before .before .before .before .before .before .before .args in
     let g = good-setup (c .before .before .before .before .before .before .before .before .before .before .before .before .pre .0) in
-    omega (arith, granule-sane (a .s .granule), g, c .before .before .before .before .before .before .before .before .before .before .before .before .pre .1 .0, c .before .before .before .count-freed .ensures (a .s .tables) (g .numbers .cut-is), freed-most (granuleOf (a .s .granule)) (a .words .now ++ a .second .now) (a .way) (c .before .before .before .before .before .before .before .path-of .result) (a .left + 1) (a .s .levels - 1 - (a .left + 1)))
+    refusing (a .words .now ++ a .second .now) (length (a .words .now)) (a .list .now) (c .unmap-refused .ensures)
+    ∙ there-full (granuleOf (a .s .granule)) (a .s) (a .words .now ++ a .second .now) (length (a .words .now)) (a .list .now) (a .address) (a .frame) (a .attributes) (a .left) (a .way .now) (c .before .before .before .before .before .before .before .before .before .before .before .before .pre .1 .1 .0)
+    (size-known (granule-sane (a .s .granule)) g (omega (arith, c .before .before .before .before .before .before .before .before .before .before .before .before .pre .1 .0)) (c .before .before .before .before .before .before .before .before .size-at .ensures))
+    (freed-first (granuleOf (a .s .granule)) (a .words .now ++ a .second .now) (a .way .now) (a .address) (a .left) (a .s .levels - 1) (c .before .before .before .before .before .before .before .before .before .before .before .before .pre .1 .0) (c .before .before .before .before .before .before .before .before .before .before .before .before .pre .1 .1 .1) (c .before .before .before .before .count-freed .ensures (a .s .tables) (g .numbers .cut-is)))
+    (c .before .if1 .taken)
 
-write-all-requires : tie.Need-write-all-requires
-write-all-requires c κs = search needs
+unmap-writes-requires : tie.Need-unmap-writes-requires
+unmap-writes-requires c κs =
+    let a = c .before .before .before .before .before .before .before .before .before .before .before .before .before .before .args in
+    let g = good-setup (c .before .before .before .before .before .before .before .before .before .before .before .before .before .before .pre .0) in
+    omega (arith, granule-sane (a .s .granule), g, c .before .before .before .before .before .before .before .before .before .before .before .before .before .before .pre .1 .0, c .before .before .before .before .before .before .count-freed .ensures (a .s .tables) (g .numbers .cut-is), freed-most (granuleOf (a .s .granule)) (a .words .now ++ a .second .now) (a .way .now) (pathOf (granuleOf (a .s .granule)) (a .address)) (a .left + 1) (a .s .levels - 1 - (a .left + 1)))
 
 with-free-requires : tie.Need-with-free-requires
 with-free-requires c κs = search needs
@@ -93,14 +95,15 @@ same-length-5 c = search needs
 
 returns-2 : tie.Need-returns-2
 returns-2 c =
-    let a = c .before .before .before .before .before .before .before .before .before .before .before .before .before .before .before .before .before .before .before .before .before .before .before .before .args in
-    let g = good-setup (c .before .before .before .before .before .before .before .before .before .before .before .before .before .before .before .before .before .before .before .before .before .before .before .before .pre .0) in
-    there-done (granuleOf (a .s .granule)) (a .s) (a .words .now ++ a .second .now) (length (a .words .now)) (a .list .now) (a .address) (a .frame) (a .attributes) (a .left) (a .way) (c .before .before .before .before .before .before .before .before .before .before .before .before .before .before .before .before .before .before .before .before .before .before .before .before .pre .1 .1 .0) (size-known (granule-sane (a .s .granule)) g (omega (arith, c .before .before .before .before .before .before .before .before .before .before .before .before .before .before .before .before .before .before .before .before .before .before .before .before .pre .1 .0)) (c .before .before .before .before .before .before .before .before .before .before .before .before .before .before .before .before .before .before .before .before .size-at .ensures)) (c .before .before .before .before .before .before .before .before .before .before .before .before .before .before .before .before .before .before .before .path-of .ensures) (freed-first (granuleOf (a .s .granule)) (a .words .now ++ a .second .now) (a .way) (a .address) (a .left) (a .s .levels - 1) (c .before .before .before .before .before .before .before .before .before .before .before .before .before .before .before .before .before .before .before .path-of .ensures) (c .before .before .before .before .before .before .before .before .before .before .before .before .before .before .before .before .before .before .before .before .before .before .before .before .pre .1 .0) (c .before .before .before .before .before .before .before .before .before .before .before .before .before .before .before .before .before .before .before .before .before .before .before .before .pre .1 .1 .1) (c .before .before .before .before .before .before .before .before .before .before .before .before .before .before .before .count-freed .ensures (a .s .tables) (g .numbers .cut-is)))
-    (c .before .before .before .before .before .before .before .before .before .before .before .before .if1 .left)
-    (c .before .before .before .before .before .before .before .before .before .before .before .unmap-plan .result)
-    (c .before .before .before .before .before .before .before .before .before .before .before .unmap-plan .ensures)
-    (c .before .before .before .before .before .before .before .write-all .ensures (a .s .tables) (g .numbers .cut-is))
-    (c .before .before .before .before .before .before .before .write-all .kept .1 .0)
+    let a = c .before .before .before .before .before .before .before .before .before .before .before .before .before .before .before .before .before .before .before .before .before .before .args in
+    let g = good-setup (c .before .before .before .before .before .before .before .before .before .before .before .before .before .before .before .before .before .before .before .before .before .before .pre .0) in
+    let writes = c .before .before .before .before .before .before .before .unmap-writes in
+    there-done (granuleOf (a .s .granule)) (a .s) (a .words .now ++ a .second .now) (length (a .words .now)) (a .list .now) (a .address) (a .frame) (a .attributes) (a .left) (a .way .now) (c .before .before .before .before .before .before .before .before .before .before .before .before .before .before .before .before .before .before .before .before .before .before .pre .1 .1 .0)
+    (size-known (granule-sane (a .s .granule)) g (omega (arith, c .before .before .before .before .before .before .before .before .before .before .before .before .before .before .before .before .before .before .before .before .before .before .pre .1 .0)) (c .before .before .before .before .before .before .before .before .before .before .before .before .before .before .before .before .before .before .size-at .ensures))
+    (freed-first (granuleOf (a .s .granule)) (a .words .now ++ a .second .now) (a .way .now) (a .address) (a .left) (a .s .levels - 1) (c .before .before .before .before .before .before .before .before .before .before .before .before .before .before .before .before .before .before .before .before .before .before .pre .1 .0) (c .before .before .before .before .before .before .before .before .before .before .before .before .before .before .before .before .before .before .before .before .before .before .pre .1 .1 .1) (c .before .before .before .before .before .before .before .before .before .before .before .before .before .before .count-freed .ensures (a .s .tables) (g .numbers .cut-is)))
+    (c .before .before .before .before .before .before .before .before .before .before .before .if1 .left)
+    (writes .ensures (a .s .tables) (g .numbers .cut-is))
+    (writes .kept .1 .0)
     (c .with-free .ensures)
 
 pub unmap-more-spec : {M : Type 1} → statement M
@@ -108,7 +111,6 @@ unmap-more-spec =
     tie.close
     (tie.spec
     size-at-requires
-    path-of-requires
     sub-top
     add-count-freed
     count-freed-requires
@@ -120,8 +122,7 @@ unmap-more-spec =
     same-length
     same-length-2
     returns
-    unmap-plan-requires
-    write-all-requires
+    unmap-writes-requires
     with-free-requires
     same-length-3
     same-length-4
