@@ -1,2 +1,3 @@
 pub mod Verdicts
+pub mod PieceLaws
 pub mod VerdictCases

@@ -112,6 +112,11 @@ unfoldable pub pieces : Held → List (List ℕ) → Held
 pieces h [] = h
 pieces h (p ∷ ps) = pieces (pushAll h p) ps
 
+-- all of their bytes
+unfoldable pub joined : List (List ℕ) → List ℕ
+joined [] = []
+joined (p ∷ ps) = p ++ joined ps
+
 -- and the end
 abbrev pub lastly : Held → Verdict
 lastly h = verdictAt (h .seen) (length (h .rest))
