@@ -1,3 +1,4 @@
 pub mod Verdicts
 pub mod PieceLaws
+pub mod EndLaws
 pub mod VerdictCases

@@ -27,6 +27,7 @@ use Rattle.checks.specs.declared.Verdict.{Verdict}
 use Rattle.checks.specs.declared.Verdict.the-variants.{Good, Bad}
 use Rattle.checks.specs.Verdicts.{noTables, testsOf, endOf, endOfAll, seen, badNext, blockSeen, nextSeen, seenAfter, verdictAt}
 use Rattle.checks.specs.PieceLaws.{bad-verdict}
+use Rattle.checks.specs.EndLaws.{meets-none}
 
 -- ---- the verdict on the rest of an image
 
@@ -62,15 +63,6 @@ pub rest-bad : (s : Seen) (bs : List ℕ) → s .bad ≡ true → restOf s bs �
 rest-bad s bs e = ap (λ (x : Seen). verdictAt x (length bs % 512)) (seen-bad (length bs / 512) s bs e) ∙ bad-verdict s (length bs % 512) e
 
 -- ---- map's tests
-
--- no frame shares a byte with no tables
-meets-none : (G : Granule) (b size : ℕ) → meetsArea G noTables b size ≡ false
-unfolding meetsArea meetsRegion
-meets-none G b size = go (ltb 0 size) (ltb b (0 + 2 ^ G .page * 0)) (ltb 0 (b + size))
-  where
-    go : (x y z : Bool) → (((x && false) && (y && z)) || ((x && false) && (y && z))) ≡ false
-    go true y z = refl
-    go false y z = refl
 
 -- the tests, by what each of them says
 abbrev tested : Bool → Bool → Bool → Bool → Bool → Bool → Bool → Bool → ℕ
