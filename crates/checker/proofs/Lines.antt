@@ -12,7 +12,9 @@ use lib.ListN.{length, take, getD, set, length-append, length-take}
 use lib.Seq.{take-suc, take-suc-set, take-length, take-all}
 use borrow.Author.Tests.{lt-ltb, le-ltb}
 use Rattle.io.specs.Digits.{digits, Fewest}
-use Rattle.checks.specs.Verdicts.{places, decimal}
+use Rattle.checks.specs.declared.Verdict.{Verdict}
+use Rattle.checks.specs.declared.Verdict.the-variants.{Good, Bad}
+use Rattle.checks.specs.Verdicts.{places, decimal, blocksText, mappingsText, okText, blockText, badText, lineOf, statusOf}
 
 -- ---- bytes
 
@@ -82,3 +84,34 @@ places-are (suc most) n k l f = go (decLe 10 n) (λ j e. places-are most (n / 10
 pub decimal-is : (n k : ℕ) → n < 2 ^ 64 → Fewest 10 1 n k → digits 10 k n ≡ decimal n
 unfolding decimal
 decimal-is n k l f = ap (λ (x : ℕ). digits 10 x n) (places-are 19 n k (omega arith) f)
+
+places-small : (most n : ℕ) → places most n ≤ suc most
+unfolding places
+places-small zero n = omega arith
+places-small (suc most) n = go (ltb n 10) (places-small most (n / 10))
+  where
+    go : (t : Bool) → places most (n / 10) ≤ suc most → cond t 1 (suc (places most (n / 10))) ≤ suc (suc most)
+    go true ih = omega arith
+    go false ih = omega arith
+
+pub digits-few : (n k : ℕ) → n < 2 ^ 64 → Fewest 10 1 n k → k ≤ 20
+digits-few n k l f = omega (arith, places-are 19 n k (omega arith) f, places-small 19 n)
+
+-- ---- lines, part after part
+
+pub good-line-is : (b m : ℕ) {x₁ x₂ x₃ x₄ x₅ : List ℕ} → x₁ ≡ blocksText → x₂ ≡ x₁ ++ decimal b → x₃ ≡ x₂ ++ mappingsText → x₄ ≡ x₃ ++ decimal m → x₅ ≡ x₄ ++ okText
+    → x₅ ≡ lineOf (Good b m)
+unfolding lineOf
+good-line-is b m {x₁} {x₂} {x₃} {x₄} {x₅} p q r s t =
+    t ∙ ap (λ (x : List ℕ). x ++ okText) (s ∙ ap (λ (x : List ℕ). x ++ decimal m) (r ∙ ap (λ (x : List ℕ). x ++ mappingsText) (q ∙ ap (λ (x : List ℕ). x ++ decimal b) p)))
+    ∙ append-assoc ((blocksText ++ decimal b) ++ mappingsText) (decimal m) okText
+    ∙ append-assoc (blocksText ++ decimal b) mappingsText (decimal m ++ okText)
+    ∙ append-assoc blocksText (decimal b) (mappingsText ++ (decimal m ++ okText))
+
+pub bad-line-is : (k : ℕ) {x₁ x₂ x₃ : List ℕ} → x₁ ≡ blockText → x₂ ≡ x₁ ++ decimal k → x₃ ≡ x₂ ++ badText → x₃ ≡ lineOf (Bad k)
+unfolding lineOf
+bad-line-is k p q r = r ∙ ap (λ (x : List ℕ). x ++ badText) (q ∙ ap (λ (x : List ℕ). x ++ decimal k) p) ∙ append-assoc blockText (decimal k) badText
+
+pub status-small : (v : Verdict) → statusOf v ≤ 2
+status-small (Good b m) = omega arith
+status-small (Bad k) = omega arith

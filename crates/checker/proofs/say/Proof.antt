@@ -1,6 +1,8 @@
+-- `checker::say`: the line, and the status.
 use mathlib.Core.Path.{_≡_, refl, sym, ap, _∙_}
 use native.Mathlib.Omega.{arith}
 use borrow.Author.Needs.{needs}
+use Rattle.checker.proofs.Lines.{status-small}
 use Rattle.checker.proofs.say.Statement.{statement}
 use Rattle.checker.proofs.say.Tie as tie
 
@@ -32,7 +34,7 @@ status-requires : tie.Need-status-requires
 status-requires c κs = search needs
 
 returns-2 : tie.Need-returns-2
-returns-2 c = ?
+returns-2 c = omega (arith, c .status .ensures, status-small (c .before .before .before .before .before .before .before .args .v))
 
 pub say-spec : {M : Type 1} → statement M
 say-spec =

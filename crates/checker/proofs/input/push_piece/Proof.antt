@@ -1,6 +1,8 @@
+-- `checker::input::push_piece`: the block is whole, or not yet.
 use mathlib.Core.Path.{_≡_, refl, sym, ap, _∙_}
 use native.Mathlib.Omega.{arith}
 use borrow.Author.Needs.{needs}
+use Rattle.checker.proofs.Pushes.{push-part, push-whole}
 use Rattle.checker.proofs.input.push_piece.Statement.{statement}
 use Rattle.checker.proofs.input.push_piece.Tie as tie
 
@@ -11,7 +13,10 @@ same-length : tie.Need-same-length
 same-length c = search needs
 
 returns : tie.Need-returns
-returns c = ?
+returns c =
+    let a = c .before .before .before .before .before .before .before .args in
+    let p = c .before .before .before .put in
+    push-part (a .s) (a .block .now) (p .last .0) (a .piece .now) (a .held) (p .result) (p .ensures .0) (p .ensures .1) (c .if1 .taken) (omega (arith, c .before .before .before .before .before .before .before .pre .0 .0, c .before .before .before .before .before .before .before .pre .0 .1 .0))
 
 next-seen-requires : tie.Need-next-seen-requires
 next-seen-requires c κs = search needs
@@ -20,7 +25,10 @@ same-length-2 : tie.Need-same-length-2
 same-length-2 c = search needs
 
 returns-2 : tie.Need-returns-2
-returns-2 c = ?
+returns-2 c =
+    let a = c .before .before .before .before .before .before .before .before .before .args in
+    let p = c .before .before .before .before .before .put in
+    push-whole (a .s) (a .block .now) (p .last .0) (a .piece .now) (a .held) (p .result) (p .ensures .0) (p .ensures .1) (omega (arith, c .before .before .if1 .left, p .ensures .0, c .before .before .before .before .before .before .before .before .before .pre .0 .1 .1)) (c .before .before .before .before .before .before .before .before .before .pre .0 .1 .0) (c .before .before .before .before .before .before .before .before .before .pre .0 .0) (p .kept .0) (c .next-seen .ensures)
 
 pub push-piece-spec : {M : Type 1} → statement M
 push-piece-spec =

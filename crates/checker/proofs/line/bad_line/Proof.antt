@@ -1,6 +1,8 @@
+-- `checker::line::bad_line`: three parts, one after the other.
 use mathlib.Core.Path.{_≡_, refl, sym, ap, _∙_}
 use native.Mathlib.Omega.{arith}
 use borrow.Author.Needs.{needs}
+use Rattle.checker.proofs.Lines.{bad-line-is}
 use Rattle.checker.proofs.line.bad_line.Statement.{statement}
 use Rattle.checker.proofs.line.bad_line.Tie as tie
 
@@ -23,7 +25,12 @@ same-length : tie.Need-same-length
 same-length c = search needs
 
 returns : tie.Need-returns
-returns c = ?
+returns c =
+    let a = c .before .before .before .before .before .before .before .before .before .before .before .before .before .before .before .args in
+    let p = c .before .before .before .before .before .before .before .before .before .before .before .put in
+    let q = c .before .before .before .before .before .before .before .put-number in
+    let r = c .before .before .put2 in
+    (omega (arith, p .ensures .0, q .ensures .0, r .ensures .0), bad-line-is (a .k) (p .ensures .1) (q .ensures .1) (r .ensures .1))
 
 pub bad-line-spec : {M : Type 1} → statement M
 bad-line-spec =

@@ -1,6 +1,8 @@
+-- `checker::line::good_line`: five parts, one after the other.
 use mathlib.Core.Path.{_≡_, refl, sym, ap, _∙_}
 use native.Mathlib.Omega.{arith}
 use borrow.Author.Needs.{needs}
+use Rattle.checker.proofs.Lines.{good-line-is}
 use Rattle.checker.proofs.line.good_line.Statement.{statement}
 use Rattle.checker.proofs.line.good_line.Tie as tie
 
@@ -32,7 +34,14 @@ same-length : tie.Need-same-length
 same-length c = search needs
 
 returns : tie.Need-returns
-returns c = ?
+returns c =
+    let a = c .before .before .before .before .before .before .before .before .before .before .before .before .before .before .before .before .before .before .before .before .before .before .before .before .args in
+    let p = c .before .before .before .before .before .before .before .before .before .before .before .before .before .before .before .before .before .before .before .before .put in
+    let q = c .before .before .before .before .before .before .before .before .before .before .before .before .before .before .before .before .put-number in
+    let r = c .before .before .before .before .before .before .before .before .before .before .before .put2 in
+    let s = c .before .before .before .before .before .before .before .put-number2 in
+    let t = c .before .before .put3 in
+    (omega (arith, p .ensures .0, q .ensures .0, r .ensures .0, s .ensures .0, t .ensures .0), good-line-is (a .blocks) (a .mappings) (p .ensures .1) (q .ensures .1) (r .ensures .1) (s .ensures .1) (t .ensures .1))
 
 pub good-line-spec : {M : Type 1} → statement M
 good-line-spec =
