@@ -17,7 +17,7 @@ use Rattle.image.specs.Images.{recordOf, meant}
 use Rattle.checks.specs.declared.Verdict.the-variants.{Good, Bad}
 use Rattle.checks.specs.Verdicts.{endOf, endOfAll, headSeen, blockSeen, nextSeen, seenAfter, verdictAt, verdictOf, places, decimal, lineOf}
 
--- a page, at address 4096 × n; 2 MiB at 2 MiB; 1 GiB at 0
+-- a page, at address 4096 × n; 2 MiB at 2 MiB
 abbrev page : ℕ → Rec
 page n = recordOf four (mapping (4096 * n) 0x80000000 4096 3)
 
@@ -39,8 +39,8 @@ pub record VerdictCases : Type 0 where
   pub empty-line : lineOf (verdictOf (image []))
       ≡ 98 ∷ 108 ∷ 111 ∷ 99 ∷ 107 ∷ 115 ∷ 32 ∷ 49 ∷ 32 ∷ 109 ∷ 97 ∷ 112 ∷ 112 ∷ 105 ∷ 110 ∷ 103 ∷ 115 ∷ 32 ∷ 48 ∷ 32 ∷ 111 ∷ 107 ∷ 10 ∷ []
   -- the most blocks and mappings, and `block 12 bad`
-  pub most-line : lineOf (Good 33826 1048576)
-      ≡ 98 ∷ 108 ∷ 111 ∷ 99 ∷ 107 ∷ 115 ∷ 32 ∷ 51 ∷ 51 ∷ 56 ∷ 50 ∷ 54 ∷ 32 ∷ 109 ∷ 97 ∷ 112 ∷ 112 ∷ 105 ∷ 110 ∷ 103 ∷ 115 ∷ 32 ∷ 49 ∷ 48 ∷ 52 ∷ 56 ∷ 53 ∷ 55 ∷ 54 ∷ 32 ∷ 111 ∷ 107 ∷ 10 ∷ []
+  pub most-line : lineOf (Good 33827 1048576)
+      ≡ 98 ∷ 108 ∷ 111 ∷ 99 ∷ 107 ∷ 115 ∷ 32 ∷ 51 ∷ 51 ∷ 56 ∷ 50 ∷ 55 ∷ 32 ∷ 109 ∷ 97 ∷ 112 ∷ 112 ∷ 105 ∷ 110 ∷ 103 ∷ 115 ∷ 32 ∷ 49 ∷ 48 ∷ 52 ∷ 56 ∷ 53 ∷ 55 ∷ 54 ∷ 32 ∷ 111 ∷ 107 ∷ 10 ∷ []
   pub bad-line : lineOf (Bad 12) ≡ 98 ∷ 108 ∷ 111 ∷ 99 ∷ 107 ∷ 32 ∷ 49 ∷ 50 ∷ 32 ∷ 98 ∷ 97 ∷ 100 ∷ 10 ∷ []
   -- a page, and 32 of them
   pub one : verdictOf (image (page 1 ∷ [])) ≡ Good 2 1
@@ -59,7 +59,7 @@ pub record VerdictCases : Type 0 where
   -- bases that do not rise, in a block and from one block to the next
   pub order : verdictOf (image (page 2 ∷ page 1 ∷ [])) ≡ Bad 1
   pub order-later : verdictOf (image (pages 31 ++ page 1 ∷ [])) ≡ Bad 2
-  -- a page in 2 MiB, in the same block and in the next, also where a page of another place comes between
+  -- a page in 2 MiB, in the same block and in the next; one that starts where they end
   pub inside : verdictOf (image (large ∷ page 513 ∷ [])) ≡ Bad 1
   pub inside-later : verdictOf (image (pages 30 ++ (large ∷ page 513 ∷ []))) ≡ Bad 2
   pub after : verdictOf (image (large ∷ page 1024 ∷ [])) ≡ Good 2 2
