@@ -12,9 +12,8 @@ use lib.ListN.{length, take, getD, set, length-append, length-take}
 use lib.Seq.{take-suc, take-suc-set, take-length, take-all}
 use borrow.Author.Tests.{lt-ltb, le-ltb}
 use Rattle.io.specs.Digits.{digits, Fewest}
-use Rattle.checks.specs.declared.Verdict.{Verdict}
 use Rattle.checks.specs.declared.Verdict.the-variants.{Good, Bad}
-use Rattle.checks.specs.Verdicts.{places, decimal, blocksText, mappingsText, okText, blockText, badText, lineOf, statusOf}
+use Rattle.checks.specs.Verdicts.{places, decimal, blocksText, mappingsText, okText, blockText, badText, lineOf}
 
 -- ---- bytes
 
@@ -111,7 +110,3 @@ good-line-is b m {x₁} {x₂} {x₃} {x₄} {x₅} p q r s t =
 pub bad-line-is : (k : ℕ) {x₁ x₂ x₃ : List ℕ} → x₁ ≡ blockText → x₂ ≡ x₁ ++ decimal k → x₃ ≡ x₂ ++ badText → x₃ ≡ lineOf (Bad k)
 unfolding lineOf
 bad-line-is k p q r = r ∙ ap (λ (x : List ℕ). x ++ badText) (q ∙ ap (λ (x : List ℕ). x ++ decimal k) p) ∙ append-assoc blockText (decimal k) badText
-
-pub status-small : (v : Verdict) → statusOf v ≤ 2
-status-small (Good b m) = omega arith
-status-small (Bad k) = omega arith

@@ -1,6 +1,7 @@
 -- Pieces, as the code puts them into the block.
 use Prim.Native.Nat.{ℕ, suc, _+_, _-_, _≤_, _<_}
 use mathlib.Core.Path.{_≡_, refl, ap, sym, _∙_, subst}
+use mathlib.Core.Logic.{_⊎_, inl, inr}
 use mathlib.Core.Bool.{Bool, true, false, cond}
 use mathlib.Core.List.{List, [], _∷_, _++_}
 use native.Mathlib.Omega.{arith}
@@ -11,12 +12,14 @@ use borrow.Author.Tests.{eq-eqb, ne-eqb, eqb-false}
 use Rattle.image.specs.Bytes.{wordsOf}
 use Rattle.checks.specs.declared.Seen.{Seen}
 use Rattle.checks.specs.declared.Verdict.{Verdict}
-use Rattle.checks.specs.Verdicts.{start, nextSeen, verdictAt, verdictOf, Held, held, push, pushAll, lastly}
+use Rattle.checks.specs.Verdicts.{start, nextSeen, verdictAt, verdictOf, Held, held, push, pushAll, lastly, statusOf}
 use Rattle.checks.specs.PieceLaws.{push-append, push-room, push-full, all-verdict}
 use Rattle.checks.specs.EndLaws.{Fair, fair-next}
 use Rattle.checker.specs.declared.input.Got.{Got}
 use Rattle.checker.specs.declared.input.Got.the-variants.{Bytes}
-use Rattle.checker.specs.Pieces.{heldIn, heldAfter, Within}
+use Rattle.checker.specs.declared.input.Told.{Told}
+use Rattle.checker.specs.declared.input.Told.the-variants.{Said}
+use Rattle.checker.specs.Pieces.{heldIn, heldAfter, Within, SaidOf, StatusFor, Status}
 
 module _ (s : Seen) (block last piece : List ℕ) (n end : ℕ) (e : end ≡ n + length piece) (p : take end last ≡ take n block ++ piece) where
   -- the block is not whole yet
@@ -113,3 +116,12 @@ module _ (part piece : List ℕ) (n m : ℕ) (less : n < 512) (long : length pie
       → {k : ℕ} → k ≡ heldAfter n m → Going r k last
   turn {s} {block} g {r} {last} e {k} q =
       going-on g (take m now) (subst (λ (x : ℕ). heldIn r x last ≡ pushAll (heldIn s n block) (take m now)) (ap (heldAfter n) brought ∙ sym q) e)
+
+-- ---- the exit status
+
+pub status-said : {t : Told} {v : Verdict} {r : ℕ} → SaidOf t → t ≡ Said v → StatusFor v r → Status r
+status-said {t} {v} {r} s e f = go (subst SaidOf e s) f
+  where
+    go : SaidOf (Said v) → StatusFor v r → Status r
+    go (bytes, q) (inl x) = inl (bytes, x ∙ ap statusOf q)
+    go (bytes, q) (inr x) = inr x

@@ -5,6 +5,7 @@ use crate::line::put;
 use crate::step::next_seen;
 use crate::step::start_of;
 use crate::step::verdict_at;
+use libc::STDERR_FILENO;
 use libc::STDIN_FILENO;
 ghost use mathlib.Core.Path.{_≡_};
 ghost use Prim.Native.Nat.{_+_, _≤_, _<_};
@@ -15,6 +16,8 @@ ghost use Rattle.checker.specs.Pieces.{heldIn, heldAfter, Within, SaidOf
 
 // The bytes of a block.
 const BLOCK: usize = 512;
+// So many blocks are long.
+const LONG: u32 = 4096;
 
 // What a read came to: so many bytes, none of them where a signal came in between; the end; or a failure.
 pub enum Got {
@@ -58,6 +61,23 @@ fn held_after(held: usize, n: usize) -> usize
     held + n
 }
 
+// Says on a terminal how far a long image is; what is printed next stands in its place.
+fn progress(s: Seen) {
+    let k = s.next;
+    if k == 0 {
+        return;
+    }
+    if k % LONG != 0 {
+        return;
+    }
+    if libc::isatty(STDERR_FILENO) != 1 {
+        return;
+    }
+    io::write_all(STDERR_FILENO, b"blocks ");
+    io::print_decimal(STDERR_FILENO, k as u64);
+    io::write_all(STDERR_FILENO, b"\r");
+}
+
 // A piece more, which fits into the block that is not whole yet.
 fn push_piece(s: Seen, block: &mut [u8], held: usize, piece: &[u8]) -> Seen
     requires { ⌜ (length (now block) ≡ 512) × ((held < 512) × (held + length (now piece) ≤ 512)) ⌝ }
@@ -68,7 +88,9 @@ fn push_piece(s: Seen, block: &mut [u8], held: usize, piece: &[u8]) -> Seen
     if end < BLOCK {
         return s;
     }
-    next_seen(s, block)
+    let r = next_seen(s, block);
+    progress(r);
+    r
 }
 
 // Reads to the end of the input, or to the first bad block, and answers the verdict. `block` has the bytes of the block that is not whole yet, `piece` those of a

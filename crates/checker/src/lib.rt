@@ -8,8 +8,8 @@ use checks::Verdict;
 use input::Told;
 use libc::STDOUT_FILENO;
 ghost use mathlib.Core.Path.{_≡_};
-ghost use Prim.Native.Nat.{_≤_};
 ghost use Rattle.checks.specs.Verdicts.{statusOf};
+ghost use Rattle.checker.specs.Pieces.{StatusFor, Status};
 
 // The bytes of a block, and the most of a line.
 const BLOCK: usize = 512;
@@ -37,7 +37,7 @@ fn status(v: Verdict) -> u64
 
 // Prints the line of a verdict.
 fn say(v: Verdict) -> u64
-    ensures { λ r. ⌜ r ≤ 2 ⌝ }
+    ensures { λ r. ⌜ StatusFor v r ⌝ }
 {
     let mut text = [0u8; LINE];
     let n = line::line_of(v, &mut text);
@@ -52,7 +52,7 @@ fn say(v: Verdict) -> u64
 // verdict.
 #[no_mangle]
 pub extern "C" fn oak_check_image() -> u64
-    ensures { λ r. ⌜ r ≤ 2 ⌝ }
+    ensures { λ r. ⌜ Status r ⌝ }
 {
     let mut block = [0u8; BLOCK];
     let mut piece = [0u8; BLOCK];
