@@ -11,9 +11,10 @@ use lib.Dec.{ltb}
 use lib.ListN.{length, take, getD, set, length-append, length-take}
 use lib.Seq.{take-suc, take-suc-set, take-length, take-all}
 use borrow.Author.Tests.{lt-ltb, le-ltb}
-use Rattle.io.specs.Digits.{digits, Fewest}
+use Rattle.io.specs.Digits.{Fewest}
+use Rattle.io.specs.Digits.{digits as ioDigits}
 use Rattle.checks.specs.declared.Verdict.the-variants.{Good, Bad}
-use Rattle.checks.specs.Verdicts.{places, decimal, blocksText, mappingsText, okText, blockText, badText, lineOf}
+use Rattle.checks.specs.Verdicts.{places, digits, decimal, blocksText, mappingsText, okText, blockText, badText, lineOf}
 
 -- ---- bytes
 
@@ -80,9 +81,15 @@ places-are (suc most) n k l f = go (decLe 10 n) (λ j e. places-are most (n / 10
     go (yes m) ih = let (j, e) = two-places n k m f in rw (le-ltb n 10 m) (e ∙ ap suc (ih j e))
     go (no m) ih = rw (lt-ltb n 10 (omega arith)) (one-place n k (omega arith) f)
 
-pub decimal-is : (n k : ℕ) → n < 2 ^ 64 → Fewest 10 1 n k → digits 10 k n ≡ decimal n
+-- the kit's digits in base ten
+digits-are : (k n : ℕ) → ioDigits 10 k n ≡ digits k n
+unfolding digits
+digits-are zero n = refl
+digits-are (suc k) n = rw (lt-ltb (n % 10) 10 (omega arith)) (ap (λ (l : List ℕ). l ++ (48 + n % 10) ∷ []) (digits-are k (n / 10)))
+
+pub decimal-is : (n k : ℕ) → n < 2 ^ 64 → Fewest 10 1 n k → ioDigits 10 k n ≡ decimal n
 unfolding decimal
-decimal-is n k l f = ap (λ (x : ℕ). digits 10 x n) (places-are 19 n k (omega arith) f)
+decimal-is n k l f = digits-are k n ∙ ap (λ (x : ℕ). digits x n) (places-are 19 n k (omega arith) f)
 
 places-small : (most n : ℕ) → places most n ≤ suc most
 unfolding places

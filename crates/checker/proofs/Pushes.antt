@@ -12,9 +12,9 @@ use borrow.Author.Tests.{eq-eqb, ne-eqb, eqb-false}
 use Rattle.image.specs.Bytes.{wordsOf}
 use Rattle.checks.specs.declared.Seen.{Seen}
 use Rattle.checks.specs.declared.Verdict.{Verdict}
-use Rattle.checks.specs.Verdicts.{start, nextSeen, verdictAt, verdictOf, Held, held, push, pushAll, lastly, statusOf}
+use Rattle.checks.specs.Verdicts.{start, nextSeen, Fair, verdictAt, verdictOf, Held, held, push, pushAll, lastly, statusOf}
 use Rattle.checks.specs.PieceLaws.{push-append, push-room, push-full, all-verdict}
-use Rattle.checks.specs.EndLaws.{Fair, fair-next}
+use Rattle.checks.specs.EndLaws.{fair-next}
 use Rattle.checker.specs.declared.input.Got.{Got}
 use Rattle.checker.specs.declared.input.Got.the-variants.{Bytes}
 use Rattle.checker.specs.declared.input.Told.{Told}

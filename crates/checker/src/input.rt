@@ -10,8 +10,7 @@ use libc::STDIN_FILENO;
 ghost use mathlib.Core.Path.{_≡_};
 ghost use Prim.Native.Nat.{_+_, _≤_, _<_};
 ghost use lib.ListN.{length};
-ghost use Rattle.checks.specs.Verdicts.{pushAll};
-ghost use Rattle.checks.specs.EndLaws.{Fair};
+ghost use Rattle.checks.specs.Verdicts.{Fair, pushAll};
 ghost use Rattle.checker.specs.Pieces.{heldIn, heldAfter, Within, SaidOf};
 
 // The bytes of a block.

@@ -4,7 +4,6 @@ ghost use mathlib.Core.Path.{_≡_};
 ghost use mathlib.Core.List.{_++_};
 ghost use Prim.Native.Nat.{_+_, _≤_};
 ghost use lib.ListN.{length, take};
-ghost use Rattle.io.specs.Counts.{Counts};
 ghost use Rattle.checks.specs.declared.Verdict.the-variants.{Good, Bad};
 ghost use Rattle.checks.specs.Verdicts.{decimal, lineOf};
 
@@ -58,7 +57,7 @@ fn bad_line(k: u64, out: &mut [u8]) -> usize
 // Puts the line of a verdict at the start of a run of 64 bytes, and answers how long it is.
 pub fn line_of(v: Verdict, out: &mut [u8]) -> usize
     requires { ⌜ 64 ≤ length (now out) ⌝ }
-    ensures { λ r. ⌜ Counts r (now (out .exit)) ⌝ }
+    ensures { λ r. ⌜ (r ≤ length (now (out .exit))) × (r ≡ length (take r (now (out .exit)))) ⌝ }
     ensures { λ r. ⌜ take r (now (out .exit)) ≡ lineOf v ⌝ }
 {
     match v {

@@ -2,11 +2,9 @@
 use checks::Seen;
 use checks::Verdict;
 ghost use mathlib.Core.Path.{_≡_};
-ghost use Prim.Native.Nat.{_+_, _≤_, _<_, _^_};
 ghost use lib.ListN.{length};
 ghost use Rattle.image.specs.Bytes.{wordsOf};
-ghost use Rattle.checks.specs.Verdicts.{start, badNext, headSeen, blockSeen, nextSeen, verdictAt};
-ghost use Rattle.checks.specs.EndLaws.{Fair};
+ghost use Rattle.checks.specs.Verdicts.{start, badNext, headSeen, blockSeen, nextSeen, Fair, verdictAt};
 
 // Before the first block.
 pub fn start_of() -> Seen

@@ -15,7 +15,7 @@ use Rattle.model.specs.LedgerLaws.{and-true}
 use Rattle.image.specs.Layout.{recsIn, lowAfter, whole, goodHead, goodBlock}
 use Rattle.image.specs.Images.{means, granuleWord}
 use Rattle.checks.specs.declared.Seen.{Seen}
-use Rattle.checks.specs.Verdicts.{noTables, testsOf, endOf, endOfAll, seen, badNext, headSeen, blockSeen, nextSeen}
+use Rattle.checks.specs.Verdicts.{noTables, testsOf, endOf, endOfAll, seen, badNext, headSeen, blockSeen, nextSeen, Fair}
 
 -- no frame shares a byte with no tables
 pub meets-none : (G : Granule) (b size : ℕ) → meetsArea G noTables b size ≡ false
@@ -48,10 +48,6 @@ module _ (G : Granule) (levels end : ℕ) (m : Mapping) where
   end-good e l = rw (eq-eqb (testsOf G levels m) 0 (sym e), le-leb end (m .at) l) refl
 
 -- ---- block numbers
-
--- each block that comes takes one of the mappings that are left, and there are at most 2^20
-abbrev pub Fair : Seen → Type 0
-Fair s = s .next + s .left ≤ 2 ^ 20 + 1
 
 head-few : (levels granule : ℕ) (b : List ℕ) → goodHead levels granule b ≡ true → getD b 2 0 ≤ 2 ^ 20
 unfolding goodHead

@@ -15,7 +15,7 @@ use Rattle.image.specs.Check.{weigh, checkOf}
 use Rattle.image.specs.Layout.{Rec, rec, wordsOfRecs, blockOf, headBlock, recBlocks, imageBlocks, imageOf, recsIn, rises, lowAfter, whole, goodHead, goodBlock}
 use Rattle.image.specs.Images.{recordOf, meant}
 use Rattle.checks.specs.declared.Verdict.the-variants.{Good, Bad}
-use Rattle.checks.specs.Verdicts.{endOf, endOfAll, headSeen, blockSeen, nextSeen, seenAfter, verdictAt, verdictOf, places, decimal, lineOf}
+use Rattle.checks.specs.Verdicts.{endOf, endOfAll, headSeen, blockSeen, nextSeen, seenAfter, verdictAt, verdictOf, places, digits, decimal, lineOf}
 
 -- a page, at address 4096 × n; 2 MiB at 2 MiB
 abbrev page : ℕ → Rec
@@ -74,7 +74,7 @@ pub record VerdictCases : Type 0 where
   pub page-4 : verdictOf (imageOf 3 16384 (page 1 ∷ [])) ≡ Bad 1
 
 pub verdict-cases : VerdictCases
-unfolding bytesOf numberOf bytesOfWords wordsOf bytesOfBlocks weigh checkOf wordsOfRecs blockOf recBlocks imageBlocks imageOf recsIn rises lowAfter whole goodHead goodBlock meant part allZero granuleOf sizeAt goodLevels spaceOf seek heightOf meetsRegion meetsArea typeAt frameWord frameAt mapTests endOf endOfAll headSeen blockSeen nextSeen seenAfter verdictAt verdictOf places decimal lineOf
+unfolding bytesOf numberOf bytesOfWords wordsOf bytesOfBlocks weigh checkOf wordsOfRecs blockOf recBlocks imageBlocks imageOf recsIn rises lowAfter whole goodHead goodBlock meant part allZero granuleOf sizeAt goodLevels spaceOf seek heightOf meetsRegion meetsArea typeAt frameWord frameAt mapTests endOf endOfAll headSeen blockSeen nextSeen seenAfter verdictAt verdictOf places digits decimal lineOf
 verdict-cases = record {
   empty = refl;
   empty-line = refl;

@@ -1,10 +1,9 @@
 -- The checking program's verdict on a run of bytes: request 9's rules of blocks, and what can be said of the records without a pool.
-use Prim.Native.Nat.{ℕ, zero, suc, _+_, _-_, _*_, _/_, _%_, min}
+use Prim.Native.Nat.{ℕ, zero, suc, _+_, _-_, _/_, _%_, _^_, _≤_, min}
 use mathlib.Core.Bool.{Bool, true, false, cond, not, _&&_}
 use mathlib.Core.List.{List, [], _∷_, _++_}
 use lib.Dec.{ltb, leb, eqb}
 use lib.ListN.{length, take, drop, getD}
-use Rattle.io.specs.Digits.{digits}
 use Rattle.path.specs.Geometry.{Granule, granuleOf, goodLevels}
 use Rattle.path.specs.Areas.{Area, oneRegion}
 use Rattle.model.specs.Answers.{Mapping}
@@ -77,6 +76,10 @@ unfoldable pub seenAfter : ℕ → Seen → List ℕ → Seen
 seenAfter zero s bs = s
 seenAfter (suc n) s bs = seenAfter n (nextSeen s (wordsOf 64 (take 512 bs))) (drop 512 bs)
 
+-- each block that comes takes one of the mappings that are left, and there are at most 2^20: so block numbers stay small
+abbrev pub Fair : Seen → Type 0
+Fair s = s .next + s .left ≤ 2 ^ 20 + 1
+
 -- At the end, with so many bytes of a block that is not whole: it is bad, and so is one that is missing.
 unfoldable pub verdictAt : Seen → ℕ → Verdict
 verdictAt s rest =
@@ -128,9 +131,14 @@ unfoldable pub places : ℕ → ℕ → ℕ
 places zero n = 1
 places (suc most) n = cond (ltb n 10) 1 (suc (places most (n / 10)))
 
+-- its last k digits, in ASCII
+unfoldable pub digits : ℕ → ℕ → List ℕ
+digits zero n = []
+digits (suc k) n = digits k (n / 10) ++ (48 + n % 10) ∷ []
+
 -- a number of 64 bits, in decimal
 unfoldable pub decimal : ℕ → List ℕ
-decimal n = digits 10 (places 19 n) n
+decimal n = digits (places 19 n) n
 
 -- "blocks ", " mappings ", " ok\n"; "block ", " bad\n"
 abbrev pub blocksText : List ℕ
