@@ -1,10 +1,10 @@
 // Standard input, in pieces.
-use checks::Seen;
-use checks::Verdict;
 use crate::line::put;
 use crate::step::next_seen;
 use crate::step::start_of;
 use crate::step::verdict_at;
+use checks::Seen;
+use checks::Verdict;
 use libc::STDERR_FILENO;
 use libc::STDIN_FILENO;
 ghost use mathlib.Core.Path.{_≡_};

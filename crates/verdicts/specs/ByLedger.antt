@@ -167,11 +167,14 @@ one-in G A end low r last l = go (meant G r) refl
     go : (x : Meant) → meant G r ≡ x → accepted (restoreOne G (mapLedger G) A x .answer) ≡ true
         → (0 < endOf G (A .levels) end x) × Went G A (restoreOne G (mapLedger G) A x .after) 1 (endOf G (A .levels) end x) (suc (baseOf r))
     go (means-none k) q e = absurd (false≢true e)
-    go (means m) q e = (subst (λ (x : ℕ). 0 < x) (sym ends) (omega (arith, base .1)), record {
-      levels-stay = ap (λ (B : Ledger). B .levels) (M .after);
-      count = ap (λ (B : Ledger). length (B .live)) (M .after) ∙ omega arith;
-      last = subst (λ (B : Ledger). Last B (endOf G (A .levels) end (means m)) (suc (baseOf r))) (sym (M .after)) (inr (m′, here refl, sym ends, omega (arith, base .0)));
-    })
+    go (means m) q e = (
+      subst (λ (x : ℕ). 0 < x) (sym ends) (omega (arith, base .1)),
+      record {
+        levels-stay = ap (λ (B : Ledger). B .levels) (M .after);
+        count = ap (λ (B : Ledger). length (B .live)) (M .after) ∙ omega arith;
+        last = subst (λ (B : Ledger). Last B (endOf G (A .levels) end (means m)) (suc (baseOf r))) (sym (M .after)) (inr (m′, here refl, sym ends, omega (arith, base .0)));
+      },
+    )
       where
         base : (m .at ≡ baseOf r) × (0 < m .size)
         base = meant-base G r m q
@@ -225,8 +228,7 @@ recs-in G A end low (r ∷ rs) last u e =
         let (pos, W) = one-in G A end low r last (leb-true low (baseOf r) (order .0)) q in
         let (p, U) = ih (W .last) e in
         let more : endOfAll G (c .after .levels) v rs ≡ cond (eqb v 0) 0 (endOfAll G (A .levels) v rs) =
-        ap (λ (x : ℕ). endOfAll G x v rs) (W .levels-stay) ∙ sym (ap (λ (t : Bool). cond t 0 (endOfAll G (A .levels) v rs)) (ne-eqb v 0 (λ z. omega arith))) in
-        (
+        ap (λ (x : ℕ). endOfAll G x v rs) (W .levels-stay) ∙ sym (ap (λ (t : Bool). cond t 0 (endOfAll G (A .levels) v rs)) (ne-eqb v 0 (λ z. omega arith))) in (
           λ _. subst (λ (x : ℕ). 0 < x) more (p (inr pos)),
           record {
             levels-stay = U .levels-stay ∙ W .levels-stay;
@@ -342,7 +344,7 @@ module _ (G : Granule) (levels third count : ℕ) (of : granuleOf third ≡ G) w
           × ((j : ℕ) → all b .answer ≡ badImage j → v ≡ Bad j)
 
       from : Says (accepted (c .answer)) → Agree A fresh (block rs R) v blocks left
-      from s = record { good = s .0; bad = s .1; }
+      from s = record { good = s .0; bad = s .1 }
 
       go : (b : Bool) → accepted (c .answer) ≡ b → Agree A fresh (block rs R) v blocks left
       go true q =

@@ -28,9 +28,10 @@ returns : tie.Need-returns
 returns c =
     let a = c .before .before .before .before .before .before .before .before .args in
     let d = c .before .before .before .before .before .decimal in
-    let p = c .before .before .put in
-    (omega (arith, p .ensures .0, d .ensures .0 .1, digits-few (a .n) (d .result) (omega arith) (d .ensures .1 .0)),
-    p .ensures .1 ∙ ap (λ (x : List ℕ). take (a .at) (a .out .now) ++ x) (d .ensures .1 .1 ∙ decimal-is (a .n) (d .result) (omega arith) (d .ensures .1 .0)))
+    let p = c .before .before .put in (
+      omega (arith, p .ensures .0, d .ensures .0 .1, digits-few (a .n) (d .result) (omega arith) (d .ensures .1 .0)),
+      p .ensures .1 ∙ ap (λ (x : List ℕ). take (a .at) (a .out .now) ++ x) (d .ensures .1 .1 ∙ decimal-is (a .n) (d .result) (omega arith) (d .ensures .1 .0)),
+    )
 
 pub put-number-spec : {M : Type 1} → statement M
 put-number-spec =
