@@ -21,6 +21,40 @@ thread_local! { pub static WRITES: std::cell::RefCell<Vec<(usize, u64)>> = std::
 pub fn wrote(address: usize, value: u64) { WRITES.with(|w| w.borrow_mut().push((address, value))) }
 '''
 
+# the kit's libraries for input and output, where a crate names them: what is read is INPUT, a few bytes at a time, and what is written is OUTPUT
+KIT = '''
+thread_local! { pub static INPUT: std::cell::RefCell<Vec<u8>> = std::cell::RefCell::new(Vec::new()); }
+thread_local! { pub static OUTPUT: std::cell::RefCell<Vec<u8>> = std::cell::RefCell::new(Vec::new()); }
+pub mod libc {
+    pub const STDIN_FILENO: i32 = 0;
+    pub const STDOUT_FILENO: i32 = 1;
+    pub const STDERR_FILENO: i32 = 2;
+    pub const EINTR: i32 = 4;
+    pub fn read(_: i32, to: &mut [u8]) -> isize {
+        crate::INPUT.with(|input| {
+            let mut input = input.borrow_mut();
+            let n = to.len().min(input.len()).min(300);
+            to[..n].copy_from_slice(&input[..n]);
+            input.drain(..n);
+            n as isize
+        })
+    }
+    pub fn isatty(_: i32) -> i32 { 0 }
+}
+pub mod io {
+    pub fn count(got: isize, run: &[u8]) -> usize { (got.max(0) as usize).min(run.len()) }
+    pub fn write_all(_: i32, run: &[u8]) -> bool { crate::OUTPUT.with(|output| output.borrow_mut().extend_from_slice(run)); true }
+    pub fn decimal(n: u64, out: &mut [u8; 20]) -> usize { let text = n.to_string(); out[..text.len()].copy_from_slice(text.as_bytes()); text.len() }
+    pub fn print_decimal(fd: i32, n: u64) -> bool { write_all(fd, n.to_string().as_bytes()) }
+}
+pub mod os {
+    pub fn errno() -> i32 { 0 }
+    pub fn fail(_: &[u8]) {}
+}
+'''
+PRELUDE += KIT
+KIT_CRATES = ('libc', 'io', 'os')
+
 
 def library_crates(root):
     """The crates that others may lean on, in the order of crates.txt."""
@@ -35,7 +69,7 @@ def plain_crate(root, crate, texts):
         path = folder / file
         return Reader(texts[file] if file in texts else path.read_text(encoding='utf-8'), path)
 
-    beside = [name for name in dict(crate_lines(root))[crate] if name in libraries]
+    beside = [name for name in dict(crate_lines(root))[crate] if name in libraries or name in KIT_CRATES]
     lines = [f'pub mod {crate} {{', *(f'use crate::{name};' for name in beside)]
     body = '\n'.join(items(read('src/lib.rt'), read, ()))
     body = re.sub(r'\bcrate::(?!rattle_num\b|wrote\b)', f'crate::{crate}::', body)
@@ -97,7 +131,7 @@ def inner_module(r, read, module):
         r.until(';')
         r.at += 1
         inside = items(read('/'.join(('src', *module, name)) + '.rt'), read, module + (name,))
-    return '\n'.join([f'pub mod {name} {{', *inside, '}'])
+    return '\n'.join([f'pub mod {name} {{', 'use super::*;', *inside, '}'])
 
 
 def function(r):

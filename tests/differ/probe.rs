@@ -1026,6 +1026,61 @@ fn rounds(levels: u64) {
     }
 }
 
+// ---- the checking program
+
+// A block: its words, zeros, and the check.
+fn image_block(words: &[u64]) -> Vec<u8> {
+    let mut words = words.to_vec();
+    words.resize(63, 0);
+    let check = words.iter().enumerate().fold(0u64, |sum, (i, w)| sum.wrapping_add(w.wrapping_mul(2 * i as u64 + 1)));
+    words.push(check);
+    words.iter().flat_map(|w| w.to_le_bytes()).collect()
+}
+
+// An image of mappings: address, frame and power of two.
+fn image_of(levels: u64, granule: u64, mappings: &[(u64, u64, u64)]) -> Vec<u8> {
+    let mut image = image_block(&[0, levels, mappings.len() as u64, granule]);
+    for (k, part) in mappings.chunks(31).enumerate() {
+        let mut words = vec![k as u64 + 1 + ((part.len() as u64) << 32)];
+        for &(address, frame, power) in part {
+            let kind = if power == 12 || power == 14 { 3 } else { 1 };
+            words.extend([address + power, frame + entry::word_of(0, 1, 3) - 1 + kind]);
+        }
+        image.extend(image_block(&words));
+    }
+    image
+}
+
+fn checked(name: &str, image: &[u8]) {
+    INPUT.with(|input| *input.borrow_mut() = image.to_vec());
+    OUTPUT.with(|output| output.borrow_mut().clear());
+    let status = tried(|| checker::oak_check_image());
+    line(&format!("checker {name} = {status} {:?}", OUTPUT.with(|output| String::from_utf8_lossy(&output.borrow()).into_owned())));
+}
+
+fn images() {
+    let pages: Vec<_> = (0..31).map(|i| (PAGE * i, BASE + PAGE * i, 12)).collect();
+    let with = |more: &[(u64, u64, u64)]| image_of(3, 0, &[&pages[..], more].concat());
+    checked("empty", &image_of(3, 0, &[]));
+    checked("nothing", &[]);
+    checked("16 KiB", &image_of(3, KIB16, &[(0, BASE, 14), (MIB32, 0, 25)]));
+    checked("16 KiB, four levels", &image_of(4, KIB16, &[]));
+    checked("word 3", &image_of(3, PAGE, &[]));
+    checked("pages", &with(&[(MIB2, BASE, 12)]));
+    checked("order at the edge", &with(&[(PAGE, BASE, 12)]));
+    checked("overlap", &image_of(3, 0, &[(MIB2, 0, 21), (MIB2 + PAGE, BASE, 12)]));
+    checked("a power", &image_of(3, 0, &[(0, BASE, 13)]));
+    checked("past the space", &image_of(3, 0, &[(1 << 39, BASE, 12)]));
+    checked("not aligned", &image_of(3, 0, &[(PAGE, 0, 21)]));
+    for more in [1, 2, 512] {
+        checked("more", &[with(&[]), vec![0; more]].concat());
+        checked("less", &with(&[])[..1024 - more]);
+    }
+    let mut wrong = with(&[]);
+    wrong[700] ^= 1;
+    checked("a wrong check", &wrong);
+}
+
 fn main() {
     std::panic::set_hook(Box::new(|_| {}));
     paths();
@@ -1042,5 +1097,6 @@ fn main() {
     histories();
     of_16_kib(9, 0);
     of_16_kib(3, 5);
+    images();
     OUT.with(|o| o.borrow_mut().flush().unwrap());
 }

@@ -101,7 +101,7 @@ recs-drop (suc n) (suc i) ws l =
     second : getD (drop 2 ws) (2 * i + 1) 0 ≡ getD ws (2 * suc i + 1) 0
     second = let e : 2 + (2 * i + 1) ≡ 2 * suc i + 1 = omega arith in getD-drop 2 ws (2 * i + 1) 0 ∙ ap (λ (k : ℕ). getD ws k 0) e
 
-length-recs-in : (n : ℕ) (ws : List ℕ) → length (recsIn n ws) ≡ n
+pub length-recs-in : (n : ℕ) (ws : List ℕ) → length (recsIn n ws) ≡ n
 unfolding recsIn
 length-recs-in zero ws = refl
 length-recs-in (suc n) ws = ap suc (length-recs-in n (drop 2 ws))

@@ -22,7 +22,7 @@ use Rattle.restores.specs.Plays.{asDone, recordsAt, playFrom}
 -- ---- one block
 
 -- after at least one record the next base is above 0
-low-some : (low n : ℕ) (ws : List ℕ) → 0 < n → 0 < lowAfter low (recsIn n ws)
+pub low-some : (low n : ℕ) (ws : List ℕ) → 0 < n → 0 < lowAfter low (recsIn n ws)
 unfolding recsIn lowAfter
 low-some low zero ws l = absurd (omega arith)
 low-some low (suc zero) ws l = omega arith

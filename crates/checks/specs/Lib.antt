@@ -1,0 +1,4 @@
+pub mod Verdicts
+pub mod PieceLaws
+pub mod EndLaws
+pub mod VerdictCases

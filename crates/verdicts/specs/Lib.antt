@@ -1,0 +1,3 @@
+pub mod ByLedger
+pub mod Joined
+pub mod JoinedLaws
