@@ -223,10 +223,11 @@ module _ (G : Granule) (base : ℕ) (first : List ℕ) (base₂ : ℕ) (second :
     pub walk-last : (t : ℕ) → h ≡ 0 → machine.next t ≡ stepBy G a h w → none ≡ walk G mem a h table
     walk-last t z q = ap (λ (j : ℕ). onward j t) (sym z) ∙ walk-step (machine.next t) q
 
-    pub walk-down : (t : ℕ) → (h ≡ 0 → ⊥) → machine.next t ≡ stepBy G a h w → walk G mem a (h - 1) t ≡ walk G mem a h table
-    walk-down t d q =
+    -- what the walk from the table that a word names comes to, the walk comes to
+    pub walk-down : (x : Option Translation) (t : ℕ) → (h ≡ 0 → ⊥) → machine.next t ≡ stepBy G a h w → x ≡ walk G mem a (h - 1) t → x ≡ walk G mem a h table
+    walk-down x t d q o =
         let z : h ≡ suc (h - 1) = omega arith in
-        ap (λ (j : ℕ). onward j t) (sym z) ∙ walk-step (machine.next t) q
+        o ∙ ap (λ (j : ℕ). onward j t) (sym z) ∙ walk-step (machine.next t) q
 
   -- ---- the root
 
@@ -266,8 +267,8 @@ module _ (G : Granule) (base : ℕ) (first : List ℕ) (base₂ : ℕ) (second :
               let u : stage2 G levels base mem a ≡ none = rw (le-ltb a (inputEnd G levels) far) in
               sym u ∙ root-is
 
-          pub from-root : leb (entries G) (a / size) ≡ false → walk G mem a (levels - 1) base ≡ stage2Of G first second base base₂ levels a
-          from-root q =
+          pub from-root : leb (entries G) (a / size) ≡ false → (x : Option Translation) → x ≡ walk G mem a (levels - 1) base → x ≡ stage2Of G first second base base₂ levels a
+          from-root q x o =
               let near : a < inputEnd G levels = omega (arith, end-is, div-lt-iff-lt-mul {x = a} {y = entries G} (pow-pos (shift G (levels - 1))) .0 (leb-false _ _ q)) in
               let u : stage2 G levels base mem a ≡ walk G mem a (levels - 1) base = rw (lt-ltb a (inputEnd G levels) near) in
-              sym u ∙ root-is
+              o ∙ sym u ∙ root-is

@@ -106,9 +106,8 @@ returns-4 t c =
     let index = c .before .before .before .before .before .before .before .index-at in
     let word = c .before .before .before .before .before .before .word-at in
     let by = c .before .before .before .before .before .step-by .ensures in
-    c .descend .ensures
-    ∙ walk-down (granuleOf (s .args .granule)) (s .args .base) (s .args .words .now) (s .args .base2) (s .args .second .now) (s .args .address) (s .args .height) (index .result) (s .args .table) (word .result) (index .ensures) (word .ensures)
-    _ (c .before .if1 .left) (ap saysStep (sym (c .before .before .before .s2 .given .1)) ∙ by)
+    walk-down (granuleOf (s .args .granule)) (s .args .base) (s .args .words .now) (s .args .base2) (s .args .second .now) (s .args .address) (s .args .height) (index .result) (s .args .table) (word .result) (index .ensures) (word .ensures)
+    _ _ (c .before .if1 .left) (ap saysStep (sym (c .before .before .before .s2 .given .1)) ∙ by) (c .descend .ensures)
 
 pub +descend-spec : {M : Type 1} → statement M
 +descend-spec = close μ λ t. lts.spec

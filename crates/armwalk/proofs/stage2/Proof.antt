@@ -46,10 +46,9 @@ descend-requires c κs = let s = c .before .before .before .before .before .befo
 returns-5 : tie.Need-returns-5
 returns-5 c =
     let s = c .before .before .before .before .before .before .before .before .before in
-    c .descend .ensures
-    ∙ from-root (granuleOf (s .args .granule)) (s .args .base) (s .args .words .now) (s .args .base2) (s .args .second .now) (s .args .address) (s .args .levels)
+    from-root (granuleOf (s .args .granule)) (s .args .base) (s .args .words .now) (s .args .base2) (s .args .second .now) (s .args .address) (s .args .levels)
     (omega (arith, fewest-three (s .args .granule))) (omega (arith, c .before .before .before .before .before .most-levels .ensures)) (omega arith) (c .before .before .before .if3 .left)
-    (sym (c .before .before .is-past .ensures) ∙ c .before .if4 .left)
+    (sym (c .before .before .is-past .ensures) ∙ c .before .if4 .left) _ (c .descend .ensures)
 
 pub stage2-spec : {M : Type 1} → statement M
 stage2-spec =
