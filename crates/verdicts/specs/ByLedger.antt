@@ -15,13 +15,13 @@ use Rattle.path.specs.Areas.{Area, meetsRegion, meetsArea}
 use Rattle.entry.specs.Words.{frameAt}
 use Rattle.entry.specs.declared.Entry.{Entry}
 use Rattle.entry.specs.declared.Entry.the-variants.{Empty, Table, Frame, Damaged}
-use Rattle.model.specs.Answers.{Mapping, mapping, Answer, answered, refusal, refused, took}
+use Rattle.model.specs.Answers.{accepts, Mapping, mapping, Answer, answered, refusal, refused, took}
 use Rattle.model.specs.Calls.{mapTests}
 use Rattle.model.specs.Ledger.{Ledger, withLive, overlaps, anyOverlap, tablesLacking, freeTables, Entered, entered, mapL}
 use Rattle.model.specs.LedgerLaws.{and-true, true-and, any-overlap}
 use Rattle.image.specs.Bytes.{wordsOf}
 use Rattle.image.specs.Layout.{Rec, rec, baseOf, blocksFor, recsIn, rises, lowAfter, Reading, block, bad, ended, whole, goodBlock, readBlocks}
-use Rattle.image.specs.Images.{restored, badImage, accepted, Meant, means, means-none, framedAt, meant, Came, came, mapLedger, restoreOne, restoreRecs, restoreFrom}
+use Rattle.image.specs.Images.{restored, badImage, Meant, means, means-none, framedAt, meant, Came, came, mapLedger, restoreOne, restoreRecs, restoreFrom}
 use Rattle.checks.specs.declared.Seen.{Seen}
 use Rattle.checks.specs.declared.Verdict.{Verdict}
 use Rattle.checks.specs.declared.Verdict.the-variants.{Good, Bad}
@@ -124,12 +124,12 @@ module _ (G : Granule) (A : Ledger) (m : Mapping) where
     pub free : over ≡ false
     pub after : mapLedger G A m .after ≡ withLive A (same ∷ A .live)
 
-  pub map-in : accepted (mapLedger G A m .answer) ≡ true → Mapped
+  pub map-in : accepts (mapLedger G A m .answer) ≡ true → Mapped
   unfolding mapL
   map-in e = go (eqb number 0) over (ltb (freeTables G A) (tablesLacking G (A .levels) (A .live) same)) refl refl refl e
     where
       go : (x y z : Bool) → eqb number 0 ≡ x → over ≡ y → entering (eqb number 0) over (ltb (freeTables G A) (tablesLacking G (A .levels) (A .live) same)) ≡ entering x y z
-          → accepted (entering x y z .answer) ≡ true → Mapped
+          → accepts (entering x y z .answer) ≡ true → Mapped
       go true false false p q s e = record { tests = eqb-true number 0 p; free = q; after = ap (λ (d : Entered). d .after) s }
       go true false true p q s e = absurd (false≢true e)
       go true true z p q s e = absurd (false≢true e)
@@ -159,12 +159,12 @@ pub record Went (G : Granule) (A B : Ledger) (n end low : ℕ) : Type 0 where
   pub last : Last B end low
 
 -- one that is accepted starts where those before it end, or later, and its tests are passed
-one-in : (G : Granule) (A : Ledger) (end low : ℕ) (r : Rec) → Last A end low → low ≤ baseOf r → accepted (restoreOne G (mapLedger G) A (meant G r) .answer) ≡ true
+one-in : (G : Granule) (A : Ledger) (end low : ℕ) (r : Rec) → Last A end low → low ≤ baseOf r → accepts (restoreOne G (mapLedger G) A (meant G r) .answer) ≡ true
     → (0 < endOf G (A .levels) end (meant G r)) × Went G A (restoreOne G (mapLedger G) A (meant G r) .after) 1 (endOf G (A .levels) end (meant G r)) (suc (baseOf r))
 unfolding endOf
 one-in G A end low r last l = go (meant G r) refl
   where
-    go : (x : Meant) → meant G r ≡ x → accepted (restoreOne G (mapLedger G) A x .answer) ≡ true
+    go : (x : Meant) → meant G r ≡ x → accepts (restoreOne G (mapLedger G) A x .answer) ≡ true
         → (0 < endOf G (A .levels) end x) × Went G A (restoreOne G (mapLedger G) A x .after) 1 (endOf G (A .levels) end x) (suc (baseOf r))
     go (means-none k) q e = absurd (false≢true e)
     go (means m) q e = (
@@ -196,7 +196,7 @@ one-in G A end low r last l = go (meant G r) refl
         ends : endOf G (A .levels) end (means m) ≡ m .at + m .size
         ends = rw (eq-eqb (testsOf G (A .levels) m) 0 (tests-none G (A .levels) (A .area) (m .at) (m .frame) (m .size) (m .attributes) (M .tests)), le-leb end (m .at) apart) refl
 
-recs-in : (G : Granule) (A : Ledger) (end low : ℕ) (rs : List Rec) → Last A end low → rises low rs ≡ true → accepted (restoreRecs G (mapLedger G) A rs .answer) ≡ true
+recs-in : (G : Granule) (A : Ledger) (end low : ℕ) (rs : List Rec) → Last A end low → rises low rs ≡ true → accepts (restoreRecs G (mapLedger G) A rs .answer) ≡ true
     → ((0 < length rs) ⊎ (0 < end) → 0 < endOfAll G (A .levels) end rs)
     × Went G A (restoreRecs G (mapLedger G) A rs .after) (length rs) (endOfAll G (A .levels) end rs) (lowAfter low rs)
 unfolding restoreRecs endOfAll rises lowAfter
@@ -206,7 +206,7 @@ recs-in G A end low [] last u e = (some, record { levels-stay = refl; count = om
     some (inl z) = omega arith
     some (inr z) = z
 recs-in G A end low (r ∷ rs) last u e =
-    go (accepted (c .answer)) refl e (λ l f. recs-in G (c .after) (endOf G (A .levels) end (meant G r)) (suc (baseOf r)) rs l (order .1) f)
+    go (accepts (c .answer)) refl e (λ l f. recs-in G (c .after) (endOf G (A .levels) end (meant G r)) (suc (baseOf r)) rs l (order .1) f)
   where
     c : Came Ledger
     c = restoreOne G (mapLedger G) A (meant G r)
@@ -217,8 +217,8 @@ recs-in G A end low (r ∷ rs) last u e =
     order : (leb low (baseOf r) ≡ true) × (rises (suc (baseOf r)) rs ≡ true)
     order = and-true (leb low (baseOf r)) (rises (suc (baseOf r)) rs) u
 
-    go : (b : Bool) → accepted (c .answer) ≡ b → accepted (cond b (restoreRecs G (mapLedger G) (c .after) rs) c .answer) ≡ true
-        → (Last (c .after) v (suc (baseOf r)) → accepted (restoreRecs G (mapLedger G) (c .after) rs .answer) ≡ true
+    go : (b : Bool) → accepts (c .answer) ≡ b → accepts (cond b (restoreRecs G (mapLedger G) (c .after) rs) c .answer) ≡ true
+        → (Last (c .after) v (suc (baseOf r)) → accepts (restoreRecs G (mapLedger G) (c .after) rs .answer) ≡ true
         → ((0 < length rs) ⊎ (0 < v) → 0 < endOfAll G (c .after .levels) v rs)
         × Went G (c .after) (restoreRecs G (mapLedger G) (c .after) rs .after) (length rs) (endOfAll G (c .after .levels) v rs) (lowAfter (suc (baseOf r)) rs))
         → ((0 < suc (length rs)) ⊎ (0 < end) → 0 < cond (eqb v 0) 0 (endOfAll G (A .levels) v rs))
@@ -241,7 +241,7 @@ recs-in G A end low (r ∷ rs) last u e =
 recs-never : (G : Granule) (A : Ledger) (rs : List Rec) (j : ℕ) → restoreRecs G (mapLedger G) A rs .answer ≢ badImage j
 unfolding restoreRecs
 recs-never G A [] j e = let z : _≡_ {A = ℕ} 0 1 = cc in omega arith
-recs-never G A (r ∷ rs) j e = go (accepted (restoreOne G (mapLedger G) A (meant G r) .answer)) (recs-never G (restoreOne G (mapLedger G) A (meant G r) .after) rs j) e
+recs-never G A (r ∷ rs) j e = go (accepts (restoreOne G (mapLedger G) A (meant G r) .answer)) (recs-never G (restoreOne G (mapLedger G) A (meant G r) .after) rs j) e
   where
     one : (x : Meant) → restoreOne G (mapLedger G) A x .answer ≢ badImage j
     one (means m) e = map-never G A m j e
@@ -307,7 +307,7 @@ module _ (G : Granule) (levels third count : ℕ) (of : granuleOf third ≡ G) w
   -- What restore, by the ledger, says of what is read, and what a verdict says: accepted, it is good, with so many blocks and all the mappings that block 0
   -- says, and as many as were left have come in; answered 12, it is bad, with the same number.
   pub record Agree (A fresh : Ledger) (R : Reading) (v : Verdict) (blocks left : ℕ) : Type 0 where
-    pub good : accepted (restoreFrom G (mapLedger G) fresh A R .answer) ≡ true
+    pub good : accepts (restoreFrom G (mapLedger G) fresh A R .answer) ≡ true
         → (v ≡ Good blocks count) × (length (restoreFrom G (mapLedger G) fresh A R .after .live) ≡ left + length (A .live))
     pub bad : (j : ℕ) → restoreFrom G (mapLedger G) fresh A R .answer ≡ badImage j → v ≡ Bad j
 
@@ -327,11 +327,11 @@ module _ (G : Granule) (levels third count : ℕ) (of : granuleOf third ≡ G) w
 
   -- the records of a block, and then the blocks after it
   agree-block : (A fresh : Ledger) (rs : List Rec) (R : Reading) (v : Verdict) (blocks left : ℕ)
-      → (accepted (restoreRecs G (mapLedger G) A rs .answer) ≡ true
+      → (accepts (restoreRecs G (mapLedger G) A rs .answer) ≡ true
       → (length (restoreRecs G (mapLedger G) A rs .after .live) ≡ length rs + length (A .live)) × Agree (restoreRecs G (mapLedger G) A rs .after) fresh R v blocks (left - length rs))
       → length rs ≤ left → Agree A fresh (block rs R) v blocks left
   unfolding restoreFrom
-  agree-block A fresh rs R v blocks left f l = go (accepted (c .answer)) refl
+  agree-block A fresh rs R v blocks left f l = go (accepts (c .answer)) refl
     where
       c : Came Ledger
       c = restoreRecs G (mapLedger G) A rs
@@ -340,13 +340,13 @@ module _ (G : Granule) (levels third count : ℕ) (of : granuleOf third ≡ G) w
       all b = cond b (restoreFrom G (mapLedger G) fresh (c .after) R) (came (c .answer) fresh)
 
       Says : Bool → Type 0
-      Says b = (accepted (all b .answer) ≡ true → (v ≡ Good blocks count) × (length (all b .after .live) ≡ left + length (A .live)))
+      Says b = (accepts (all b .answer) ≡ true → (v ≡ Good blocks count) × (length (all b .after .live) ≡ left + length (A .live)))
           × ((j : ℕ) → all b .answer ≡ badImage j → v ≡ Bad j)
 
-      from : Says (accepted (c .answer)) → Agree A fresh (block rs R) v blocks left
+      from : Says (accepts (c .answer)) → Agree A fresh (block rs R) v blocks left
       from s = record { good = s .0; bad = s .1 }
 
-      go : (b : Bool) → accepted (c .answer) ≡ b → Agree A fresh (block rs R) v blocks left
+      go : (b : Bool) → accepts (c .answer) ≡ b → Agree A fresh (block rs R) v blocks left
       go true q =
           let (n, g) = f q in
           from (subst Says (sym q) (λ a. let (x, y) = g .good a in (x, omega (arith, y, n)), g .bad))
@@ -398,7 +398,7 @@ module _ (G : Granule) (levels third count : ℕ) (of : granuleOf third ≡ G) w
           → Agree B fresh (readBlocks m (suc k) (left - n) (lowAfter low rs) (drop 512 bs)) (restOf (before (suc k) (left - n) (lowAfter low rs) x) (drop 512 bs)) (suc k + length (drop 512 bs) / 512) (left - n)
 
       -- the records of a good block
-      taken : 512 ≤ length bs → After → goodBlock k n low b ≡ true → accepted (restoreRecs G (mapLedger G) A rs .answer) ≡ true
+      taken : 512 ≤ length bs → After → goodBlock k n low b ≡ true → accepts (restoreRecs G (mapLedger G) A rs .answer) ≡ true
           → (length (restoreRecs G (mapLedger G) A rs .after .live) ≡ length rs + length (A .live))
           × Agree (restoreRecs G (mapLedger G) A rs .after) fresh (readBlocks m (suc k) (left - n) (lowAfter low rs) (drop 512 bs)) v (k + length bs / 512) (left - length rs)
       taken l ih g a =

@@ -13,18 +13,18 @@ use Rattle.path.specs.Geometry.{Granule, granuleOf, goodGranule, goodLevels, en
 use Rattle.path.specs.Areas.{Area, total}
 use Rattle.path.specs.Numbers.{mostTables, goodArea, goodNumbers, setupOf, noSetup}
 use Rattle.path.specs.Laws.{granule-either, granule-four, granule-sixteen, granule-sane}
-use Rattle.model.specs.Answers.{Answer, answered, refusal, refused, formatted, audited, Pool, pool, Done, done, refuse}
+use Rattle.model.specs.Answers.{accepts, Answer, answered, refusal, refused, formatted, audited, Pool, pool, Done, done, refuse}
 use Rattle.model.specs.Calls.{formatW}
 use Rattle.model.specs.Audit.{auditW}
 use Rattle.model.specs.Ledger.{Ledger, ledger, tablesNeeded, auditL}
 use Rattle.model.specs.LedgerLaws.{and-true, true-and}
 use Rattle.image.specs.Bytes.{wordsOf}
 use Rattle.image.specs.Layout.{blocksFor, Reading, bad, whole, goodHead, readBlocks, readImage}
-use Rattle.image.specs.Images.{restored, badImage, accepted, granuleWord, Came, mapPool, mapLedger, restoreFrom, readInto, restoreW, restoreN}
+use Rattle.image.specs.Images.{restored, badImage, granuleWord, Came, mapPool, mapLedger, restoreFrom, readInto, restoreW, restoreN}
 use Rattle.demand.specs.Holds.{Holds}
 use Rattle.demand.specs.Demand3.{auditC}
-use Rattle.demand.specs.Theorem.{step-holds, from-format}
-use Rattle.demand.specs.Restores.{read-alike}
+use Rattle.demand.specs.Sims.{holds-sim, sim-holds}
+use Rattle.demand.specs.Theorem.{read-alike, step-holds, from-format}
 use Rattle.checks.specs.declared.Seen.{Seen}
 use Rattle.checks.specs.declared.Verdict.{Verdict}
 use Rattle.checks.specs.declared.Verdict.the-variants.{Good, Bad}
@@ -83,7 +83,7 @@ module _ (number levels : ℕ) (may : goodLevels (granuleOf number) levels ≡ t
 
     -- with these bytes and this reading
     pub record Whole (R : Reading) : Type 0 where
-      pub good : accepted (play R .answer) ≡ true → verdictOf image ≡ Good (length image / 512) (length (play R .after .live))
+      pub good : accepts (play R .answer) ≡ true → verdictOf image ≡ Good (length image / 512) (length (play R .after .live))
       pub bad : OfImage number levels image → (j : ℕ) → play R .answer ≡ badImage j → verdictOf image ≡ Bad j
 
     whole-bad : (OfImage number levels image → verdictOf image ≡ Bad 0) → Whole (bad 0)
@@ -164,22 +164,25 @@ module _ (number levels : ℕ) (area : Area) (ws : List ℕ) (cut : ℕ) (list i
   joined-played : F .answer ≡ formatted → goodLevels Gr levels ≡ true → Joined number levels image (done (played .answer) (played .after))
   unfolding auditL
   joined-played f may = record {
-    counted = λ e. (suc (tablesNeeded Gr (by-ledger .after .levels) (by-ledger .after .live)), length (by-ledger .after .live), step-holds Gr (granule-sane number) (alike .1) auditC .0, accepts e);
+    counted = λ e. (suc (tablesNeeded Gr (by-ledger .after .levels) (by-ledger .after .live)), length (by-ledger .after .live), step-holds Gr (granule-sane number) (alike .1) auditC .0, agreed e);
     refuses = λ k q. refused-at k q (played .answer) refl;
     same-block = λ o j q. W .bad o j (sym (alike .0) ∙ q);
   }
     where
       alike : (played .answer ≡ by-ledger .answer) × Holds Gr (played .after) (by-ledger .after)
-      alike = read-alike Gr (granule-sane number) (F .after) (ledger levels area []) R (from-format Gr (granule-sane number) levels area ws cut list f [] .after 0 .holds)
+      alike =
+          let Z = granule-sane number in
+          let (e, J) = read-alike Gr Z (holds-sim Gr Z (from-format Gr Z levels area ws cut list f [] .after 0 .holds)) R in
+          (e, sim-holds Gr Z J)
 
       W : Whole number levels may area image R
       W = whole-image number levels may area image
 
-      taken : {x : Answer} → played .answer ≡ x → accepted x ≡ true → verdictOf image ≡ Good (length image / 512) (length (by-ledger .after .live))
-      taken q a = W .good (ap accepted (sym (alike .0) ∙ q) ∙ a)
+      taken : {x : Answer} → played .answer ≡ x → accepts x ≡ true → verdictOf image ≡ Good (length image / 512) (length (by-ledger .after .live))
+      taken q a = W .good (ap accepts (sym (alike .0) ∙ q) ∙ a)
 
-      accepts : played .answer ≡ restored → verdictOf image ≡ Good (length image / 512) (length (by-ledger .after .live))
-      accepts e = taken e refl
+      agreed : played .answer ≡ restored → verdictOf image ≡ Good (length image / 512) (length (by-ledger .after .live))
+      agreed e = taken e refl
 
       refused-at : (k : ℕ) → verdictOf image ≡ Bad k → (x : Answer) → played .answer ≡ x → (no : ℕ) × (values : List ℕ) × (x ≡ refusal no values)
       refused-at k q (refusal n values) e = (n, values, refl)
