@@ -8,31 +8,55 @@ use plain::{End, Setup, LIMIT, SIZES, SIZES_16};
 
 type Fault = fn(&Call, &mut [u64], &mut [u64], &mut [u32]) -> Answer;
 
-struct Faulty(Fault);
-
-impl Engine for Faulty {
-    fn call(&mut self, call: &Call, words: &mut [u64], second: &mut [u64], list: &mut [u32]) -> Answer {
-        (self.0)(call, words, second, list)
-    }
-
-    fn list(&mut self, setup: Setup, start: u64, pool: Lent<'_>, runs: [&mut [u64]; 2]) -> Answer {
-        Plain.list(setup, start, pool, runs)
-    }
-}
-
 /// A fault of list: a setup and a start, the pool, and the two runs.
 type ListFault = fn(Setup, u64, Lent<'_>, [&mut [u64]; 2]) -> Answer;
 
-struct FaultyList(ListFault);
+/// A fault of save: a setup, the pool, and the run of bytes.
+type SaveFault = fn(Setup, Lent<'_>, &mut [u8]) -> Answer;
 
-impl Engine for FaultyList {
+/// A fault of restore: a setup, the memory of the pool, and the image.
+type RestoreFault = fn(Setup, &mut [u64], &mut [u64], &mut [u32], &[u8]) -> Answer;
+
+/// An engine whose calls are these.
+struct Faulty {
+    call: Fault,
+    list: ListFault,
+    save: SaveFault,
+    restore: RestoreFault,
+}
+
+/// The one without a fault.
+const RIGHT: Faulty = Faulty {
+    call: right,
+    list: |setup, start, pool, runs| Plain.list(setup, start, pool, runs),
+    save: right_save,
+    restore: right_restore,
+};
+
+impl Engine for Faulty {
     fn call(&mut self, call: &Call, words: &mut [u64], second: &mut [u64], list: &mut [u32]) -> Answer {
-        right(call, words, second, list)
+        (self.call)(call, words, second, list)
     }
 
     fn list(&mut self, setup: Setup, start: u64, pool: Lent<'_>, runs: [&mut [u64]; 2]) -> Answer {
-        (self.0)(setup, start, pool, runs)
+        (self.list)(setup, start, pool, runs)
     }
+
+    fn save(&mut self, setup: Setup, pool: Lent<'_>, image: &mut [u8]) -> Answer {
+        (self.save)(setup, pool, image)
+    }
+
+    fn restore(&mut self, setup: Setup, words: &mut [u64], second: &mut [u64], list: &mut [u32], image: &[u8]) -> Answer {
+        (self.restore)(setup, words, second, list, image)
+    }
+}
+
+fn right_save(setup: Setup, pool: Lent<'_>, image: &mut [u8]) -> Answer {
+    Plain.save(setup, pool, image)
+}
+
+fn right_restore(setup: Setup, words: &mut [u64], second: &mut [u64], list: &mut [u32], image: &[u8]) -> Answer {
+    Plain.restore(setup, words, second, list, image)
 }
 
 /// The right answer.
@@ -1488,7 +1512,7 @@ const LIST_FAULTS: &[(&str, ListFault)] = &[
 fn every_fault_is_found() {
     let calls = 500_000;
     for &(name, fault) in FAULTS {
-        let mut judge = Judge::new(Faulty(fault));
+        let mut judge = Judge::new(Faulty { call: fault, ..RIGHT });
         let found = judge.run(&mut Source::new(1), calls);
         assert!(found.is_err(), "{name} was not found in {calls} calls");
         println!("{name}: found at call {}", judge.coverage.calls());
@@ -1499,7 +1523,7 @@ fn every_fault_is_found() {
 fn every_fault_of_ranges_is_found() {
     let calls = 500_000;
     for &(name, fault) in RANGE_FAULTS {
-        let mut judge = Judge::new(Faulty(fault));
+        let mut judge = Judge::new(Faulty { call: fault, ..RIGHT });
         let found = judge.run(&mut Source::new(1), calls);
         assert!(found.is_err(), "{name} was not found in {calls} calls");
         println!("{name}: found at call {}", judge.coverage.calls());
@@ -1510,7 +1534,7 @@ fn every_fault_of_ranges_is_found() {
 fn every_fault_of_list_is_found() {
     let calls = 500_000;
     for &(name, fault) in LIST_FAULTS {
-        let mut judge = Judge::new(FaultyList(fault));
+        let mut judge = Judge::new(Faulty { list: fault, ..RIGHT });
         let found = judge.run(&mut Source::new(1), calls);
         assert!(found.is_err(), "{name} was not found in {calls} calls");
         println!("{name}: found at call {}", judge.coverage.calls());
@@ -1519,7 +1543,7 @@ fn every_fault_of_list_is_found() {
 
 #[test]
 fn no_fault_is_found_where_there_is_none() {
-    let mut judge = Judge::new(Faulty(right));
+    let mut judge = Judge::new(RIGHT);
     judge.run(&mut Source::new(2), 50_000).unwrap();
     assert_eq!(judge.coverage.calls(), 50_000);
 }
