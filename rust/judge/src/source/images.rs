@@ -135,10 +135,17 @@ fn spoil(random: &Random, setup: Setup, words: &[u64]) -> Vec<(usize, u64, bool)
         2 => vec![(any, random.number() >> random.below(64), false)],
         3 => vec![(any, flipped, true)],
         4 => {
-            let at = random.pick(&[0, 1, 2, 2, 3, 3, 4, 62]);
-            let odd = [0, 3, 4, 4096, 16384, 1 << 20, (1 << 20) + 1, random.number()];
-            let word = words[at];
-            vec![(at, random.pick(&[word.wrapping_add(1), word.wrapping_sub(1), random.pick(&odd)]), true)]
+            let (at, odd) = random.pick(&[
+                (0, random.number()),
+                (1, 7 - words[1].min(7)),
+                (2, (1 << 20) + random.below(2)),
+                (2, random.number()),
+                (3, 4096),
+                (3, 16384 - words[3].min(16384)),
+                (4, random.number()),
+                (62, random.number()),
+            ]);
+            vec![(at, random.pick(&[words[at].wrapping_add(1), words[at].wrapping_sub(1), odd, odd]), true)]
         }
         5 => {
             let at = any / WORDS * WORDS;
@@ -148,7 +155,9 @@ fn spoil(random: &Random, setup: Setup, words: &[u64]) -> Vec<(usize, u64, bool)
         6 => vec![(WORDS * blocks - random.pick(&[2, 3]), random.number(), true)],
         _ if mappings == 0 => vec![(any, flipped, false)],
         kind => {
-            let record = if random.percent(40) { mappings - 1 } else { random.below(mappings) };
+            // the last, the first of the last block, or any
+            let last = mappings - 1;
+            let record = random.pick(&[last, last - last % RECORDS, random.below(mappings)]);
             spoil_record(random, setup, words, mappings, record, kind - 7)
                 .into_iter()
                 .map(|(at, word)| (at, word, true))
