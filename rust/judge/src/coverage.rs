@@ -231,7 +231,10 @@ mod ranges {
                 ]
             }
             Call::MapRange { setup, .. } if matches!(answer.refusal, 6..=8) => {
-                let Some(walks) = walks(call, pool) else { return Vec::new() };
+                let walks = match walks(call, pool) {
+                    Some(walks) => walks,
+                    None => return Vec::new(),
+                };
                 let in_use = walks.iter().any(|(_, walk)| matches!(walk.end, End::Frame(_) | End::Table));
                 let missing = walks.iter().any(|(_, walk)| walk.end == End::Empty && walk.left > 1);
                 let most = walks.iter().map(|(_, walk)| walk.left - 1).max().unwrap_or(0);
@@ -254,7 +257,10 @@ mod ranges {
                 ]
             }
             Call::UnmapRange { setup, address, length } if matches!(answer.refusal, 8 | 10) => {
-                let Some(walks) = walks(call, pool) else { return Vec::new() };
+                let walks = match walks(call, pool) {
+                    Some(walks) => walks,
+                    None => return Vec::new(),
+                };
                 let cut = |&(at, walk): &(u64, Walk)| {
                     let size = Shape::of(setup.granule).region(walk.left);
                     let base = at / size * size;

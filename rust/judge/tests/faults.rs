@@ -940,7 +940,7 @@ const RANGE_FAULTS: &[(&str, Fault)] = &[
             (Call::MapRange { setup, address, frame, length, .. }, mut answer) if answer.refusal == 8 => {
                 let walks = ends(setup, Lent { words, second, list }, address, frame, length);
                 let first = walks.iter().find(|walk| walk.end != End::Empty);
-                answer.refusal = if first.is_some_and(is_taken) { 6 } else { 8 };
+                answer.refusal = if first.map_or(false, is_taken) { 6 } else { 8 };
                 answer
             }
             (_, answer) => answer,
@@ -1052,7 +1052,7 @@ const RANGE_FAULTS: &[(&str, Fault)] = &[
     ("an end of the frames that is not tested", |call, words, second, list| match (*call, right(call, words, second, list)) {
         (Call::MapRange { setup, address, length, .. }, mut answer) if answer.refusal == 4 => {
             let space = Shape::of(setup.granule).space(setup.levels);
-            answer.refusal = if address.checked_add(length).is_some_and(|end| end <= space) { 7 } else { 4 };
+            answer.refusal = if address.checked_add(length).map_or(false, |end| end <= space) { 7 } else { 4 };
             answer
         }
         (_, answer) => answer,
@@ -1194,7 +1194,7 @@ const RANGE_FAULTS: &[(&str, Fault)] = &[
             let root = root_entry(setup, address);
             let before = words.get(root).copied();
             let mut answer = right(call, words, second, list);
-            if answer.refusal == 0 && before.is_some_and(|word| word % 4096 == 3) && words[root] == 0 {
+            if answer.refusal == 0 && before.map_or(false, |word| word % 4096 == 3) && words[root] == 0 {
                 words[root] = before.unwrap();
                 answer.numbers[3] -= 1;
                 answer.numbers[SETUP + 1] -= 1;
@@ -1258,7 +1258,7 @@ const RANGE_FAULTS: &[(&str, Fault)] = &[
     }),
     ("8 for damage beside the range", |call, words, second, list| {
         let (mut places, mut entries) = ([], []);
-        let damaged = call.setup().is_some_and(|setup| {
+        let damaged = call.setup().map_or(false, |setup| {
             let lent = Lent { words, second, list };
             Plain.list(setup, 0, lent, [&mut places, &mut entries]).refusal == 8
         });
