@@ -296,7 +296,10 @@ impl Source {
     fn damage(&mut self, world: &World) -> Option<Step> {
         let (mut setup, memory) = (world.setup, &world.memory);
         let address = self.address();
-        let step = self.random.pick(&Damage::ALL).step(&self.random, setup, memory, address)?;
+        // frames in a pool of two regions are to be in either of them often
+        let in_pool = self.images && setup.second_tables > 0 && self.random.percent(20);
+        let damage = if in_pool { Damage::FrameInPool } else { self.random.pick(&Damage::ALL) };
+        let step = damage.step(&self.random, setup, memory, address)?;
         let mended = match step {
             Step::Word { at, .. } => Step::Word { at, word: memory.word(at), damage: None },
             Step::Place { at, .. } => Step::Place { at, number: memory.list[at], damage: None },
