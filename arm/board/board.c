@@ -45,6 +45,36 @@ _Noreturn void unexpected(void) {
     power_off();
 }
 
+/* ---- files */
+
+/* Asks the emulating machine for what the number says, with the words that it takes. */
+static uint64_t ask_host(uint64_t what, const uint64_t *words) {
+    register uint64_t x0 __asm__("x0") = what;
+    register const uint64_t *x1 __asm__("x1") = words;
+    __asm__ volatile("hlt #0xF000" : "+r"(x0) : "r"(x1) : "memory");
+    return x0;
+}
+
+/* SYS_OPEN, with the modes of fopen's "wb" and "rb" */
+int64_t file_open(const char *name, int to_write) {
+    uint64_t length = 0;
+    while (name[length] != 0) length++;
+    return (int64_t)ask_host(1, (uint64_t[]){(uint64_t)name, to_write ? 5 : 1, length});
+}
+
+/* SYS_WRITE and SYS_READ answer how many bytes are left, or -1 */
+static uint64_t moved(uint64_t what, int64_t file, uint64_t memory, uint64_t bytes) {
+    uint64_t left = ask_host(what, (uint64_t[]){(uint64_t)file, memory, bytes});
+    return left <= bytes ? bytes - left : 0;
+}
+
+uint64_t file_write(int64_t file, const void *from, uint64_t bytes) { return moved(5, file, (uint64_t)from, bytes); }
+
+uint64_t file_read(int64_t file, void *to, uint64_t bytes) { return moved(6, file, (uint64_t)to, bytes); }
+
+/* SYS_CLOSE */
+void file_close(int64_t file) { ask_host(2, (uint64_t[]){(uint64_t)file}); }
+
 /* ---- stage 2 */
 
 /* VTCR_EL2's TG0, SL0 and T0SZ: the granule, the level where a walk starts, and the space. SL0 counts the levels by the granule. */

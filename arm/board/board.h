@@ -16,6 +16,17 @@ void say(const char *format, ...);
 
 _Noreturn void power_off(void);
 
+/* ---- files: what is left when the board is off
+ *
+ * They stand on the machine that emulates the board (Arm's semihosting), and are the one thing that a later run of the program finds. */
+
+/* Opens a file, to write it anew or to read it. Answers its number, or -1. */
+int64_t file_open(const char *name, int to_write);
+/* How many bytes were written, and how many were read. */
+uint64_t file_write(int64_t file, const void *from, uint64_t bytes);
+uint64_t file_read(int64_t file, void *to, uint64_t bytes);
+void file_close(int64_t file);
+
 /* ---- stage 2 */
 
 /* Turns stage 2 on for EL1: three or four levels of tables of 4096 bytes, or three of 16384, with the root table at the address. */

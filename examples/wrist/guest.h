@@ -37,7 +37,7 @@ static inline void tell(const char *text, uint64_t number) { ask(TELL, (uint64_t
 static inline void give(volatile void *address) { ask(GIVE, (uint64_t)address, 0); }
 /* Lets the other guest go on. */
 static inline void wait(void) { ask(WAIT, 0, 0); }
-/* Is done. */
+/* Is done, and goes on from here when the unit has been off and is on again. */
 static inline void end(void) { ask(END, 0, 0); }
 
 #endif

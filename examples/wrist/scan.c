@@ -21,5 +21,12 @@ ENTRY void scan_guest(void) {
     ((void (*)(void))LABEL)(); /* what was scanned is never executed: the jump traps, and comes back */
     tell("still here after a jump into the label", *LABEL);
     *NOT_OURS = 1; /* traps, and is passed over */
+    uint64_t last = *LABEL;
     end();
+    tell("on again, and the last label was", last); /* that was in a register or on the stack, and what follows is in frames */
+    tell("the store still has", *STORE);
+    tell("the picture still has", PICTURE[BLOCK / 8 - 1] + PICTURE[0] + PICTURE[BLOCK / 16]);
+    tell("the archive still has", *ARCHIVE);
+    give(ARCHIVE);
+    for (;;) end();
 }

@@ -17,4 +17,8 @@ ENTRY void sync_guest(void) {
     give(BUFFER);
     wait();
     end();
+    tell("on again, and the label still reads", *LABEL);
+    *BUFFER = 41; /* traps, and waits until a table is free: there are as many as before */
+    tell("the buffer has", *BUFFER);
+    for (;;) end();
 }

@@ -19,6 +19,11 @@
  * The picture has 2 MiB. What is mapped on demand is the largest frame that fits both the hole that oak_query tells and what the guest
  * may have, so the picture comes by one fault and one map, and that needs no table.
  *
+ * When both guests are done the unit is switched off for a new battery, and all memory is lost. Before that it writes two files, which are
+ * all that the next boot finds: the pool's image, by oak_save, and what the guests had in registers and in the frames that they may write.
+ * That boot has the pool made by oak_restore and puts the guests' memory back, and they go on where they were. A boot without an image, or
+ * with one that is refused, formats the pool and starts the guests anew.
+ *
  * With SIXTEEN_KIB the granule is 16 KiB: pages, blocks of 32 MiB and regions of 64 GiB stand in the place of those above, and the story is
  * the same (guest.h). The 40 MiB are a block and pages then, which need a table of their own, and the pool has one more. */
 #include "board.h"
@@ -135,11 +140,10 @@ struct guest {
 #define SYNC UINT64_C(0x46000000)
 #define OUTBOX UINT64_C(0x50000000)
 #define PICTURE ((SCAN + 2 * BLOCK - 1) / BLOCK * BLOCK) /* at the next multiple of a block's size past the first block */
-static struct guest scan = {"scan", READY, 0, REGION - 1,
-    {{BLOCK, PAGE, SCAN + 2 * PAGE}, {2 * BLOCK, BLOCK, PICTURE}, {3 * BLOCK, PAGE, SCAN + 3 * PAGE}},
-    {0, 0, 0}, {.pc = PAGE, .sp = 3 * PAGE, .pstate = AT_EL1}};
-static struct guest sync = {"sync", READY, REGION, 2 * REGION - 1,
-    {{REGION + BLOCK, PAGE, SYNC + 2 * PAGE}}, {OUTBOX_AT, OUTBOX_SIZE, OUTBOX}, {.pc = REGION + PAGE, .sp = REGION + 3 * PAGE, .pstate = AT_EL1}};
+static struct guest scan = {.name = "scan", .first = 0, .last = REGION - 1,
+    .on_demand = {{BLOCK, PAGE, SCAN + 2 * PAGE}, {2 * BLOCK, BLOCK, PICTURE}, {3 * BLOCK, PAGE, SCAN + 3 * PAGE}}};
+static struct guest sync = {.name = "sync", .first = REGION, .last = 2 * REGION - 1,
+    .on_demand = {{REGION + BLOCK, PAGE, SYNC + 2 * PAGE}}, .range = {OUTBOX_AT, OUTBOX_SIZE, OUTBOX}};
 
 /* Copies a guest's text. The guest names it by an address in its own space: query says where that is, and whether it may be read. */
 static void copy_text(uint64_t address, char *text, uint64_t room) {
@@ -271,8 +275,105 @@ static int goes_on(struct guest *guest) {
     return 0;
 }
 
-int main(void) {
-    memset(spare, 0xFF, ENTRIES * MORE * sizeof *spare); /* what is found after boot may hold anything */
+/* ---- the change of the battery: what is in the files "image" and "guests" */
+
+enum { BLOCKS = 32, ASKED = 128 };
+static uint8_t image[512 * BLOCKS];
+
+/* What query answers at addresses in the first pages of each guest's first blocks, mapped and not. */
+static struct answer {
+    uint64_t refusal;
+    oak_found found;
+} answers_before[ASKED], answers_now[ASKED];
+
+static void ask_query(struct answer *answers) {
+    for (uint64_t i = 0; i < ASKED; i++)
+        answers[i].refusal = oak_query(&setup, LENT, i / 64 * REGION + i / 8 % 8 * BLOCK + i % 8 * PAGE + 8 * i, &answers[i].found);
+}
+
+/* Writes bytes to a file, or reads them from it. Answers whether all went. */
+static int move(int64_t file, int to_file, void *bytes, uint64_t count) {
+    return (to_file ? file_write(file, bytes, count) : file_read(file, bytes, count)) == count;
+}
+
+/* The frames that a guest may write, in the order of oak_list. What it may only read is its program, or the other's. */
+static int move_frames(int64_t file, int to_file) {
+    enum { ROOM = 16 };
+    uint64_t places[ROOM], entries[ROOM], start = 0;
+    oak_listed listed;
+    do {
+        if (oak_list(&setup, LENT, start, places, ROOM, entries, ROOM, &listed) != 0) return 0;
+        for (uint64_t i = 0; i < listed.written; i++) {
+            uint64_t size = OAK_PLACE_SIZE(places[i]), meaning = oak_word_meaning(entries[i], size);
+            int writes = (OAK_MEANING_ATTRIBUTES(meaning) & OAK_WRITE) != 0;
+            if (writes && !move(file, to_file, (void *)OAK_MEANING_BASE(meaning), size)) return 0;
+        }
+        start = listed.next;
+    } while (listed.more);
+    return 1;
+}
+
+/* The guests' registers, what query answered, and the guests' frames. The pool says which those are, so it is restored before they are
+ * read. An image has its checks; this file has none. */
+static int move_guests(int to_file) {
+    int64_t file = file_open("guests", to_file);
+    if (file < 0) return 0;
+    int all = move(file, to_file, &scan.registers, sizeof scan.registers) && move(file, to_file, &sync.registers, sizeof sync.registers) &&
+              move(file, to_file, answers_before, sizeof answers_before) && move_frames(file, to_file);
+    file_close(file);
+    return all;
+}
+
+static void save(void) {
+    oak_saved saved;
+    ask_query(answers_before);
+    int all = move_guests(1);
+    uint64_t refusal = oak_save(&setup, LENT, image, sizeof image, &saved);
+    say("save: answers %u, %u blocks\n", refusal, saved.blocks);
+    int64_t file = refusal == 0 ? file_open("image", 1) : -1;
+    if (file < 0 || !move(file, 1, image, 512 * saved.blocks) || !all) say("NOT ALL WAS WRITTEN\n");
+    if (file >= 0) file_close(file);
+}
+
+/* Makes the pool from the image, with the tables of both regions. Answers whether it did. */
+static int restore_pool(void) {
+    oak_restored answer;
+    int64_t file = file_open("image", 0);
+    if (file < 0) {
+        say("there is no image\n");
+        return 0;
+    }
+    uint64_t length = file_read(file, image, sizeof image);
+    file_close(file);
+
+    setup = (oak_setup){LEVELS, POOL, TABLES, 0, SPARE, MORE, PAGE};
+    uint64_t refusal = oak_restore(&setup, LENT, image, length, &answer);
+    setup = answer.setup;
+    say("restore from %u bytes: ", length);
+    if (refusal == 0) say("answers 0, %u levels, %u and %u tables of %x bytes\n", setup.levels, setup.tables, setup.second_tables, setup.granule);
+    else if (refusal == OAK_REFUSED_IMAGE) say("refused with %u, block %u\n", refusal, answer.block);
+    else say("refused with %u\n", refusal);
+    after_call();
+    return refusal == 0;
+}
+
+/* Puts back what the guests had. Answers whether they can go on. */
+static int restore_guests(void) {
+    if (!move_guests(0)) {
+        say("THE GUESTS ARE NOT ALL THERE\n");
+        return 0;
+    }
+    ask_query(answers_now);
+    if (memcmp(answers_before, answers_now, sizeof answers_now) == 0) say("query answers at %u addresses as before\n", (uint64_t)ASKED);
+    else say("QUERY ANSWERS OTHERWISE\n");
+    return 1;
+}
+
+/* ---- the unit */
+
+/* An empty pool of one region, and in it what each guest starts with. */
+static void start_anew(void) {
+    setup = (oak_setup){0, 0, 0, 0, 0, 0, 0};
     uint64_t refusal = oak_format(LEVELS, POOL, TABLES, 0, 0, PAGE, LENT, &setup);
     say("format: answers %u, %u levels, %u tables of %x bytes at %x\n", refusal, setup.levels, setup.tables, setup.granule, setup.base);
     after_call();
@@ -281,6 +382,14 @@ int main(void) {
     map(REGION + PAGE, SYNC, PAGE, OAK_READ | OAK_EXECUTE);
     map(REGION + 2 * PAGE, SYNC + PAGE, PAGE, OAK_READ | OAK_WRITE);
     map(REGION + 3 * PAGE, SCAN + PAGE, PAGE, OAK_READ);
+    scan.registers = (struct registers){.pc = PAGE, .sp = 3 * PAGE, .pstate = AT_EL1};
+    sync.registers = (struct registers){.pc = REGION + PAGE, .sp = REGION + 3 * PAGE, .pstate = AT_EL1};
+}
+
+int main(void) {
+    memset(words, 0xFF, ENTRIES * TABLES * sizeof *words); /* what memory holds after boot may be anything */
+    memset(spare, 0xFF, ENTRIES * MORE * sizeof *spare);
+    if (!restore_pool() || !restore_guests()) start_anew();
     map_range(sync.range.first, sync.range.frame, sync.range.size, OAK_READ | OAK_WRITE);
     stage2_on(LEVELS, setup.granule, POOL);
     view(&scan);
@@ -293,6 +402,7 @@ int main(void) {
     }
     view(&scan);
     view(&sync);
+    save();
     say("the wrist unit is off\n");
     return 0;
 }

@@ -258,7 +258,7 @@ impl Engine for Side {
                     let mut a = Removed { setup: junk, removed: 8, given: 9 };
                     Answer::new((self.unmap_range)(&s, w, wl, v, vl, l, ll, address, length, &mut a), numbers(&a))
                 }
-                Call::List { .. } => unreachable!("it is lent two runs more"),
+                Call::List { .. } | Call::Save { .. } | Call::Restore { .. } => unreachable!("these are lent more"),
             }
         }
     }
@@ -272,6 +272,29 @@ impl Engine for Side {
         let mut a = Listed { written: 1, more: 2, next: 3 };
         // SAFETY: the pointers and lengths are those of the five slices, of which the last two are borrowed mutably.
         let refusal = unsafe { (self.list)(&s, w, wl, v, vl, l, ll, start, p, pl, e, el, &mut a) };
+        Answer::new(refusal, numbers(&a))
+    }
+
+    fn save(&mut self, setup: plain::Setup, pool: Lent<'_>, image: &mut [u8]) -> Answer {
+        let Lent { words, second, list } = pool;
+        let [levels, base, tables, free, second_base, second_tables, granule] = of_setup(setup);
+        let s = Setup { levels, base, tables, free, second_base, second_tables, granule };
+        let (w, wl, v, vl, l, ll) = (words.as_ptr(), words.len(), second.as_ptr(), second.len(), list.as_ptr(), list.len());
+        let mut a = Saved { blocks: 1 };
+        // SAFETY: the pointers and lengths are those of the four slices, of which the last is borrowed mutably.
+        let refusal = unsafe { (self.save)(&s, w, wl, v, vl, l, ll, image.as_mut_ptr(), image.len(), &mut a) };
+        Answer::new(refusal, numbers(&a))
+    }
+
+    fn restore(&mut self, setup: plain::Setup, words: &mut [u64], second: &mut [u64], list: &mut [u32], image: &[u8]) -> Answer {
+        let [levels, base, tables, free, second_base, second_tables, granule] = of_setup(setup);
+        let s = Setup { levels, base, tables, free, second_base, second_tables, granule };
+        let (w, wl, v, vl) = (words.as_mut_ptr(), words.len(), second.as_mut_ptr(), second.len());
+        let (l, ll) = (list.as_mut_ptr(), list.len());
+        let junk = Setup { levels: 1, base: 2, tables: 3, free: 4, second_base: 5, second_tables: 6, granule: 7 };
+        let mut a = Restored { setup: junk, block: 8 };
+        // SAFETY: the pointers and lengths are those of the four slices, of which the last is only read.
+        let refusal = unsafe { (self.restore)(&s, w, wl, v, vl, l, ll, image.as_ptr(), image.len(), &mut a) };
         Answer::new(refusal, numbers(&a))
     }
 }

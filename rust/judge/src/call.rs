@@ -66,11 +66,34 @@ pub enum Call {
         places: usize,
         entries: usize,
     },
+    /// Into a run of so many bytes.
+    Save {
+        setup: Setup,
+        room: usize,
+    },
+    /// From the first so many bytes of the disk.
+    Restore {
+        setup: Setup,
+        bytes: usize,
+    },
 }
 
 impl Call {
-    pub const NAMES: [&'static str; 11] =
-        ["frame_word", "word_meaning", "format", "map", "unmap", "query", "audit", "add", "list", "map_range", "unmap_range"];
+    pub const NAMES: [&'static str; 13] = [
+        "frame_word",
+        "word_meaning",
+        "format",
+        "map",
+        "unmap",
+        "query",
+        "audit",
+        "add",
+        "list",
+        "map_range",
+        "unmap_range",
+        "save",
+        "restore",
+    ];
 
     /// The place of the call among the names.
     pub fn kind(&self) -> usize {
@@ -86,6 +109,8 @@ impl Call {
             Call::List { .. } => 8,
             Call::MapRange { .. } => 9,
             Call::UnmapRange { .. } => 10,
+            Call::Save { .. } => 11,
+            Call::Restore { .. } => 12,
         }
     }
 
@@ -99,7 +124,9 @@ impl Call {
             | Call::Add { setup, .. }
             | Call::MapRange { setup, .. }
             | Call::UnmapRange { setup, .. }
-            | Call::List { setup, .. } => Some(setup),
+            | Call::List { setup, .. }
+            | Call::Save { setup, .. }
+            | Call::Restore { setup, .. } => Some(setup),
             _ => None,
         }
     }
@@ -114,7 +141,9 @@ impl Call {
             | Call::Add { setup, .. }
             | Call::MapRange { setup, .. }
             | Call::UnmapRange { setup, .. }
-            | Call::List { setup, .. } => *setup = other,
+            | Call::List { setup, .. }
+            | Call::Save { setup, .. }
+            | Call::Restore { setup, .. } => *setup = other,
             Call::Format { .. } | Call::FrameWord { .. } | Call::WordMeaning { .. } => {}
         }
         self
@@ -122,7 +151,12 @@ impl Call {
 
     /// Whether it changes a pool and hands its setup back.
     pub fn hands_back(&self) -> bool {
-        self.changes_mappings() || matches!(self, Call::Format { .. } | Call::Add { .. })
+        self.changes_mappings() || self.makes_a_pool() || matches!(self, Call::Add { .. })
+    }
+
+    /// Whether it makes a pool, whatever the memory holds.
+    pub fn makes_a_pool(&self) -> bool {
+        matches!(self, Call::Format { .. } | Call::Restore { .. })
     }
 
     /// Whether it maps or unmaps.
@@ -137,7 +171,7 @@ impl Call {
 /// how many were removed and the tables given back; for unmap
 /// the setup, frame, size, attributes and tables given back, then base and size of the hole; for query base, frame, size and
 /// attributes, then base and size of the hole; for audit the tables and the mappings; for list how many were written, whether one was left out, and the base of
-/// the first such.
+/// the first such; for save the blocks, written or needed; for restore the setup and the bad block.
 #[derive(Clone, Copy, Debug, PartialEq, Eq)]
 pub struct Answer {
     pub refusal: u64,
@@ -185,11 +219,17 @@ impl Answer {
 
 /// Something that carries out calls on lent memory.
 pub trait Engine {
-    /// Any call but a list.
+    /// Any call but a list, a save and a restore.
     fn call(&mut self, call: &Call, words: &mut [u64], second: &mut [u64], list: &mut [u32]) -> Answer;
 
     /// A list from a start on, into two runs.
     fn list(&mut self, setup: Setup, start: u64, pool: Lent<'_>, runs: [&mut [u64]; 2]) -> Answer;
+
+    /// A save into a run of bytes.
+    fn save(&mut self, setup: Setup, pool: Lent<'_>, image: &mut [u8]) -> Answer;
+
+    /// A restore from a run of bytes.
+    fn restore(&mut self, setup: Setup, words: &mut [u64], second: &mut [u64], list: &mut [u32], image: &[u8]) -> Answer;
 }
 
 /// The memory of a pool that is only read.
@@ -238,7 +278,7 @@ impl Engine for Plain {
                 let (setup, result) = plain::unmap_range(setup, words, second, list, address, length);
                 with_setup(setup, result.map(|c| [c.removed, c.given]))
             }
-            Call::List { .. } => unreachable!("it is lent two runs more"),
+            Call::List { .. } | Call::Save { .. } | Call::Restore { .. } => unreachable!("these are lent more"),
         }
     }
 
@@ -246,6 +286,29 @@ impl Engine for Plain {
         let result = plain::list(setup, pool.words, pool.second, pool.list, start, places, entries);
         without_setup(result.map(|Listed { written, next }| listed(written, next)))
     }
+
+    fn save(&mut self, setup: Setup, pool: Lent<'_>, image: &mut [u8]) -> Answer {
+        saved(plain::save(setup, pool.words, pool.second, pool.list, image))
+    }
+
+    fn restore(&mut self, setup: Setup, words: &mut [u64], second: &mut [u64], list: &mut [u32], image: &[u8]) -> Answer {
+        let (setup, result) = plain::restore(setup, words, second, list, image);
+        restored(setup, result)
+    }
+}
+
+/// The answer of a save: the blocks, written or needed.
+pub(crate) fn saved(result: Result<u64, Refusal>) -> Answer {
+    match result {
+        Ok(blocks) => Answer::new(0, &[blocks]),
+        Err(refusal) => Answer::new(refusal.number(), &[refusal.block().unwrap_or(0)]),
+    }
+}
+
+/// The answer of a restore: the setup, and the bad block.
+pub(crate) fn restored(setup: Setup, result: Result<(), Refusal>) -> Answer {
+    let block = result.err().and_then(Refusal::block).unwrap_or(0);
+    Answer::new(result.err().map_or(0, Refusal::number), &[&numbers(setup)[..], &[block]].concat())
 }
 
 /// The numbers of a list's answer.

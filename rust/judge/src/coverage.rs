@@ -3,13 +3,14 @@
 use std::collections::BTreeMap;
 use std::fmt;
 
-use plain::{Refusal, Setup, GRANULES};
+use plain::{Refusal, Setup, BLOCK, GRANULES, RECORDS};
 
 use crate::damage::link;
+use crate::image::{blocks_of, mappings_in, words_of};
 use crate::{Answer, Call, Damage, Lent, Memory, Shape, Step, SETUP};
 
 /// The refusals that each call can give, in the order of [`Call::NAMES`].
-const POSSIBLE: [&[usize]; 11] = [
+const POSSIBLE: [&[usize]; 13] = [
     &[2, 3, 4, 5],
     &[2, 8],
     &[1],
@@ -21,6 +22,8 @@ const POSSIBLE: [&[usize]; 11] = [
     &[1, 4, 8],
     &[1, 2, 3, 4, 5, 6, 7, 8, 11],
     &[1, 2, 4, 5, 8, 10],
+    &[1, 8, 12],
+    &[1, 2, 4, 5, 6, 7, 8, 11, 12],
 ];
 
 /// The reasons for refusal 8 of map, unmap, query and the two ranges, and for 1 and 8 of add. Each must be met with both granules.
@@ -91,6 +94,29 @@ const LISTS: [&str; 12] = [
     "a damaged word",
     "nothing but a table reached twice",
     "nothing but damage below the start",
+];
+
+/// What saves and restores must have met, with both granules.
+const IMAGES: [&str; 19] = [
+    "saved, no mapping",
+    "saved, all blocks full",
+    "saved, three blocks and more",
+    "saved, not a byte more than the blocks",
+    "saved, bytes past the blocks",
+    "not saved, for a byte",
+    "not saved, damaged and no room",
+    "restored, fewer tables than those that were saved",
+    "restored, as many",
+    "restored, more",
+    "restored, two regions",
+    "restored, no table left",
+    "restored, a free count past the tables",
+    "not restored, block 0",
+    "not restored, a later block",
+    "not restored, the last block cut",
+    "not restored, a byte past the last block",
+    "not restored, other levels",
+    "not restored, the other granule",
 ];
 
 /// What must be met of the granule. The first four are refused with 1, by a format and by another call.
@@ -205,7 +231,10 @@ mod ranges {
                 ]
             }
             Call::MapRange { setup, .. } if matches!(answer.refusal, 6..=8) => {
-                let Some(walks) = walks(call, pool) else { return Vec::new() };
+                let walks = match walks(call, pool) {
+                    Some(walks) => walks,
+                    None => return Vec::new(),
+                };
                 let in_use = walks.iter().any(|(_, walk)| matches!(walk.end, End::Frame(_) | End::Table));
                 let missing = walks.iter().any(|(_, walk)| walk.end == End::Empty && walk.left > 1);
                 let most = walks.iter().map(|(_, walk)| walk.left - 1).max().unwrap_or(0);
@@ -228,7 +257,10 @@ mod ranges {
                 ]
             }
             Call::UnmapRange { setup, address, length } if matches!(answer.refusal, 8 | 10) => {
-                let Some(walks) = walks(call, pool) else { return Vec::new() };
+                let walks = match walks(call, pool) {
+                    Some(walks) => walks,
+                    None => return Vec::new(),
+                };
                 let cut = |&(at, walk): &(u64, Walk)| {
                     let size = Shape::of(setup.granule).region(walk.left);
                     let base = at / size * size;
@@ -263,9 +295,9 @@ const REGIONS: [&str; 3] = ["the first", "the second", "both"];
 #[derive(Default)]
 pub struct Coverage {
     /// For each call, how often each refusal came, and 0 for none.
-    answers: [[u64; 16]; 11],
+    answers: [[u64; 16]; 13],
     /// The same of the calls with the larger granule.
-    answers_16: [[u64; 16]; 11],
+    answers_16: [[u64; 16]; 13],
     /// How many maps took 0 to 3 tables, by the trees.
     taken: [[u64; 4]; 3],
     /// How many unmaps gave back 0 to 3 tables.
@@ -284,6 +316,10 @@ pub struct Coverage {
     causes: BTreeMap<(u64, &'static str), u64>,
     lists: BTreeMap<(u64, &'static str), u64>,
     ranges: BTreeMap<(u64, &'static str), u64>,
+    images: BTreeMap<(u64, &'static str), u64>,
+    /// The tables of the last pool that was saved, and of the one whose block 0 is on the disk.
+    saved: u64,
+    on_disk: u64,
     /// The base that the last list answered.
     next: Option<u64>,
     granule: BTreeMap<&'static str, [u64; 2]>,
@@ -305,7 +341,8 @@ impl Coverage {
         let last_damage = self.last_damage.take();
         match *step {
             Step::Word { damage, .. } | Step::Place { damage, .. } => self.last_damage = damage,
-            Step::Memory { .. } => {}
+            Step::Write { from: 0, .. } => self.on_disk = self.saved,
+            Step::Memory { .. } | Step::Write { .. } | Step::Change { .. } => {}
             Step::Call { ref call, words, second, places } => {
                 let answer = answer.expect("a call has an answer");
                 self.calls += 1;
@@ -321,12 +358,13 @@ impl Coverage {
                         Lent { words: &memory.words[..words], second: &memory.second[..second], list: &memory.list[..places] };
                     self.count_list(call, answer, pool);
                 }
+                self.count_image(call, answer, memory);
                 let lent = Lent { words: &memory.words[..words], second: &memory.second[..second], list: &memory.list[..places] };
                 for what in ranges::met(call, answer, lent) {
                     *self.ranges.entry((setup.granule, what)).or_default() += 1;
                 }
                 match (call, answer.refusal, last_damage) {
-                    (Call::Format { .. }, 0, _) => self.added = None,
+                    (Call::Format { .. }, 0, _) | (Call::Restore { .. }, 0 | 2.., _) => self.added = None,
                     (Call::Add { tables, .. }, 0, _) => self.added = Some(*tables),
                     (Call::Map { .. }, 0, _) => {
                         let taken = answer.numbers[SETUP];
@@ -374,7 +412,7 @@ impl Coverage {
         let mut met = |is: bool, what: usize, column: bool| {
             self.granule.entry(GRANULE[what]).or_default()[usize::from(column)] += u64::from(is)
         };
-        let format = matches!(call, Call::Format { .. });
+        let format = call.makes_a_pool();
         let lent = |shape: Shape| words as u64 == shape.entries().saturating_mul(setup.tables);
         match *call {
             Call::WordMeaning { word, size } => {
@@ -393,7 +431,7 @@ impl Coverage {
             _ => {}
         }
         met(!format && self.formatted != 0 && good && answer.refusal != 1 && setup.granule != self.formatted, 6, larger);
-        if format && answer.refusal == 0 {
+        if format && answer.refusal != 1 {
             self.formatted = setup.granule;
         }
     }
@@ -430,6 +468,54 @@ impl Coverage {
             *self.lists.entry((setup.granule, what)).or_default() += 1;
         }
         self.next = (more == 1).then_some(next);
+    }
+
+    /// Counts what a save or a restore has met.
+    fn count_image(&mut self, call: &Call, answer: &Answer, memory: &Memory) {
+        let (setup, met) = match *call {
+            Call::Save { setup, room } => {
+                let (good, blocks) = (answer.refusal == 0, answer.numbers[0] as usize);
+                let mappings = if good { mappings_in(&memory.image) } else { 0 };
+                self.saved = if good { setup.total() } else { self.saved };
+                let met = vec![
+                    (good && mappings == 0, 0),
+                    (mappings > 0 && mappings % RECORDS == 0, 1),
+                    (good && blocks > 3, 2),
+                    (good && room == BLOCK * blocks, 3),
+                    (good && room > BLOCK * blocks, 4),
+                    (answer.refusal == 12 && room + 1 == BLOCK * blocks, 5),
+                    (answer.refusal == 8 && room == 0, 6),
+                ];
+                (setup, met)
+            }
+            Call::Restore { setup, bytes } if answer.refusal != 1 => {
+                let (good, bad) = (answer.refusal == 0, answer.refusal == 12);
+                let (mappings, block) = (mappings_in(&memory.disk[..bytes]), answer.numbers[SETUP]);
+                let (total, last) = (setup.total(), blocks_of(mappings.min(1 << 20)));
+                let head = words_of(&memory.disk[..bytes.min(BLOCK)]);
+                let [levels, word] = [1, 3].map(|at: usize| head.get(at).copied().unwrap_or(0));
+                let granule = if word == 0 { GRANULES[0] } else { word };
+                let met = vec![
+                    (good && mappings > 0 && total < self.on_disk, 7),
+                    (good && mappings > 0 && total == self.on_disk, 8),
+                    (good && mappings > 0 && total > self.on_disk, 9),
+                    (good && mappings > 0 && setup.second_tables > 0, 10),
+                    (good && mappings > 0 && answer.setup().free == 0, 11),
+                    (good && setup.free >= total, 12),
+                    (bad && block == 0, 13),
+                    (bad && block > 0 && block < last && bytes >= BLOCK * last as usize, 14),
+                    (bad && block > 0 && block + 1 == last && bytes % BLOCK != 0 && block == (bytes / BLOCK) as u64, 15),
+                    (bad && block == last, 16),
+                    (bad && block == 0 && levels == 7 - setup.levels, 17),
+                    (bad && block == 0 && GRANULES.contains(&granule) && granule != setup.granule, 18),
+                ];
+                (setup, met)
+            }
+            _ => return,
+        };
+        for (_, what) in met.into_iter().filter(|(met, _)| *met) {
+            *self.images.entry((setup.granule, IMAGES[what])).or_default() += 1;
+        }
     }
 
     /// Counts where tables that a map took, or an unmap gave back, stand in a pool of two regions.
@@ -483,6 +569,11 @@ impl Coverage {
         for what in RANGES {
             for granule in GRANULES {
                 need(self.ranges.contains_key(&(granule, what)), format!("range: {what}, with the granule {granule}"));
+            }
+        }
+        for what in IMAGES {
+            for granule in GRANULES {
+                need(self.images.contains_key(&(granule, what)), format!("image: {what}, with the granule {granule}"));
             }
         }
         for what in GRANULE {
@@ -656,6 +747,9 @@ impl fmt::Display for Coverage {
         }
         for ((granule, what), count) in &self.ranges {
             writeln!(f, "range: {what}, with the granule {granule}: {count}")?;
+        }
+        for ((granule, what), count) in &self.images {
+            writeln!(f, "image: {what}, with the granule {granule}: {count}")?;
         }
         for (what, [one, other]) in &self.granule {
             writeln!(f, "{what}: {one} and {other}")?;

@@ -66,8 +66,9 @@ impl<E: Engine> Judge<E> {
             .map_err(|place| format!("after {plain:x?} the engine and plain differ: {place}"))?;
         match (step, plain) {
             (Step::Call { call, .. }, Some(answer)) if !changes(call, &answer) => {
-                // what a list wrote is compared with plain's, and is no part of the pool
+                // what a list or a save wrote is compared with plain's, and is no part of the pool
                 self.before.runs.clone_from(&self.memory.runs);
+                self.before.image.clone_from(&self.memory.image);
                 same(&self.memory, &self.before).map_err(|place| format!("{answer:x?} must change nothing, but did: {place}"))?;
             }
             _ => self.before.clone_from(&self.memory),
@@ -79,7 +80,10 @@ impl<E: Engine> Judge<E> {
 
 /// Whether a call with this answer may change the lent memory.
 fn changes(call: &Call, answer: &Answer) -> bool {
-    answer.refusal == 0 && call.hands_back()
+    match call {
+        Call::Restore { .. } => answer.refusal != 1,
+        _ => answer.refusal == 0 && call.hands_back(),
+    }
 }
 
 /// Compares two memories; the error names the first place where they differ.
@@ -99,5 +103,9 @@ fn same(one: &Memory, other: &Memory) -> Result<(), String> {
     if one.runs != other.runs {
         return Err(format!("the runs of a list are {:x?} and {:x?}", one.runs, other.runs));
     }
-    Err("the lengths".to_string())
+    let differ = |one: &[u8], other: &[u8]| one.iter().zip(other).position(|(a, b)| a != b);
+    if let Some(at) = differ(&one.image, &other.image) {
+        return Err(format!("byte {at} of the image is {:x} and {:x}", one.image[at], other.image[at]));
+    }
+    Err("the lengths, or the disk".to_string())
 }

@@ -90,6 +90,7 @@ fn text(step: &Step, answer: Option<&Answer>, memory: &Memory) -> String {
             return format!("Word {at} becomes {word:#x}");
         }
         Step::Place { at, number, .. } => return format!("Place {at} becomes {number}"),
+        Step::Write { .. } | Step::Change { .. } => unreachable!("a small stream has no image"),
         Step::Call { call, words, second, places } => (call, [words as u64, second as u64, places as u64]),
     };
     let answer = answer.expect("a call has an answer");
@@ -109,6 +110,7 @@ fn text(step: &Step, answer: Option<&Answer>, memory: &Memory) -> String {
         }
         Call::UnmapRange { setup, address, length } => ("Clear", numbers(setup), [address, length, 0, 0]),
         Call::List { setup, start, places, entries } => ("View", numbers(setup), [start, places as u64, entries as u64, 0]),
+        Call::Save { .. } | Call::Restore { .. } => unreachable!("a small stream has no image"),
     };
     let handed_back = if call.hands_back() { &answer.numbers[..SETUP] } else { &setup };
     let sum = if let Call::List { .. } = call { sum_of_runs(memory) } else { sum(memory) };

@@ -18,7 +18,10 @@ pub fn pieces(shape: Shape, address: u64, frame: u64, length: u64) -> impl Itera
 pub fn one_by_one(
     step: &Step, answer: &Answer, before: &Memory, engine: &mut impl Engine,
 ) -> Result<Option<([u64; SETUP + 6], Memory)>, String> {
-    let (&Step::Call { call, words, second, places }, 0) = (step, answer.refusal) else { return Ok(None) };
+    let (call, words, second, places) = match (step, answer.refusal) {
+        (&Step::Call { call, words, second, places }, 0) => (call, words, second, places),
+        _ => return Ok(None),
+    };
     let mut memory = before.clone();
     let mut make = |call: Call| memory.apply(&Step::Call { call, words, second, places }, engine).expect("a call has an answer");
     let all = match call {

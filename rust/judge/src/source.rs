@@ -8,7 +8,9 @@
 //!   several, so that ranges come to one table for two regions.
 //!
 //! The tables of some pools stand in two regions from the start; the others have memory for a second one, which may be added. Some pools have the
-//! larger granule. Now and then a pool of one granule is lent under the number of the other, with the count of tables that its words are then.
+//! larger granule. Pools are saved, and restored from what was saved of them or of others. Now and then a pool of one granule is lent under the number of the other, with the count of tables that its words are then.
+
+mod images;
 
 use std::collections::VecDeque;
 
@@ -54,14 +56,21 @@ pub struct Source {
     free: Option<u64>,
     /// The most places of a list.
     room: u64,
+    /// Whether pools are saved and restored.
+    images: bool,
+    /// Whether a restore comes next.
+    boots: bool,
+    /// The restores with which the history ends.
+    ends: u64,
 }
 
 impl Source {
     pub fn new(seed: u64) -> Source {
-        Source { large: 1, room: 600, ..Source::small(seed) }
+        Source { large: 1, room: 600, images: true, ..Source::small(seed) }
     }
 
-    /// A stream in which no pool has more than 64 tables in its first region, or 15 in its second; with the larger granule 15 and 3. No list has more than 16 places.
+    /// A stream in which no pool has more than 64 tables in its first region, or 15 in its second; with the larger granule 15 and 3. No list has more than 16 places,
+    /// and no pool is saved or restored.
     pub fn small(seed: u64) -> Source {
         Source {
             random: Random::new(seed),
@@ -74,18 +83,32 @@ impl Source {
             growing: true,
             free: None,
             room: 16,
+            images: false,
+            boots: false,
+            ends: 0,
         }
     }
 
     /// The next step, given where the last one led.
     pub fn next(&mut self, world: &World) -> Step {
-        if self.left == 0 && self.queue.is_empty() {
-            self.begin();
+        if self.queue.is_empty() && self.boots {
+            self.boots = false;
+            self.restore(world);
+        } else if self.queue.is_empty() && self.left == 0 {
+            if self.ends > 0 {
+                self.ends -= 1;
+                self.restore(world);
+            } else {
+                self.begin();
+            }
         }
         if let Some(step) = self.queue.pop_front() {
             return step;
         }
         self.left -= 1;
+        if self.images && self.random.percent(3) {
+            return self.image(world);
+        }
         if self.random.percent(4) {
             self.growing = !self.growing;
         }
@@ -100,6 +123,13 @@ impl Source {
             self.odd_lengths(&mut step, world);
         }
         step
+    }
+
+    /// A save, after which a pool with a history is restored at times.
+    fn image(&mut self, world: &World) -> Step {
+        self.boots = self.kind == Kind::Fresh && self.random.percent(15);
+        self.save(world);
+        self.queue.pop_front().expect("a save")
     }
 
     /// Begins a history: its memory, its pool and its book.
@@ -129,6 +159,7 @@ impl Source {
         self.growing = true;
         self.sweep = None;
         self.free = None;
+        self.ends = if self.images { 1 + self.random.below(5) } else { 0 };
 
         let random = &self.random;
         let entries = shape.entries() as usize;
@@ -265,7 +296,10 @@ impl Source {
     fn damage(&mut self, world: &World) -> Option<Step> {
         let (mut setup, memory) = (world.setup, &world.memory);
         let address = self.address();
-        let step = self.random.pick(&Damage::ALL).step(&self.random, setup, memory, address)?;
+        // frames in a pool of two regions are to be in either of them often
+        let in_pool = self.images && setup.second_tables > 0 && self.random.percent(20);
+        let damage = if in_pool { Damage::FrameInPool } else { self.random.pick(&Damage::ALL) };
+        let step = damage.step(&self.random, setup, memory, address)?;
         let mended = match step {
             Step::Word { at, .. } => Step::Word { at, word: memory.word(at), damage: None },
             Step::Place { at, .. } => Step::Place { at, number: memory.list[at], damage: None },
@@ -778,6 +812,11 @@ fn lend_what_is_asked(call: Call, world: &World) -> Step {
             let granule = setup.granule;
             setup.tables = room(granule, tables, &world.memory.words);
             setup.second_tables = room(granule, second_tables, &world.memory.second);
+        }
+        Call::Restore { setup: made, .. } => {
+            setup.granule = made.granule;
+            setup.tables = room(made.granule, made.tables, &world.memory.words);
+            setup.second_tables = room(made.granule, made.second_tables, &world.memory.second);
         }
         Call::Add { tables, .. } => setup.second_tables = room(setup.granule, tables, &world.memory.second),
         _ if call.setup() == Some(mixed_up(world.setup)) => setup = mixed_up(world.setup),

@@ -3,8 +3,8 @@
 use plain::ledger::{Ledger, Mapping};
 use plain::Setup;
 
-use crate::call::{with_setup, without_setup};
-use crate::{listed, Answer, Call, Damage, Engine, Lent, Plain, Shape};
+use crate::call::{restored, saved, with_setup, without_setup};
+use crate::{image, listed, Answer, Call, Damage, Engine, Lent, Plain, Shape};
 
 /// Lent memory. It is longer than the pool in it, so that longer and shorter runs can be lent.
 #[derive(Clone, Debug, Default, PartialEq, Eq)]
@@ -14,10 +14,17 @@ pub struct Memory {
     pub list: Vec<u32>,
     /// The two runs of the last list, each with some places more than were lent. All were `BLANK` before it.
     pub runs: [Vec<u64>; 2],
+    /// The run of the last save, with some bytes more than were lent. All were `BLANK_BYTE` before it.
+    pub image: Vec<u8>,
+    /// The bytes from which pools are restored. They outlive all other memory.
+    pub disk: Vec<u8>,
 }
 
 /// A number that no list writes.
 pub const BLANK: u64 = 7;
+
+/// What the bytes of a run are before a save.
+pub const BLANK_BYTE: u8 = 0xA5;
 
 /// The places of a run that are not lent.
 const PAST: usize = 3;
@@ -32,6 +39,10 @@ pub enum Step {
     Word { at: usize, word: u64, damage: Option<Damage> },
     /// A place of the free list is overwritten from outside.
     Place { at: usize, number: u32, damage: Option<Damage> },
+    /// Bytes of the last save's run are written to the same place of the disk.
+    Write { from: usize, to: usize },
+    /// A word of the disk is overwritten; the check of its block is made right, or not.
+    Change { at: usize, word: u64, checked: bool },
     /// A call, which is lent the first so many words of each run, and places.
     Call { call: Call, words: usize, second: usize, places: usize },
 }
@@ -55,13 +66,29 @@ impl Memory {
     pub fn apply(&mut self, step: &Step, engine: &mut impl Engine) -> Option<Answer> {
         match *step {
             Step::Memory { words, second, places } => {
-                *self = Memory { words: vec![0; words], second: vec![0; second], list: vec![0; places], ..Memory::default() }
+                let disk = std::mem::take(&mut self.disk);
+                *self =
+                    Memory { words: vec![0; words], second: vec![0; second], list: vec![0; places], disk, ..Memory::default() }
             }
             Step::Word { at, word, .. } => match at.checked_sub(self.words.len()) {
                 None => self.words[at] = word,
                 Some(at) => self.second[at] = word,
             },
             Step::Place { at, number, .. } => self.list[at] = number,
+            Step::Write { from, to } => {
+                self.disk.resize(self.disk.len().max(to), 0);
+                self.disk[from..to].copy_from_slice(&self.image[from..to]);
+            }
+            Step::Change { at, word, checked } => image::change(&mut self.disk, at, word, checked),
+            Step::Call { call: Call::Save { setup, room }, words, second, places } => {
+                let pool = Lent { words: &self.words[..words], second: &self.second[..second], list: &self.list[..places] };
+                self.image = vec![BLANK_BYTE; room + PAST];
+                return Some(engine.save(setup, pool, &mut self.image[..room]));
+            }
+            Step::Call { call: Call::Restore { setup, bytes }, words, second, places } => {
+                let (words, second) = (&mut self.words[..words], &mut self.second[..second]);
+                return Some(engine.restore(setup, words, second, &mut self.list[..places], &self.disk[..bytes]));
+            }
             Step::Call { call: Call::List { setup, start, places: room, entries }, words, second, places } => {
                 let pool = Lent { words: &self.words[..words], second: &self.second[..second], list: &self.list[..places] };
                 self.runs = [room, entries].map(|length| vec![BLANK; length + PAST]);
@@ -82,6 +109,15 @@ impl Memory {
         match one.1.iter().chain(other.1).find(|&&number| number != BLANK) {
             Some(number) => Err(format!("a list of {count} has {number:x} past them")),
             None => Ok(one.0.iter().copied().zip(other.0.iter().copied()).collect()),
+        }
+    }
+
+    /// What a save wrote that wrote so many blocks: nothing past them.
+    pub fn wrote_blocks(&self, count: u64) -> Result<&[u8], String> {
+        let (wrote, past) = self.image.split_at(plain::BLOCK * count as usize);
+        match past.iter().position(|&byte| byte != BLANK_BYTE) {
+            Some(at) => Err(format!("a save of {count} blocks has {:x} at byte {at} past them", past[at])),
+            None => Ok(wrote),
         }
     }
 
@@ -111,11 +147,16 @@ impl World {
         let answer = self.memory.apply(step, &mut Plain);
         let (call, words, second, places, answer) = match (step, answer) {
             (&Step::Call { ref call, words, second, places }, Some(answer)) => (call, words, second, places, answer),
+            // the pool is as it was
+            (Step::Write { .. } | Step::Change { .. }, answer) => return Ok((answer, false)),
             (_, answer) => {
                 (self.ledger, self.sound) = (None, false);
                 return Ok((answer, false));
             }
         };
+        if let Call::Restore { setup, bytes } = *call {
+            return self.restored(setup, bytes, [words, second, places], answer);
+        }
         // the ledger knows nothing of other setups and lengths, but for those of the memory that an add brings
         let Setup { tables, second_tables, granule, .. } = self.setup;
         let entries = Shape::of(granule).entries();
@@ -135,6 +176,13 @@ impl World {
                 }
             }
             self.next = (answer.numbers[1] == 1).then_some(answer.numbers[2]);
+        }
+        if let Call::Save { .. } = call {
+            let wrote = self.memory.wrote_blocks(if answer.refusal == 0 { answer.numbers[0] } else { 0 })?;
+            let ledger = self.ledger.as_ref().filter(|_| known && answer.refusal == 0);
+            if matches!(ledger, Some(ledger) if wrote != &image::of_ledger(self.setup, ledger)[..]) {
+                return Err(format!("plain saves {:x?}\nand the ledger another image", image::words_of(wrote)));
+            }
         }
         let expected = self.ledger.as_mut().filter(|_| known).map(|ledger| ask(ledger, self.setup, call, second, places));
         if matches!(expected, Some(expected) if expected != answer) {
@@ -159,6 +207,33 @@ impl World {
             }
         }
         Ok((Some(answer), expected.is_some()))
+    }
+
+    /// Compares the answer of a restore with the ledger's, which has the mappings of the image then. Refused with 1, nothing was done; with another number the pool is
+    /// as format leaves it.
+    fn restored(
+        &mut self, setup: Setup, bytes: usize, lent: [usize; 3], answer: Answer,
+    ) -> Result<(Option<Answer>, bool), String> {
+        if answer.refusal == 1 {
+            return Ok((Some(answer), false));
+        }
+        let (ledger, result) = image::to_ledger(setup, &self.memory.disk[..bytes]);
+        let expected = restored(Setup { free: ledger.free(), ..setup }, result);
+        if expected != answer {
+            return Err(format!("plain answers {answer:x?}\nand the ledger {expected:x?}"));
+        }
+        if answer.refusal != 0 {
+            let mut fresh = self.memory.clone();
+            let Setup { levels, base, tables, second_base, second_tables, granule, .. } = setup;
+            let format = Call::Format { levels, base, tables, second_base, second_tables, granule };
+            let [words, second, places] = lent;
+            fresh.apply(&Step::Call { call: format, words, second, places }, &mut Plain);
+            if fresh != self.memory {
+                return Err(format!("after {answer:x?} the pool is not as format leaves it"));
+            }
+        }
+        (self.ledger, self.sound, self.setup) = (Some(ledger), true, answer.setup());
+        Ok((Some(answer), true))
     }
 }
 
@@ -195,6 +270,12 @@ fn ask(ledger: &mut Ledger, setup: Setup, call: &Call, second: usize, places: us
             let result = ledger.list(start, places as u64, entries as u64);
             without_setup(result.map(|(mappings, next)| listed(mappings.len() as u64, next)))
         }
+        Call::Save { room, .. } => {
+            let blocks = image::blocks_of(ledger.mappings().len() as u64);
+            let fits = room as u64 >= plain::BLOCK as u64 * blocks;
+            saved(if fits { Ok(blocks) } else { Err(plain::Refusal::Image(blocks)) })
+        }
+        Call::Restore { .. } => unreachable!("it is asked with its own setup"),
         Call::Format { .. } | Call::FrameWord { .. } | Call::WordMeaning { .. } => unreachable!("these have no setup"),
     }
 }

@@ -6,7 +6,7 @@ use std::env;
 
 use judge::{cases, lines, listed, numbers as of_setup};
 use judge::{Answer, Call, Engine, Judge, Lent, Memory, Random, Shape, Source, Step, World, SETUP};
-use oakabut::raw::{self, Found, Mapped, Removed, Unmapped};
+use oakabut::raw::{self, Found, Mapped, Removed, Restored, Saved, Unmapped};
 use oakabut::{Audit, Hole, Listed, Mapping, Pool, Refusal, Setup};
 
 /// How many calls to judge, and from which seed.
@@ -258,6 +258,8 @@ fn all_refuse_1(judge: &mut Judge<Raw>, setup: plain::Setup, words: usize, place
         Call::List { setup, start: 0, places: 2, entries: 2 },
         Call::MapRange { setup, address: 0, frame: 0x8000_0000, length: 16384, attributes: 3 },
         Call::UnmapRange { setup, address: 0, length: 16384 },
+        Call::Save { setup, room: 1024 },
+        Call::Restore { setup, bytes: 0 },
     ];
     for call in calls {
         let step = Step::Call { call, words, second: 0, places };
@@ -502,14 +504,15 @@ fn from_theirs(setup: Setup) -> [u64; SETUP] {
 struct Raw;
 
 const JUNK: u64 = 0xDEAD_BEEF_DEAD_BEEF;
+const JUNK_SETUP: Setup =
+    Setup { levels: JUNK, base: JUNK, tables: JUNK, free: JUNK, second_base: JUNK, second_tables: JUNK, granule: JUNK };
 
 impl Engine for Raw {
     fn call(&mut self, call: &Call, words: &mut [u64], second: &mut [u64], list: &mut [u32]) -> Answer {
         let setup = to_theirs(call.setup().unwrap_or_default());
         let (w, wl, l, ll) = (words.as_mut_ptr(), words.len(), list.as_mut_ptr(), list.len());
         let (v, vl) = (second.as_mut_ptr(), second.len());
-        let junk =
-            Setup { levels: JUNK, base: JUNK, tables: JUNK, free: JUNK, second_base: JUNK, second_tables: JUNK, granule: JUNK };
+        let junk = JUNK_SETUP;
         // SAFETY: the pointers and lengths are those of the three slices, which nothing else uses.
         unsafe {
             match *call {
@@ -560,7 +563,7 @@ impl Engine for Raw {
                     let refusal = raw::oak_unmap_range(&setup, w, wl, v, vl, l, ll, address, length, &mut a);
                     Answer::new(refusal, &[&from_theirs(a.setup)[..], &[a.removed, a.given]].concat())
                 }
-                Call::List { .. } => unreachable!("it is lent two runs more"),
+                Call::List { .. } | Call::Save { .. } | Call::Restore { .. } => unreachable!("these are lent more"),
             }
         }
     }
@@ -587,6 +590,47 @@ impl Engine for Raw {
             )
         };
         Answer::new(refusal, &[a.written, a.more, a.next])
+    }
+
+    fn save(&mut self, setup: plain::Setup, pool: Lent<'_>, image: &mut [u8]) -> Answer {
+        let Lent { words, second, list } = pool;
+        let mut a = Saved { blocks: JUNK };
+        // SAFETY: the pointers and lengths are those of the four slices, of which the last is borrowed mutably.
+        let refusal = unsafe {
+            raw::oak_save(
+                &to_theirs(setup),
+                words.as_ptr(),
+                words.len(),
+                second.as_ptr(),
+                second.len(),
+                list.as_ptr(),
+                list.len(),
+                image.as_mut_ptr(),
+                image.len(),
+                &mut a,
+            )
+        };
+        Answer::new(refusal, &[a.blocks])
+    }
+
+    fn restore(&mut self, setup: plain::Setup, words: &mut [u64], second: &mut [u64], list: &mut [u32], image: &[u8]) -> Answer {
+        let mut a = Restored { setup: JUNK_SETUP, block: JUNK };
+        // SAFETY: the pointers and lengths are those of the four slices, of which the last is only read.
+        let refusal = unsafe {
+            raw::oak_restore(
+                &to_theirs(setup),
+                words.as_mut_ptr(),
+                words.len(),
+                second.as_mut_ptr(),
+                second.len(),
+                list.as_mut_ptr(),
+                list.len(),
+                image.as_ptr(),
+                image.len(),
+                &mut a,
+            )
+        };
+        Answer::new(refusal, &[&from_theirs(a.setup)[..], &[a.block]].concat())
     }
 }
 
@@ -627,7 +671,7 @@ impl Engine for Safe {
             Call::Query { address, .. } => (pool.query(address).map(|m| vec![m.base, m.frame, m.size, m.attributes]), 4),
             Call::Audit { .. } => (pool.audit().map(|a| vec![a.tables, a.mappings]), 2),
             Call::Add { .. } => unreachable!("it was made before"),
-            Call::List { .. } => unreachable!("it is lent two runs more"),
+            Call::List { .. } | Call::Save { .. } | Call::Restore { .. } => unreachable!("these are lent more"),
         };
         let mut numbers = if call.hands_back() { from_theirs(pool.setup()).to_vec() } else { vec![] };
         let refusal = result.as_ref().map_or_else(|refusal| refusal.number(), |_| 0);
@@ -648,6 +692,29 @@ impl Engine for Safe {
         match pool.list_from(start, places, entries) {
             Ok(Listed { written, next }) => Answer::new(0, &listed(written as u64, next)),
             Err(refusal) => Answer::new(refusal.number(), &[]),
+        }
+    }
+
+    fn save(&mut self, setup: plain::Setup, pool: Lent<'_>, image: &mut [u8]) -> Answer {
+        let Lent { words, second, list } = pool;
+        let (mut words, mut second, mut list) = (words.to_vec(), second.to_vec(), list.to_vec());
+        match Pool::resume_two(to_theirs(setup), &mut words, &mut second, &mut list).save(image) {
+            Ok(blocks) => Answer::new(0, &[blocks as u64]),
+            Err(refusal) => Answer::new(refusal.number(), &[refusal.block().unwrap_or(0)]),
+        }
+    }
+
+    fn restore(&mut self, setup: plain::Setup, words: &mut [u64], second: &mut [u64], list: &mut [u32], image: &[u8]) -> Answer {
+        let [levels, base, tables, _, second_base, second_tables, granule] = of_setup(setup);
+        let pool = Pool::restore_two(levels, base, tables, second_base, second_tables, granule, words, second, list, image);
+        match pool {
+            Ok(pool) => Answer::new(0, &from_theirs(pool.setup())),
+            Err(Refusal::SETUP) => Answer::new(1, &[]),
+            // there is no pool to ask for its setup, which is that of a fresh one
+            Err(refusal) => {
+                let fresh = of_setup(plain::Setup { free: setup.total() - 1, ..setup });
+                Answer::new(refusal.number(), &[&fresh[..], &[refusal.block().unwrap_or(0)]].concat())
+            }
         }
     }
 }

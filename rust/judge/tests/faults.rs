@@ -3,36 +3,60 @@
 //! They are the plain program but for the fault. Among them are the wrong engines and the tempting mistakes that the document
 //! names.
 
-use judge::{listed, numbers, pieces, Answer, Call, Engine, Judge, Lent, Plain, Shape, Source, BLANK, SETUP};
-use plain::{End, Setup, LIMIT, SIZES, SIZES_16};
+use judge::{listed, numbers, pieces, Answer, Call, Engine, Judge, Lent, Plain, Shape, Source, BLANK, BLANK_BYTE, SETUP};
+use plain::{End, Setup, BLOCK, LIMIT, SIZES, SIZES_16};
 
 type Fault = fn(&Call, &mut [u64], &mut [u64], &mut [u32]) -> Answer;
-
-struct Faulty(Fault);
-
-impl Engine for Faulty {
-    fn call(&mut self, call: &Call, words: &mut [u64], second: &mut [u64], list: &mut [u32]) -> Answer {
-        (self.0)(call, words, second, list)
-    }
-
-    fn list(&mut self, setup: Setup, start: u64, pool: Lent<'_>, runs: [&mut [u64]; 2]) -> Answer {
-        Plain.list(setup, start, pool, runs)
-    }
-}
 
 /// A fault of list: a setup and a start, the pool, and the two runs.
 type ListFault = fn(Setup, u64, Lent<'_>, [&mut [u64]; 2]) -> Answer;
 
-struct FaultyList(ListFault);
+/// A fault of save: a setup, the pool, and the run of bytes.
+type SaveFault = fn(Setup, Lent<'_>, &mut [u8]) -> Answer;
 
-impl Engine for FaultyList {
+/// A fault of restore: a setup, the memory of the pool, and the image.
+type RestoreFault = fn(Setup, &mut [u64], &mut [u64], &mut [u32], &[u8]) -> Answer;
+
+/// An engine whose calls are these.
+struct Faulty {
+    call: Fault,
+    list: ListFault,
+    save: SaveFault,
+    restore: RestoreFault,
+}
+
+/// The one without a fault.
+const RIGHT: Faulty = Faulty {
+    call: right,
+    list: |setup, start, pool, runs| Plain.list(setup, start, pool, runs),
+    save: right_save,
+    restore: right_restore,
+};
+
+impl Engine for Faulty {
     fn call(&mut self, call: &Call, words: &mut [u64], second: &mut [u64], list: &mut [u32]) -> Answer {
-        right(call, words, second, list)
+        (self.call)(call, words, second, list)
     }
 
     fn list(&mut self, setup: Setup, start: u64, pool: Lent<'_>, runs: [&mut [u64]; 2]) -> Answer {
-        (self.0)(setup, start, pool, runs)
+        (self.list)(setup, start, pool, runs)
     }
+
+    fn save(&mut self, setup: Setup, pool: Lent<'_>, image: &mut [u8]) -> Answer {
+        (self.save)(setup, pool, image)
+    }
+
+    fn restore(&mut self, setup: Setup, words: &mut [u64], second: &mut [u64], list: &mut [u32], image: &[u8]) -> Answer {
+        (self.restore)(setup, words, second, list, image)
+    }
+}
+
+fn right_save(setup: Setup, pool: Lent<'_>, image: &mut [u8]) -> Answer {
+    Plain.save(setup, pool, image)
+}
+
+fn right_restore(setup: Setup, words: &mut [u64], second: &mut [u64], list: &mut [u32], image: &[u8]) -> Answer {
+    Plain.restore(setup, words, second, list, image)
 }
 
 /// The right answer.
@@ -916,7 +940,7 @@ const RANGE_FAULTS: &[(&str, Fault)] = &[
             (Call::MapRange { setup, address, frame, length, .. }, mut answer) if answer.refusal == 8 => {
                 let walks = ends(setup, Lent { words, second, list }, address, frame, length);
                 let first = walks.iter().find(|walk| walk.end != End::Empty);
-                answer.refusal = if first.is_some_and(is_taken) { 6 } else { 8 };
+                answer.refusal = if first.map_or(false, is_taken) { 6 } else { 8 };
                 answer
             }
             (_, answer) => answer,
@@ -1028,7 +1052,7 @@ const RANGE_FAULTS: &[(&str, Fault)] = &[
     ("an end of the frames that is not tested", |call, words, second, list| match (*call, right(call, words, second, list)) {
         (Call::MapRange { setup, address, length, .. }, mut answer) if answer.refusal == 4 => {
             let space = Shape::of(setup.granule).space(setup.levels);
-            answer.refusal = if address.checked_add(length).is_some_and(|end| end <= space) { 7 } else { 4 };
+            answer.refusal = if address.checked_add(length).map_or(false, |end| end <= space) { 7 } else { 4 };
             answer
         }
         (_, answer) => answer,
@@ -1170,7 +1194,7 @@ const RANGE_FAULTS: &[(&str, Fault)] = &[
             let root = root_entry(setup, address);
             let before = words.get(root).copied();
             let mut answer = right(call, words, second, list);
-            if answer.refusal == 0 && before.is_some_and(|word| word % 4096 == 3) && words[root] == 0 {
+            if answer.refusal == 0 && before.map_or(false, |word| word % 4096 == 3) && words[root] == 0 {
                 words[root] = before.unwrap();
                 answer.numbers[3] -= 1;
                 answer.numbers[SETUP + 1] -= 1;
@@ -1234,7 +1258,7 @@ const RANGE_FAULTS: &[(&str, Fault)] = &[
     }),
     ("8 for damage beside the range", |call, words, second, list| {
         let (mut places, mut entries) = ([], []);
-        let damaged = call.setup().is_some_and(|setup| {
+        let damaged = call.setup().map_or(false, |setup| {
             let lent = Lent { words, second, list };
             Plain.list(setup, 0, lent, [&mut places, &mut entries]).refusal == 8
         });
@@ -1484,11 +1508,414 @@ const LIST_FAULTS: &[(&str, ListFault)] = &[
     ("a setup that a list does not test", |setup, start, pool, runs| Plain.list(Setup { free: 0, ..setup }, start, pool, runs)),
 ];
 
+/// The sum that a block's check has to be.
+fn check_of(block: &[u64]) -> u64 {
+    (0..63).fold(0, |sum: u64, i| sum.wrapping_add(block[i].wrapping_mul(2 * i as u64 + 1)))
+}
+
+/// An image whose blocks are changed, each with its number. Bytes past whole blocks stay.
+fn changed(image: &[u8], mut change: impl FnMut(usize, &mut [u64])) -> Vec<u8> {
+    let mut words: Vec<u64> = image.chunks_exact(8).map(|eight| u64::from_le_bytes(eight.try_into().unwrap())).collect();
+    for (number, block) in words.chunks_exact_mut(64).enumerate() {
+        change(number, block);
+    }
+    let mut bytes: Vec<u8> = words.iter().flat_map(|word| word.to_le_bytes()).collect();
+    bytes.extend_from_slice(&image[bytes.len()..]);
+    bytes
+}
+
+/// The same where the check of a block was right, and is right again then.
+fn changed_and_checked(image: &[u8], change: impl Fn(usize, &mut [u64])) -> Vec<u8> {
+    changed(image, |number, block| {
+        if block[63] == check_of(block) {
+            change(number, block);
+            block[63] = check_of(block);
+        }
+    })
+}
+
+/// The right save, with other words in its blocks.
+fn other_save(setup: Setup, pool: Lent<'_>, image: &mut [u8], change: fn(usize, &mut [u64])) -> Answer {
+    let answer = right_save(setup, pool, image);
+    if answer.refusal == 0 {
+        let image = &mut image[..BLOCK * answer.numbers[0] as usize];
+        image.copy_from_slice(&changed(image, change));
+    }
+    answer
+}
+
+/// The same with right checks.
+fn other_words(setup: Setup, pool: Lent<'_>, image: &mut [u8], change: fn(usize, &mut [u64])) -> Answer {
+    let answer = right_save(setup, pool, image);
+    if answer.refusal == 0 {
+        let image = &mut image[..BLOCK * answer.numbers[0] as usize];
+        image.copy_from_slice(&changed_and_checked(image, change));
+    }
+    answer
+}
+
+const SAVE_FAULTS: &[(&str, SaveFault)] = &[
+    ("even multipliers", |setup, pool, image| {
+        other_save(setup, pool, image, |_, block| {
+            block[63] = (0..63).fold(0, |sum: u64, i| sum.wrapping_add(block[i].wrapping_mul(2 * i as u64 + 2)))
+        })
+    }),
+    ("word 62 left out of the sum", |setup, pool, image| {
+        other_save(setup, pool, image, |_, block| block[63] = block[63].wrapping_sub(block[62].wrapping_mul(125)))
+    }),
+    ("big-endian words", |setup, pool, image| {
+        other_save(setup, pool, image, |_, block| block.iter_mut().for_each(|word| *word = word.swap_bytes()))
+    }),
+    ("records from 0 on in the numbers of blocks", |setup, pool, image| {
+        other_words(setup, pool, image, |number, block| block[0] -= u64::from(number > 0))
+    }),
+    ("no count of records", |setup, pool, image| other_words(setup, pool, image, |number, block| block[0] = number as u64)),
+    ("31 records in the last block too", |setup, pool, image| {
+        other_words(setup, pool, image, |number, block| {
+            if number > 0 {
+                block[0] = number as u64 + (31 << 32)
+            }
+        })
+    }),
+    ("4096 in word 3 of block 0", |setup, pool, image| {
+        other_words(setup, pool, image, |number, block| {
+            if number == 0 && block[3] == 0 {
+                block[3] = 4096
+            }
+        })
+    }),
+    ("a granule that block 0 does not say", |setup, pool, image| {
+        other_words(setup, pool, image, |number, block| {
+            if number == 0 {
+                block[3] = 0
+            }
+        })
+    }),
+    ("a base without its power", |setup, pool, image| {
+        other_words(setup, pool, image, |number, block| {
+            if number > 0 {
+                block[1] &= !4095
+            }
+        })
+    }),
+    ("padding that is left as it was", |setup, pool, image| {
+        let before = image.to_vec();
+        let answer = right_save(setup, pool, image);
+        if answer.refusal == 0 && answer.numbers[0] > 1 {
+            let block = &mut image[BLOCK * (answer.numbers[0] as usize - 1)..][..BLOCK];
+            let records = block[4] as usize;
+            block[8 + 16 * records..504].copy_from_slice(&before[8 + 16 * records..504]);
+        }
+        answer
+    }),
+    ("bytes after the blocks that become 0", |setup, pool, image| {
+        let answer = right_save(setup, pool, image);
+        if answer.refusal == 0 {
+            image[BLOCK * answer.numbers[0] as usize..].fill(0);
+        }
+        answer
+    }),
+    ("a block of no record where there is no mapping", |setup, pool, image| {
+        let answer = right_save(setup, pool, image);
+        match (answer.refusal, answer.numbers[0]) {
+            (0, 1) => Answer::new(0, &[2]),
+            _ => answer,
+        }
+    }),
+    ("a block of no record after a full one", |setup, pool, image| {
+        let answer = right_save(setup, pool, image);
+        let blocks = answer.numbers[0];
+        if answer.refusal == 0 && blocks > 1 && image[BLOCK * (blocks as usize - 1) + 4] == 31 {
+            return Answer::new(0, &[blocks + 1]);
+        }
+        answer
+    }),
+    ("the bytes that are needed", |setup, pool, image| match right_save(setup, pool, image) {
+        answer if answer.refusal == 12 => Answer::new(12, &[BLOCK as u64 * answer.numbers[0]]),
+        answer => answer,
+    }),
+    ("no word of the blocks that are needed", |setup, pool, image| match right_save(setup, pool, image) {
+        answer if answer.refusal == 12 => Answer::new(12, &[]),
+        answer => answer,
+    }),
+    ("12 before 8", |setup, pool, image| match right_save(setup, pool, image) {
+        answer if answer.refusal == 8 && image.is_empty() => Answer::new(12, &[1]),
+        answer => answer,
+    }),
+    ("a save that writes as far as there is room", |setup, pool, image| {
+        let answer = right_save(setup, pool, image);
+        if answer.refusal == 12 {
+            let mut whole = vec![0; BLOCK * answer.numbers[0] as usize];
+            right_save(setup, pool, &mut whole);
+            let room = image.len();
+            image.copy_from_slice(&whole[..room]);
+        }
+        answer
+    }),
+    ("room that is counted in begun blocks", |setup, pool, image| match right_save(setup, pool, image) {
+        answer if answer.refusal == 12 && answer.numbers[0] == ((image.len() + BLOCK - 1) / BLOCK) as u64 => {
+            Answer { refusal: 0, ..answer }
+        }
+        answer => answer,
+    }),
+    ("a save that minds what the audit minds", |setup, pool, image| {
+        let refused = plain::audit(setup, pool.words, pool.second, pool.list).is_err();
+        match right_save(setup, pool, image) {
+            answer if answer.refusal == 0 && refused => {
+                image.fill(BLANK_BYTE);
+                Answer::new(8, &[])
+            }
+            answer => answer,
+        }
+    }),
+    ("a save of the first region alone", |setup, pool, image| {
+        right_save(setup, Lent { second: &vec![0; pool.second.len()], ..pool }, image)
+    }),
+    ("a setup that a save does not test", |setup, pool, image| right_save(Setup { free: 0, ..setup }, pool, image)),
+];
+
+const RESTORE_FAULTS: &[(&str, RestoreFault)] = &[
+    ("a check that is not tested", |setup, words, second, list, image| {
+        let image = changed(image, |_, block| block[63] = check_of(block));
+        right_restore(setup, words, second, list, &image)
+    }),
+    ("word 62 left out of the sum of a restore", |setup, words, second, list, image| {
+        let image = changed(image, |_, block| block[63] = block[63].wrapping_add(block[62].wrapping_mul(125)));
+        right_restore(setup, words, second, list, &image)
+    }),
+    ("a number of a block that is not tested", |setup, words, second, list, image| {
+        let image = changed_and_checked(image, |number, block| {
+            block[0] = if number == 0 { 0 } else { block[0] & !0xFFFF_FFFF | number as u64 }
+        });
+        right_restore(setup, words, second, list, &image)
+    }),
+    ("a count of records that is not tested", |setup, words, second, list, image| {
+        let mappings = image.get(16..24).map_or(0, |eight| u64::from_le_bytes(eight.try_into().unwrap()));
+        let image = changed_and_checked(image, |number, block| {
+            let left = mappings.saturating_sub(31 * (number as u64).saturating_sub(1));
+            block[0] = block[0] & 0xFFFF_FFFF | if number == 0 { 0 } else { left.min(31) << 32 }
+        });
+        right_restore(setup, words, second, list, &image)
+    }),
+    ("padding that is not tested", |setup, words, second, list, image| {
+        let image = changed_and_checked(image, |number, block| {
+            let from = if number == 0 { 4 } else { 1 + 2 * (block[0] >> 32).min(31) as usize };
+            block[from..63].fill(0);
+        });
+        right_restore(setup, words, second, list, &image)
+    }),
+    ("levels that are not tested", |setup, words, second, list, image| {
+        let image = changed_and_checked(image, |number, block| {
+            if number == 0 {
+                block[1] = setup.levels
+            }
+        });
+        right_restore(setup, words, second, list, &image)
+    }),
+    ("a granule that is not tested", |setup, words, second, list, image| {
+        let image = changed_and_checked(image, |number, block| {
+            if number == 0 {
+                block[3] = if setup.granule == 4096 { 0 } else { setup.granule }
+            }
+        });
+        right_restore(setup, words, second, list, &image)
+    }),
+    ("4096 in word 3 of block 0 taken", |setup, words, second, list, image| {
+        let image = changed_and_checked(image, |number, block| {
+            if number == 0 && block[3] == 4096 {
+                block[3] = 0
+            }
+        });
+        right_restore(setup, words, second, list, &image)
+    }),
+    ("a count of mappings without its limit", |setup, words, second, list, image| {
+        let image = changed_and_checked(image, |number, block| {
+            if number == 0 {
+                block[2] = block[2].min(1 << 20)
+            }
+        });
+        right_restore(setup, words, second, list, &image)
+    }),
+    ("order tested inside a block only", |setup, words, second, list, image| {
+        // the records sorted, where each block has its own in order
+        let all: Vec<u64> = image.chunks_exact(8).map(|eight| u64::from_le_bytes(eight.try_into().unwrap())).collect();
+        let rises = |block: &&[u64]| {
+            let records = (block[0] >> 32).min(31) as usize;
+            block[1..1 + 2 * records]
+                .chunks(2)
+                .zip(block[3..].chunks(2))
+                .take(records.max(1) - 1)
+                .all(|(a, b)| a[0] >> 12 < b[0] >> 12)
+        };
+        let answer = right_restore(setup, words, second, list, image);
+        if answer.refusal != 12 || all.len() < 3 * 64 || !all.chunks_exact(64).skip(1).all(|block| rises(&block)) {
+            return answer;
+        }
+        let records = |block: &[u64]| block[1..1 + 2 * (block[0] >> 32).min(31) as usize].to_vec();
+        let mut sorted: Vec<[u64; 2]> =
+            all.chunks_exact(64).skip(1).flat_map(records).collect::<Vec<_>>().chunks(2).map(|r| [r[0], r[1]]).collect();
+        sorted.sort_unstable();
+        let mut sorted = sorted.into_iter().flatten();
+        let mut other = all;
+        for block in other.chunks_exact_mut(64).skip(1) {
+            let right = block[63] == check_of(block);
+            let count = 2 * (block[0] >> 32).min(31) as usize;
+            block[1..1 + count].iter_mut().for_each(|word| *word = sorted.next().unwrap());
+            block[63] = if right { check_of(block) } else { block[63] };
+        }
+        let other: Vec<u8> = other.iter().flat_map(|word| word.to_le_bytes()).collect();
+        right_restore(setup, words, second, list, &[&other[..], &image[other.len()..]].concat())
+    }),
+    ("equal bases taken for rising ones", |setup, words, second, list, image| {
+        let answer = right_restore(setup, words, second, list, image);
+        let block = image.get(BLOCK * answer.numbers[SETUP] as usize..).unwrap_or(&[]);
+        let bases: Vec<u64> =
+            block.chunks_exact(8).take(63).skip(1).step_by(2).map(|b| u64::from_le_bytes(b.try_into().unwrap()) >> 12).collect();
+        let records = block.get(4).map_or(0, |&count| count.min(31) as usize);
+        let twice = bases.len() > records && bases[..records].windows(2).any(|pair| pair[0] == pair[1]);
+        if answer.refusal == 12 && answer.numbers[SETUP] > 0 && twice {
+            return Answer::new(6, &answer.numbers[..SETUP]);
+        }
+        answer
+    }),
+    ("an extra byte accepted", |setup, words, second, list, image| {
+        right_restore(setup, words, second, list, &image[..image.len() / BLOCK * BLOCK])
+    }),
+    ("an extra block accepted", |setup, words, second, list, image| {
+        let mappings = image.get(16..24).map_or(0, |eight| u64::from_le_bytes(eight.try_into().unwrap()));
+        let whole = BLOCK * (1 + (mappings.min(1 << 20) + 30) / 31) as usize;
+        right_restore(setup, words, second, list, &image[..whole.min(image.len())])
+    }),
+    ("the length tested before the records", |setup, words, second, list, image| {
+        let answer = right_restore(setup, words, second, list, image);
+        let mappings = image.get(16..24).map_or(0, |eight| u64::from_le_bytes(eight.try_into().unwrap()));
+        let blocks = (1 + (mappings.min(1 << 20) + 30) / 31) as usize;
+        match answer.refusal {
+            0 | 1 | 12 => answer,
+            _ if image.len() == BLOCK * blocks => answer,
+            _ => Answer::new(12, &[&answer.numbers[..SETUP], &[blocks.min(image.len() / BLOCK) as u64]].concat()),
+        }
+    }),
+    ("the block before the bad one", |setup, words, second, list, image| {
+        let mut answer = right_restore(setup, words, second, list, image);
+        if answer.refusal == 12 {
+            answer.numbers[SETUP] = answer.numbers[SETUP].saturating_sub(1);
+        }
+        answer
+    }),
+    ("a block's number with another refusal", |setup, words, second, list, image| {
+        let mut answer = right_restore(setup, words, second, list, image);
+        if !matches!(answer.refusal, 0 | 1 | 12) {
+            answer.numbers[SETUP] = 1;
+        }
+        answer
+    }),
+    ("8 for a bad power", |setup, words, second, list, image| match right_restore(setup, words, second, list, image) {
+        answer if answer.refusal == 2 => Answer { refusal: 8, ..answer },
+        answer => answer,
+    }),
+    ("8 with a pool that was there as the cause", |setup, words, second, list, image| {
+        let damaged = matches!(plain::save(setup, words, second, list, &mut []), Err(plain::Refusal::Damaged));
+        match right_restore(setup, words, second, list, image) {
+            answer if answer.refusal == 0 && damaged => Answer { refusal: 8, ..answer },
+            answer => answer,
+        }
+    }),
+    ("a frame in the pool restored", |setup, words, second, list, image| {
+        let answer = right_restore(setup, words, second, list, image);
+        match answer.refusal {
+            11 => Answer { refusal: 0, ..answer },
+            _ => answer,
+        }
+    }),
+    ("a refused restore that leaves what was mapped", |setup, words, second, list, image| {
+        let answer = right_restore(setup, words, second, list, image);
+        let record = image.get(BLOCK + 8..BLOCK + 24).unwrap_or(&[0; 16]);
+        let [place, word] = [0, 8].map(|at: usize| u64::from_le_bytes(record[at..at + 8].try_into().unwrap()));
+        let meaning = plain::word_meaning(word, 1 << (place % 64));
+        if answer.refusal > 1 && meaning >= 16 {
+            let frame = meaning & !4095;
+            plain::map(answer.setup(), words, second, list, place & !4095, frame, 1 << (place % 64), meaning - frame - 16).1.ok();
+        }
+        answer
+    }),
+    ("a refused restore that changes nothing", |setup, words, second, list, image| {
+        let (was, was_second, was_list) = (words.to_vec(), second.to_vec(), list.to_vec());
+        let answer = right_restore(setup, words, second, list, image);
+        if answer.refusal > 1 {
+            words.copy_from_slice(&was);
+            second.copy_from_slice(&was_second);
+            list.copy_from_slice(&was_list);
+        }
+        answer
+    }),
+    ("a restore that formats before 1", |setup, words, second, list, image| {
+        let answer = right_restore(setup, words, second, list, image);
+        if answer.refusal == 1 {
+            words.fill(0);
+        }
+        answer
+    }),
+    ("the free count that came in", |setup, words, second, list, image| {
+        let mut answer = right_restore(setup, words, second, list, image);
+        if answer.refusal == 0 {
+            answer.numbers[3] = setup.free;
+        }
+        answer
+    }),
+    ("a free count that is tested", |setup, words, second, list, image| {
+        if setup.free >= setup.tables.wrapping_add(setup.second_tables) {
+            return Answer::new(1, &[]);
+        }
+        right_restore(setup, words, second, list, image)
+    }),
+    ("the setup that came in, with a refusal", |setup, words, second, list, image| {
+        let mut answer = right_restore(setup, words, second, list, image);
+        if answer.refusal > 1 {
+            answer.numbers[..SETUP].copy_from_slice(&numbers(setup));
+        }
+        answer
+    }),
+    ("zeros with a refusal", |setup, words, second, list, image| {
+        let mut answer = right_restore(setup, words, second, list, image);
+        if answer.refusal > 1 {
+            answer.numbers[..SETUP].fill(0);
+        }
+        answer
+    }),
+    ("the setup that came in, with 1", |setup, words, second, list, image| {
+        match right_restore(setup, words, second, list, image) {
+            answer if answer.refusal == 1 => Answer::new(1, &numbers(setup)),
+            answer => answer,
+        }
+    }),
+    ("a free table that is not cleared by a restore", |setup, words, second, list, image| {
+        let before = words.to_vec();
+        let answer = right_restore(setup, words, second, list, image);
+        let entries = Shape::of(setup.granule).entries() as usize;
+        if answer.refusal == 0 && setup.tables > 1 && answer.setup().free > 0 {
+            let table = list[0] as usize;
+            if table < setup.tables as usize {
+                words[entries * table..][..entries].copy_from_slice(&before[entries * table..][..entries]);
+            }
+        }
+        answer
+    }),
+    ("the old list of free tables", |setup, words, second, list, image| {
+        let before = list.to_vec();
+        let answer = right_restore(setup, words, second, list, image);
+        if answer.refusal == 0 {
+            list.copy_from_slice(&before);
+        }
+        answer
+    }),
+];
+
 #[test]
 fn every_fault_is_found() {
     let calls = 500_000;
     for &(name, fault) in FAULTS {
-        let mut judge = Judge::new(Faulty(fault));
+        let mut judge = Judge::new(Faulty { call: fault, ..RIGHT });
         let found = judge.run(&mut Source::new(1), calls);
         assert!(found.is_err(), "{name} was not found in {calls} calls");
         println!("{name}: found at call {}", judge.coverage.calls());
@@ -1499,7 +1926,7 @@ fn every_fault_is_found() {
 fn every_fault_of_ranges_is_found() {
     let calls = 500_000;
     for &(name, fault) in RANGE_FAULTS {
-        let mut judge = Judge::new(Faulty(fault));
+        let mut judge = Judge::new(Faulty { call: fault, ..RIGHT });
         let found = judge.run(&mut Source::new(1), calls);
         assert!(found.is_err(), "{name} was not found in {calls} calls");
         println!("{name}: found at call {}", judge.coverage.calls());
@@ -1510,7 +1937,29 @@ fn every_fault_of_ranges_is_found() {
 fn every_fault_of_list_is_found() {
     let calls = 500_000;
     for &(name, fault) in LIST_FAULTS {
-        let mut judge = Judge::new(FaultyList(fault));
+        let mut judge = Judge::new(Faulty { list: fault, ..RIGHT });
+        let found = judge.run(&mut Source::new(1), calls);
+        assert!(found.is_err(), "{name} was not found in {calls} calls");
+        println!("{name}: found at call {}", judge.coverage.calls());
+    }
+}
+
+#[test]
+fn every_fault_of_save_is_found() {
+    let calls = 500_000;
+    for &(name, fault) in SAVE_FAULTS {
+        let mut judge = Judge::new(Faulty { save: fault, ..RIGHT });
+        let found = judge.run(&mut Source::new(1), calls);
+        assert!(found.is_err(), "{name} was not found in {calls} calls");
+        println!("{name}: found at call {}", judge.coverage.calls());
+    }
+}
+
+#[test]
+fn every_fault_of_restore_is_found() {
+    let calls = 500_000;
+    for &(name, fault) in RESTORE_FAULTS {
+        let mut judge = Judge::new(Faulty { restore: fault, ..RIGHT });
         let found = judge.run(&mut Source::new(1), calls);
         assert!(found.is_err(), "{name} was not found in {calls} calls");
         println!("{name}: found at call {}", judge.coverage.calls());
@@ -1519,7 +1968,7 @@ fn every_fault_of_list_is_found() {
 
 #[test]
 fn no_fault_is_found_where_there_is_none() {
-    let mut judge = Judge::new(Faulty(right));
+    let mut judge = Judge::new(RIGHT);
     judge.run(&mut Source::new(2), 50_000).unwrap();
     assert_eq!(judge.coverage.calls(), 50_000);
 }

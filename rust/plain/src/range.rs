@@ -246,7 +246,7 @@ fn unmap_or_refuse<const BITS: u64>(
 fn met<const BITS: u64>(left: u64, first: u64, from: u64, to: u64) -> std::ops::Range<usize> {
     let size = region::<BITS>(left);
     let begin = (from.saturating_sub(first) / size) as usize;
-    let end = (to - first).div_ceil(size).min(entries::<BITS>() as u64) as usize;
+    let end = ((to - first + size - 1) / size).min(entries::<BITS>() as u64) as usize;
     begin..end
 }
 

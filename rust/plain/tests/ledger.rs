@@ -84,7 +84,7 @@ fn ranges(pool: &Pool, ledger: &Ledger, more: u32) {
         let (mut next, mut ledger) = (pool.clone(), ledger.clone());
         let (setup, answer) = unmap_range(*setup, &mut next.words, &mut next.second, &mut next.list, address, length);
         assert_eq!(answer, ledger.unmap_range(address, length));
-        if answer.is_ok_and(|cleared| cleared.removed > 0) {
+        if matches!(answer, Ok(cleared) if cleared.removed > 0) {
             histories(&Pool { setup, ..next }, &ledger, more - 1);
         }
     }

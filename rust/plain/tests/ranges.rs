@@ -55,9 +55,12 @@ impl Pool {
         let Pool { setup, words, second, list } = self;
         let (after, answer) = map_range(*setup, words, second, list, address, frame, length, attributes);
         *setup = after;
-        let Ok(taken) = answer else {
-            assert_eq!(*self, before);
-            return answer.map_err(Refusal::number);
+        let taken = match answer {
+            Ok(taken) => taken,
+            Err(refusal) => {
+                assert_eq!(*self, before);
+                return Err(refusal.number());
+            }
         };
         let (mut singles, mut sum) = (before, 0);
         for (address, frame, size) in pieces(self.setup.granule, address, frame, length) {
@@ -73,9 +76,12 @@ impl Pool {
         let Pool { setup, words, second, list } = self;
         let (after, answer) = unmap_range(*setup, words, second, list, address, length);
         *setup = after;
-        let Ok(Cleared { removed, given }) = answer else {
-            assert_eq!(*self, before);
-            return Err(answer.unwrap_err().number());
+        let Cleared { removed, given } = match answer {
+            Ok(cleared) => cleared,
+            Err(refusal) => {
+                assert_eq!(*self, before);
+                return Err(refusal.number());
+            }
         };
         let (mut singles, mut at, mut sums) = (before, address, (0, 0));
         while at < address + length {
