@@ -52,6 +52,14 @@ fn map_tests(s: Setup, address: u64, frame: u64, size: u64, height: usize, attri
     0
 }
 
+// The same for a size of any height.
+pub fn tests_of(s: Setup, address: u64, frame: u64, size: u64, attributes: u64) -> u64
+    ensures { λ r. ⌜ r ≡ mapTests (granuleOf (s .granule)) (s .levels) (areaOf s) address frame size attributes ⌝ }
+{
+    let height = path::height_of(s.granule, size);
+    map_tests(s, address, frame, size, height, attributes)
+}
+
 // Whether so many tables may be taken from the end of the free list.
 fn may_take(list: &[u32], tables: u32, way: [u32; 4], free: usize, need: usize) -> bool
     requires { ⌜ (need ≤ 4) × (need ≤ free) ⌝ }
