@@ -112,12 +112,14 @@ kept a b = record { answer = a; after = b }
 abbrev pub refuse : ℕ → Book → Kept
 refuse k b = kept (refused k) b
 
--- The setup numbers are good, as the tree's are whose runs of words and free list have the lengths that they ask for; no more mappings count than there are
--- places; and both runs have these.
+-- No more mappings count than there are places, and both runs have these; the setup numbers are good, as the tree's are whose runs of words and free list
+-- have the lengths that they ask for.
 unfoldable pub goodPlain : Granule → Setup → ℕ → ℕ → ℕ → Bool
 goodPlain G s n places entries′ =
-    goodSetup G s (entries G * s .tables) (entries G * total (areaOf s)) (total (areaOf s))
-    && (leb n room && (eqb places room && eqb entries′ room))
+    leb n room
+    && (eqb places room
+    && (eqb entries′ room
+    && goodSetup G s (entries G * s .tables) (entries G * total (areaOf s)) (total (areaOf s))))
 
 abbrev pub goodBook : Granule → Book → Bool
 goodBook G b = goodPlain G (b .numbers) (b .count) (length (b .places)) (length (b .entries))

@@ -81,12 +81,14 @@ fn alone(granule: u64, address: u64, x: u64, y: u64, low: usize, k: usize) -> us
     let mut h = k;
     while h > low {
         let base = indices::base_at(granule, address, h);
-        if indices::base_at(granule, x, h) != base {
+        if indices::base_at(granule, x, h) == base {
+            h -= 1;
+        } else {
             if indices::base_at(granule, y, h) != base {
                 return h - low;
             }
+            h -= 1;
         }
-        h -= 1;
     }
     0
 }

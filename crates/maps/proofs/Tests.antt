@@ -86,28 +86,3 @@ module _ (G : Granule) (levels : ℕ) (area : Area) (a b size k : ℕ) {h : ℕ}
 
             pub refuses-nothing : met ≡ false → 0 ≡ mapTests G levels area a b size k
             refuses-nothing q = sym (last-left ∙ ap (λ (x : Bool). cond x 11 0) q)
-
--- where no test refuses, the size has a height, and the frame ends within the physical addresses
-pub passed-size : (G : Granule) (levels : ℕ) (area : Area) (a b size k : ℕ) → mapTests G levels area a b size k ≡ 0 → heightOf G size ≤ G .large
-unfolding mapTests
-passed-size G levels area a b size k e = go (decLt (G .large) (heightOf G size))
-  where
-    go : Dec (G .large < heightOf G size) → heightOf G size ≤ G .large
-    go (yes l) = absurd (omega (arith, refuses-size G levels area a b size k refl l ∙ e))
-    go (no n) = omega arith
-
-pub passed-frame : (G : Granule) (levels : ℕ) (area : Area) (a b size k : ℕ) → mapTests G levels area a b size k ≡ 0 → b + size ≤ physical
-unfolding mapTests
-passed-frame G levels area a b size k e =
-    go (ltb (G .large) (heightOf G size)) (ltb 15 k) (leb (spaceOf G levels) a) (ltb (spaceOf G levels) (a + size)) (ltb physical (b + size)) refl e
-  where
-    rest : ℕ
-    rest = cond (eqb (a % size) 0) (cond (eqb (b % size) 0) (cond (meetsArea G area b size) 11 0) 5) 5
-
-    go : (p q r s t : Bool) → ltb physical (b + size) ≡ t → _≡_ {A = ℕ} (cond p 2 (cond q 3 (cond r 4 (cond s 4 (cond t 4 rest))))) 0 → b + size ≤ physical
-    go false false false false false f e = ltb-false physical (b + size) f
-    go true q r s t f e = absurd (omega arith)
-    go false true r s t f e = absurd (omega arith)
-    go false false true s t f e = absurd (omega arith)
-    go false false false true t f e = absurd (omega arith)
-    go false false false false true f e = absurd (omega arith)

@@ -10,7 +10,7 @@ use Rattle.path.specs.Areas.{areaOf}
 use Rattle.model.specs.Answers.{pool}
 use Rattle.model.specs.Calls.{goodPool, mapTests}
 use Rattle.model.specs.Refusing.{refusing, passed, good-both}
-use Rattle.maps.proofs.Tests.{passed-size, passed-frame}
+use Rattle.maps.specs.Passed as arguments
 use Rattle.maps.proofs.Maps.{map-bad, map-refuses, map-from, word-is}
 use Rattle.maps.proofs.map.Statement.{statement}
 use Rattle.maps.proofs.map.Tie as tie
@@ -59,7 +59,7 @@ word-of-requires c κs = search needs
 map-walk-requires : tie.Need-map-walk-requires
 map-walk-requires c κs =
     let a = c .before .before .before .before .before .before .before .before .before .before .before .args in
-    (good (c .before .before .before .before .before .before), omega (arith, c .before .before .before .before .before .height-of .ensures, passed-size (granuleOf (a .s .granule)) (a .s .levels) (areaOf (a .s)) (a .address) (a .frame) (a .size) (a .attributes) (tests (c .before .before .before))))
+    (good (c .before .before .before .before .before .before), omega (arith, c .before .before .before .before .before .height-of .ensures, arguments.passed (granuleOf (a .s .granule)) (a .s .levels) (areaOf (a .s)) (a .address) (a .frame) (a .size) (a .attributes) (tests (c .before .before .before))))
 
 same-length : tie.Need-same-length
 same-length c = search needs
@@ -72,7 +72,7 @@ returns-3 c =
     let a = c .before .before .before .before .before .before .before .before .before .before .before .before .before .before .before .before .args in
     let t = tests (c .before .before .before .before .before .before .before .before) in
     c .before .before .before .before .map-walk .ensures (a .frame) (a .attributes)
-    (word-is (a .frame) _ (a .attributes) (omega (arith, passed-frame (granuleOf (a .s .granule)) (a .s .levels) (areaOf (a .s)) (a .address) (a .frame) (a .size) (a .attributes) t)) (c .before .before .before .before .before .before .before .word-of .ensures))
+    (word-is (a .frame) _ (a .attributes) (omega (arith, arguments.passed (granuleOf (a .s .granule)) (a .s .levels) (areaOf (a .s)) (a .address) (a .frame) (a .size) (a .attributes) t)) (c .before .before .before .before .before .before .before .word-of .ensures))
     ∙ map-from (granuleOf (a .s .granule)) (pool (a .s) (a .words .now ++ a .second .now) (length (a .words .now)) (a .list .now)) (a .address) (a .frame) (a .size) (a .attributes) (good-both (granuleOf (a .s .granule)) (a .s) (a .words .now) (a .second .now) (a .list .now) (c .before .before .before .before .before .before .before .before .before .before .before .before .good-setup .ensures)) (good (c .before .before .before .before .before .before .before .before .before .before .before)) t (c .before .before .before .before .before .before .before .before .before .before .height-of .ensures)
 
 pub map-spec : {M : Type 1} → statement M
