@@ -17,7 +17,7 @@ ghost use Rattle.path.specs.Areas.{areaAt, areaOf};
 ghost use Rattle.model.specs.Answers.{saysMap, saysUnmap, saysQuery, refused, mapping};
 ghost use Rattle.model.specs.Calls.{mapTests};
 ghost use Rattle.model.specs.Ledger.{overlaps};
-ghost use Rattle.engine.specs.Engine.{spanIn, nth, startsTo, aloneFrom, inserted, removed, book, goodPlain, Ready, formatDid, formatE, queryE, mapDid, mapBetween, mapE, unmapDid, unmapBetween, unmapE};
+ghost use Rattle.plain.specs.Engine.{spanIn, nth, startsTo, aloneFrom, inserted, removed, book, goodPlain, Ready, formatDid, formatE, queryE, mapDid, mapBetween, mapE, unmapDid, unmapBetween, unmapE};
 
 // The places of each run.
 pub const ROOM: u64 = 4096;
@@ -321,11 +321,9 @@ pub fn unmap(s: Setup, n: u64, places: &mut [u64], entries: &mut [u64], address:
     if !good(s, n, places.len(), entries.len()) {
         return unmap_refused(1, s);
     }
-    if !path::in_space(s.granule, s.levels, address, 1) {
-        return unmap_refused(4, s);
-    }
-    if indices::rest_at(s.granule, address, 0) != 0 {
-        return unmap_refused(5, s);
+    let no = unmaps::unmap_tests(s.granule, s.levels, address);
+    if no != 0 {
+        return unmap_refused(no, s);
     }
     let n = n as usize;
     let i = starts_to(&places[..], address, n);

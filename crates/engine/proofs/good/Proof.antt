@@ -4,7 +4,7 @@ use native.Mathlib.Omega.{arith}
 use borrow.Author.Needs.{needs}
 use Rattle.path.specs.Geometry.{granuleOf}
 use Rattle.path.specs.Laws.{granule-sane, words-fit, untrue}
-use Rattle.engine.specs.Laws.{plain-good}
+use Rattle.plain.specs.Laws.{plain-good}
 use Rattle.engine.proofs.Parts.{good-all}
 use Rattle.engine.proofs.good.Statement.{statement}
 use Rattle.engine.proofs.good.Tie as tie

@@ -5,7 +5,7 @@ use mathlib.Core.List.{List}
 use native.Mathlib.Omega.{arith}
 use borrow.Author.Needs.{needs}
 use lib.ListN.{length, set, getD, length-set}
-use Rattle.engine.specs.Laws.{lifted, lift-none, lift-one, lift-last}
+use Rattle.plain.specs.Laws.{lifted, lift-none, lift-one, lift-last}
 use Rattle.engine.proofs.insert.Statement.{statement}
 use Rattle.engine.proofs.insert.Tie as tie
 use Rattle.engine.proofs.insert.Reads as reads

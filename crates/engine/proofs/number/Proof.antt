@@ -2,7 +2,7 @@
 use mathlib.Core.Path.{sym}
 use native.Mathlib.Omega.{arith}
 use borrow.Author.Needs.{needs}
-use Rattle.engine.specs.Laws.{nth-none, nth-past, nth-there}
+use Rattle.plain.specs.Laws.{nth-none, nth-past, nth-there}
 use Rattle.engine.proofs.number.Statement.{statement}
 use Rattle.engine.proofs.number.Tie as tie
 use Rattle.engine.proofs.number.Reads as reads

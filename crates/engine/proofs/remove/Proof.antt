@@ -5,7 +5,7 @@ use mathlib.Core.List.{List}
 use native.Mathlib.Omega.{arith}
 use borrow.Author.Needs.{needs}
 use lib.ListN.{length, set, getD, length-set}
-use Rattle.engine.specs.Laws.{lowered, lower-none, lower-one, lower-last}
+use Rattle.plain.specs.Laws.{lowered, lower-none, lower-one, lower-last}
 use Rattle.engine.proofs.remove.Statement.{statement}
 use Rattle.engine.proofs.remove.Tie as tie
 use Rattle.engine.proofs.remove.Reads as reads

@@ -3,8 +3,8 @@ use Prim.Native.Nat.{ℕ, _+_, _≤_}
 use mathlib.Core.Path.{_≡_, refl, sym, ap, _∙_}
 use native.Mathlib.Omega.{arith}
 use borrow.Author.Needs.{needs}
-use Rattle.engine.specs.Engine.{startsTo}
-use Rattle.engine.specs.Laws.{seek, seek-whole, seek-end, seek-after, seek-before}
+use Rattle.plain.specs.Engine.{startsTo}
+use Rattle.plain.specs.Laws.{seek, seek-whole, seek-end, seek-after, seek-before}
 use Rattle.engine.proofs.starts_to.Statement.{statement}
 use Rattle.engine.proofs.starts_to.Tie as tie
 use Rattle.engine.proofs.starts_to.Reads as reads

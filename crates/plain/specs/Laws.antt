@@ -16,7 +16,7 @@ use Rattle.path.specs.Numbers.{goodSetup, GoodSetup}
 use Rattle.path.specs.Paths.{baseAt}
 use Rattle.path.specs.Laws.{both, good-setup, setup-good}
 use Rattle.path.specs.declared.Setup.{Setup}
-use Rattle.engine.specs.Engine.{startIn, nowhere, nth, halves, startsTo, near, aloneFrom, inserted, removed, room, goodPlain}
+use Rattle.plain.specs.Engine.{startIn, nowhere, nth, halves, startsTo, near, aloneFrom, inserted, removed, room, goodPlain}
 
 -- ---- the search
 

@@ -1,0 +1,4 @@
+pub mod Members
+pub mod Neighbours
+pub mod Books
+pub mod Orders
