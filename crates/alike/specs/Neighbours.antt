@@ -248,6 +248,8 @@ module _ {G : Granule} (Z : Sane G) where
       pub holds : Within a mapping
       pub only : (k : Mapping) → List·Memᴰ k L → Within a k → k ≡ mapping
       pub told : holdsAddress a (spanIn x) ≡ true
+      pub as-last : Last G X
+      pub is-last : as-last .last ≡ mapping
 
     pub record Free : Type 0 where
       pub away : (m : Mapping) → List·Memᴰ m L → Within a m → ⊥
@@ -283,6 +285,8 @@ module _ {G : Granule} (Z : Sane G) where
                   holds = w;
                   only = λ k i v. ⊎-elim (λ j. only-last l k j (v .1)) (λ j. absurd (not-above k j v)) (List·Memᴰ·append-cases X i);
                   told = told-is ∙ true-and (le-leb _ _ (w .0)) (lt-ltb _ _ r);
+                  as-last = l;
+                  is-last = refl;
                 })
             on (no n) =
                 free (λ m i w. let e = only-last l m i (w .1) in n (omega (arith, ap (λ (z : Mapping). z .at) e, ap (λ (z : Mapping). z .size) e, w .1)))

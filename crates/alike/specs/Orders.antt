@@ -124,8 +124,8 @@ rising-without lo hi [] m Y r = rising-lower lo (m .at + m .size) hi Y (omega (a
 rising-without lo hi (k ∷ W) m Y r = (r .0, rising-without (k .at + k .size) hi W m Y (r .1))
 
 -- the members of a list without one of them
-pub member-without : {m : Mapping} {W Y : List Mapping} (k : Mapping) → List·Memᴰ k (W ++ Y) → List·Memᴰ k (W ++ m ∷ Y)
-member-without {m} {W} {Y} k i = ⊎-elim (λ j. Memᴰ·append-left (m ∷ Y) j) (λ j. Memᴰ·append-right W (there j)) (List·Memᴰ·append-cases W i)
+pub member-without : (W : List Mapping) (m : Mapping) (Y : List Mapping) (k : Mapping) → List·Memᴰ k (W ++ Y) → List·Memᴰ k (W ++ m ∷ Y)
+member-without W m Y k i = ⊎-elim (λ j. Memᴰ·append-left (m ∷ Y) j) (λ j. Memᴰ·append-right W (there j)) (List·Memᴰ·append-cases W i)
 
 pub distinct-drop : (a : ℕ) (L : List Mapping) → Distinct L → Distinct (dropAt a L)
 unfolding dropAt
@@ -156,19 +156,19 @@ module _ {G : Granule} (live : List Mapping) (lo hi : ℕ) (W : List Mapping) (m
   drop-same k = (
     λ i. let (j, d) = drop-has (m .at) live k .0 i in
         ⊎-elim (λ p. Memᴰ·append-left Y p) (λ p. ⊎-elim (λ e. absurd (d (ap (λ (z : Mapping). z .at) e))) (λ r. Memᴰ·append-right W r) (List·Memᴰ·cases-cons p)) (List·Memᴰ·append-cases W (in-live k .1 j)),
-    λ i. drop-has (m .at) live k .1 (in-live k .0 (member-without k i), other k i),
+    λ i. drop-has (m .at) live k .1 (in-live k .0 (member-without W m Y k i), other k i),
   )
 
   -- and it has those and the mapping
   pub live-same : SameMembers live (m ∷ W ++ Y)
   live-same k = (
     λ i. ⊎-elim (λ p. there (Memᴰ·append-left Y p)) (λ p. ⊎-elim (λ e. here e) (λ r. there (Memᴰ·append-right W r)) (List·Memᴰ·cases-cons p)) (List·Memᴰ·append-cases W (in-live k .1 i)),
-    λ i. in-live k .0 (⊎-elim (λ e. Memᴰ·cast (sym e) (Memᴰ·append-right W (here refl))) (λ j. member-without k j) (List·Memᴰ·cases-cons i)),
+    λ i. in-live k .0 (⊎-elim (λ e. Memᴰ·cast e (Memᴰ·append-right W (here refl))) (λ j. member-without W m Y k j) (List·Memᴰ·cases-cons i)),
   )
 
   -- in their order
   pub drop-sorted : Distinct live → sorted (dropAt (m .at) live) ≡ W ++ Y
   drop-sorted d =
       sorted-is lo (dropAt (m .at) live) (W ++ Y) (distinct-drop (m .at) live d)
-      (rising-climbing lo hi (W ++ Y) (rising-without lo hi W m Y rises) (λ k i. wide k (member-without k i)))
+      (rising-climbing lo hi (W ++ Y) (rising-without lo hi W m Y rises) (λ k i. wide k (member-without W m Y k i)))
       (λ k. drop-same k .0) (λ k. drop-same k .1)
