@@ -107,8 +107,14 @@ module _ {G : Granule} (Z : Sane G) where
 
   pub power-small : (m : Mapping) → WellFormed G m → powerOf G m < 48
   power-small m W =
-      omega (arith, ap (λ (h : ℕ). G .index * h) (height-is m W), Z .space-fits, Z .table-page, Z .page-least,
-      mul-lt-mul-of-pos-left {m = W .height} {n = G .most} {k = G .index} (omega (arith, W .framed .level, Z .large-below, Z .few-most)) (omega (arith, Z .table-page, Z .page-least)))
+      omega (
+        arith,
+        ap (λ (h : ℕ). G .index * h) (height-is m W),
+        Z .space-fits,
+        Z .table-page,
+        Z .page-least,
+        mul-lt-mul-of-pos-left {m = W .height} {n = G .most} {k = G .index} (omega (arith, W .framed .level, Z .large-below, Z .few-most)) (omega (arith, Z .table-page, Z .page-least)),
+      )
 
   pub low-zero : (m : Mapping) → WellFormed G m → m .at % 4096 ≡ 0
   unfolding sizeAt
@@ -349,8 +355,10 @@ module _ {G : Granule} (Z : Sane G) where
         larger : m .at < baseAt G a h → Dec (g ≤ h) → ⊥
         larger l (yes k) = omega (arith, W .sized, multiple-gap (sizeAt G g) aligned (aligned-down G k (baseAt G a h) (base-aligned G a h)) l)
         larger l (no k) =
-            away (omega (arith, base-le G a h),
-            omega (arith, W .sized, base-end G a h, multiple-gap (sizeAt G h) (base-aligned G a h) (end-aligned G {j = h} {h = g} (omega arith) (m .at) aligned) (omega (arith, W .sized))))
+            away (
+              omega (arith, base-le G a h),
+              omega (arith, W .sized, base-end G a h, multiple-gap (sizeAt G h) (base-aligned G a h) (end-aligned G {j = h} {h = g} (omega arith) (m .at) aligned) (omega (arith, W .sized))),
+            )
 
         start : Dec (m .at < baseAt G a h) → baseAt G a h ≤ m .at
         start (yes l) = absurd (larger l (decLe g h))

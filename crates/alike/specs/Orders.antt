@@ -93,9 +93,13 @@ module _ {G : Granule} (Z : Sane G) where
           → (X : List Mapping) × (Y : List Mapping) × (k ∷ L ≡ X ++ Y) × Each (λ m. m .at ≤ a) X × Each (λ m. a < m .at) Y
       go (yes l) (X, Y, e, p, q) =
           (k ∷ X, Y, ap (λ (z : List Mapping). k ∷ z) e, λ m i. ⊎-elim (λ c. omega (arith, ap (λ (z : Mapping). z .at) c)) (p m) (List·Memᴰ·cases-cons i), q)
-      go (no n) ih =
-          ([], k ∷ L, refl, λ m i. absurd (List·Memᴰ·not-nil i),
-          λ m i. ⊎-elim (λ c. omega (arith, ap (λ (z : Mapping). z .at) c)) (λ j. omega (arith, rising-within (k .at + k .size) hi L (r .1) m j .0)) (List·Memᴰ·cases-cons i))
+      go (no n) ih = (
+        [],
+        k ∷ L,
+        refl,
+        λ m i. absurd (List·Memᴰ·not-nil i),
+        λ m i. ⊎-elim (λ c. omega (arith, ap (λ (z : Mapping). z .at) c)) (λ j. omega (arith, rising-within (k .at + k .size) hi L (r .1) m j .0)) (List·Memᴰ·cases-cons i),
+      )
 
   pub cut-at : (a lo hi : ℕ) (L : List Mapping) → Rising lo hi L → Each (WellFormed G) L → CutOf a L
   cut-at a lo hi L r w =

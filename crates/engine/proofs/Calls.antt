@@ -7,12 +7,12 @@ use mathlib.Core.List.{List}
 use native.Mathlib.Omega.{arith}
 use lib.Dec.{ltb, leb, eqb}
 use lib.ListN.{length}
-use borrow.Author.Tests.{not-true, not-false, ltb-true, lt-ltb, le-ltb, leb-true, leb-false, le-leb, lt-leb, eq-eqb, ne-eqb}
-use Rattle.path.specs.Geometry.{Granule, Sane, sizeAt, physical, atLevel, goodLevels, spaceOf, heightOf}
+use borrow.Author.Tests.{not-true, not-false, ltb-true, lt-ltb, le-ltb, leb-true, le-leb, lt-leb, eq-eqb, ne-eqb}
+use Rattle.path.specs.Geometry.{Granule, Sane, pageSize, sizeAt, physical, atLevel, goodLevels, spaceOf, heightOf}
 use Rattle.path.specs.Areas.{areaOf, total}
 use Rattle.path.specs.Numbers.{withFree}
 use Rattle.path.specs.Paths.{baseAt}
-use Rattle.path.specs.Laws.{both, same-truth, level-some, in-space, past-space, space-physical}
+use Rattle.path.specs.Laws.{both, same-truth, level-some, in-space, past-space}
 use Rattle.path.specs.declared.Setup.{Setup}
 use Rattle.entry.specs.Words.{frameWord, frameAt}
 use Rattle.entry.specs.declared.Entry.{Entry}
@@ -81,23 +81,24 @@ module _ (G : Granule) (b : Book) (a : ℕ) {r : Bool} (e : r ≡ goodBook G b) 
   unfolding unmapE
   unmap-bad n = rw (sym e ∙ not-true _ n)
 
-  pub unmap-no : {no : ℕ} → not r ≡ false → no ≡ unmapTests G (b .numbers .levels) a → no ≢ 0 → refuse no b ≡ unmapE G b a
-  unfolding unmapE
-  unmap-no n t z = rw (sym e ∙ not-false _ n, ← t, ne-eqb _ 0 z)
+  module _ (n : not r ≡ false) {inside : Bool} (q : inside ≡ (goodLevels G (b .numbers .levels) && leb (a + 1) (spaceOf G (b .numbers .levels)))) where
+    pub unmap-past : not inside ≡ true → refuse 4 b ≡ unmapE G b a
+    unfolding unmapE unmapTests
+    unmap-past m =
+        let l = past-space G (b .numbers .levels) a 1 (sym q ∙ not-true _ m) (omega arith) in
+        rw (sym e ∙ not-false _ n, le-leb (spaceOf G (b .numbers .levels)) a (omega arith))
 
-  pub unmap-on : {no : ℕ} → not r ≡ false → no ≡ unmapTests G (b .numbers .levels) a → no ≡ 0
-      → (i : ℕ) → i ≡ startsTo (b .places) a (b .count) → unmapBetween G b a i ≡ unmapE G b a
-  unfolding unmapE
-  unmap-on n t z i d = rw (sym e ∙ not-false _ n, sym t ∙ z) (ap (unmapBetween G b a) d)
+    module _ (m : not inside ≡ false) where
+      pub in-it : a < spaceOf G (b .numbers .levels)
+      in-it = omega (arith, in-space G (b .numbers .levels) a 1 (sym q ∙ not-false _ m))
 
--- unmap's tests say that the address is in the space
-pub unmap-space : {G : Granule} → Sane G → (levels a : ℕ) → unmapTests G levels a ≡ 0 → a < physical
-unfolding unmapTests
-unmap-space {G} Z levels a e = go (leb (spaceOf G levels) a) refl e
-  where
-    go : (y : Bool) → leb (spaceOf G levels) a ≡ y → _≡_ {A = ℕ} (cond y 4 (cond (eqb (a % (2 ^ G .page)) 0) 0 5)) 0 → a < physical
-    go true q e = absurd (omega arith)
-    go false q e = omega (arith, leb-false (spaceOf G levels) a q, space-physical Z levels)
+      pub unmap-unaligned : a % pageSize G ≢ 0 → refuse 5 b ≡ unmapE G b a
+      unfolding unmapE unmapTests
+      unmap-unaligned z = rw (sym e ∙ not-false _ n, lt-leb (spaceOf G (b .numbers .levels)) a in-it, ne-eqb (a % pageSize G) 0 z)
+
+      pub unmap-on : a % pageSize G ≡ 0 → (i : ℕ) → i ≡ startsTo (b .places) a (b .count) → unmapBetween G b a i ≡ unmapE G b a
+      unfolding unmapE unmapTests
+      unmap-on z i d = rw (sym e ∙ not-false _ n, lt-leb (spaceOf G (b .numbers .levels)) a in-it, eq-eqb (a % pageSize G) 0 z) (ap (unmapBetween G b a) d)
 
 -- ---- the neighbours
 

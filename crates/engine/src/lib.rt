@@ -10,14 +10,15 @@ use model::UnmapAnswer;
 use model::Unmapped;
 use path::Setup;
 ghost use mathlib.Core.Path.{_≡_};
-ghost use Prim.Native.Nat.{_-_, _≤_, _<_};
+ghost use Prim.Native.Nat.{_+_, _-_, _≤_, _<_};
 ghost use lib.ListN.{length};
-ghost use Rattle.path.specs.Geometry.{granuleOf, physical};
-ghost use Rattle.path.specs.Areas.{areaAt, areaOf};
+ghost use Rattle.path.specs.Geometry.{granuleOf, physical, heightOf};
+ghost use Rattle.path.specs.Areas.{areaOf};
+ghost use Rattle.entry.specs.Words.{frameAt};
 ghost use Rattle.model.specs.Answers.{saysMap, saysUnmap, saysQuery, refused, mapping};
 ghost use Rattle.model.specs.Calls.{mapTests};
 ghost use Rattle.model.specs.Ledger.{overlaps};
-ghost use Rattle.plain.specs.Engine.{spanIn, nth, startsTo, aloneFrom, inserted, removed, book, goodPlain, Ready, formatDid, formatE, queryE, mapDid, mapBetween, mapE, unmapDid, unmapBetween, unmapE};
+ghost use Rattle.plain.specs.Engine.{sizeIn, spanIn, nth, startsTo, aloneFrom, inserted, removed, book, goodPlain, Ready, formatDid, formatE, queryE, mapDid, mapBetween, mapE, unmapDid, unmapHere, unmapBetween, unmapE};
 
 // The places of each run.
 pub const ROOM: u64 = 4096;
@@ -179,13 +180,14 @@ pub fn query(s: Setup, n: u64, places: &[u64], entries: &[u64], address: u64) ->
     if !meets(address, 1, x) {
         let y = number(places, n, i + 1);
         let h = alone(s.granule, address, x, y, 0, (s.levels - 1) as usize);
-        return QueryAnswer::Hole {
-            base: indices::base_at(s.granule, address, h),
-            size: indices::size_at(s.granule, h),
-        };
+        let base = indices::base_at(s.granule, address, h);
+        let size = indices::size_at(s.granule, h);
+        return QueryAnswer::Hole { base, size };
     }
     let size = 1 << (x % 64);
-    let e = entry::frame_at(s.granule, number(entries, n, i), path::height_of(s.granule, size));
+    let height = path::height_of(s.granule, size);
+    let w = number(entries, n, i);
+    let e = entry::frame_at(s.granule, w, height);
     match e {
         Entry::Frame { base, attributes } => QueryAnswer::Found {
             base: x - x % LOW,
@@ -210,7 +212,17 @@ fn map_refused(no: u64, s: Setup) -> Mapped
 }
 
 // Map past its tests, between mapping i and the one after it.
-fn map_between(s: Setup, n: usize, places: &mut [u64], entries: &mut [u64], address: u64, frame: u64, size: u64, attributes: u64, i: usize) -> Mapped
+fn map_between(
+    s: Setup,
+    n: usize,
+    places: &mut [u64],
+    entries: &mut [u64],
+    address: u64,
+    frame: u64,
+    size: u64,
+    attributes: u64,
+    i: usize,
+) -> Mapped
     requires { ⌜ Ready (granuleOf (s .granule)) (book s n (now places) (now entries)) i × (mapTests (granuleOf (s .granule)) (s .levels) (areaOf s) address frame size attributes ≡ 0) ⌝ }
     ensures { λ r. ⌜ mapDid r n (now (places .exit)) (now (entries .exit)) ≡ mapBetween (granuleOf (s .granule)) (book s n (now (places .entry)) (now (entries .entry))) (mapping address frame size attributes) i ⌝ }
 {
@@ -230,8 +242,10 @@ fn map_between(s: Setup, n: usize, places: &mut [u64], entries: &mut [u64], addr
     if n >= ROOM as usize {
         return map_refused(13, s);
     }
-    insert(places, i, n, address + indices::bits_at(s.granule, height));
-    insert(entries, i, n, entry::word_of(frame, height, attributes));
+    let power = indices::bits_at(s.granule, height);
+    let word = entry::word_of(frame, height, attributes);
+    insert(places, i, n, address + power);
+    insert(entries, i, n, word);
     Mapped {
         answer: MapAnswer::Taken(need),
         setup: path::with_free(s, s.free - need),
@@ -239,7 +253,16 @@ fn map_between(s: Setup, n: usize, places: &mut [u64], entries: &mut [u64], addr
 }
 
 // A mapping of `size` addresses from `address` on to a frame. Answers the tables that it alone needs, or a refusal: 1 to 7, 11, or 13.
-pub fn map(s: Setup, n: u64, places: &mut [u64], entries: &mut [u64], address: u64, frame: u64, size: u64, attributes: u64) -> Mapped
+pub fn map(
+    s: Setup,
+    n: u64,
+    places: &mut [u64],
+    entries: &mut [u64],
+    address: u64,
+    frame: u64,
+    size: u64,
+    attributes: u64,
+) -> Mapped
     ensures { λ r. ⌜ mapDid r n (now (places .exit)) (now (entries .exit)) ≡ mapE (granuleOf (s .granule)) (book s n (now (places .entry)) (now (entries .entry))) address frame size attributes ⌝ }
 {
     if !good(s, n, places.len(), entries.len()) {
@@ -264,36 +287,30 @@ fn unmap_refused(no: u64, s: Setup) -> Unmapped
     }
 }
 
-// Unmap past its tests, where mapping i is the last that starts at the address or below.
-fn unmap_between(s: Setup, n: usize, places: &mut [u64], entries: &mut [u64], address: u64, i: usize) -> Unmapped
-    requires { ⌜ Ready (granuleOf (s .granule)) (book s n (now places) (now entries)) i × (address < physical) ⌝ }
-    ensures { λ r. ⌜ unmapDid r n (now (places .exit)) (now (entries .exit)) ≡ unmapBetween (granuleOf (s .granule)) (book s n (now (places .entry)) (now (entries .entry))) address i ⌝ }
+// Unmap of mapping i, whose number x starts at the address; y is the number of the one after it.
+fn unmap_here(
+    s: Setup,
+    n: usize,
+    places: &mut [u64],
+    entries: &mut [u64],
+    address: u64,
+    i: usize,
+    x: u64,
+    y: u64,
+) -> Unmapped
+    requires { ⌜ Ready (granuleOf (s .granule)) (book s n (now places) (now entries)) i × ((0 < i) × ((x ≡ nth (now places) n i) × (y ≡ nth (now places) n (i + 1)))) ⌝ }
+    ensures { λ r. ⌜ unmapDid r n (now (places .exit)) (now (entries .exit))
+        ≡ unmapHere (granuleOf (s .granule)) (book s n (now (places .entry)) (now (entries .entry))) address i (frameAt (granuleOf (s .granule)) (heightOf (granuleOf (s .granule)) (sizeIn x)) (nth (now (entries .entry)) n i)) ⌝ }
 {
-    let x = number(&places[..], n, i);
-    let y = number(&places[..], n, i + 1);
-    let top = (s.levels - 1) as usize;
-    if !meets(address, 1, x) {
-        let h = alone(s.granule, address, x, y, 0, top);
-        return Unmapped {
-            answer: UnmapAnswer::Hole {
-                base: indices::base_at(s.granule, address, h),
-                size: indices::size_at(s.granule, h),
-            },
-            setup: s,
-        };
-    }
-    if x - x % LOW != address {
-        return unmap_refused(10, s);
-    }
     let size = 1 << (x % 64);
     let height = path::height_of(s.granule, size);
     let z = number(&places[..], n, i - 1);
-    let given = alone(s.granule, address, z, y, height, top) as u64;
-    let free = s.free + given;
-    let e = entry::frame_at(s.granule, number(&entries[..], n, i), height);
+    let given = alone(s.granule, address, z, y, height, (s.levels - 1) as usize) as u64;
+    let w = number(&entries[..], n, i);
+    let e = entry::frame_at(s.granule, w, height);
     match e {
         Entry::Frame { base, attributes } => {
-            if free >= s.tables + s.tables2 {
+            if s.free + given >= s.tables + s.tables2 {
                 return unmap_refused(8, s);
             }
             remove(places, i - 1, n);
@@ -305,13 +322,42 @@ fn unmap_between(s: Setup, n: usize, places: &mut [u64], entries: &mut [u64], ad
                     attributes,
                     tables: given,
                 },
-                setup: path::with_free(s, free),
+                setup: path::with_free(s, s.free + given),
             }
         }
         Entry::Empty => unmap_refused(8, s),
         Entry::Table(_) => unmap_refused(8, s),
         Entry::Damaged => unmap_refused(8, s),
     }
+}
+
+// Unmap past its tests, where mapping i is the last that starts at the address or below.
+fn unmap_between(
+    s: Setup,
+    n: usize,
+    places: &mut [u64],
+    entries: &mut [u64],
+    address: u64,
+    i: usize,
+) -> Unmapped
+    requires { ⌜ Ready (granuleOf (s .granule)) (book s n (now places) (now entries)) i × (address < physical) ⌝ }
+    ensures { λ r. ⌜ unmapDid r n (now (places .exit)) (now (entries .exit)) ≡ unmapBetween (granuleOf (s .granule)) (book s n (now (places .entry)) (now (entries .entry))) address i ⌝ }
+{
+    let x = number(&places[..], n, i);
+    let y = number(&places[..], n, i + 1);
+    if !meets(address, 1, x) {
+        let h = alone(s.granule, address, x, y, 0, (s.levels - 1) as usize);
+        let base = indices::base_at(s.granule, address, h);
+        let size = indices::size_at(s.granule, h);
+        return Unmapped {
+            answer: UnmapAnswer::Hole { base, size },
+            setup: s,
+        };
+    }
+    if x - x % LOW != address {
+        return unmap_refused(10, s);
+    }
+    unmap_here(s, n, places, entries, address, i, x, y)
 }
 
 // Removes the mapping that starts at an address. Answers its frame and the tables that it alone needed, or a refusal: 1, 4, 5, 8, 9 with the hole, or 10.
@@ -321,9 +367,11 @@ pub fn unmap(s: Setup, n: u64, places: &mut [u64], entries: &mut [u64], address:
     if !good(s, n, places.len(), entries.len()) {
         return unmap_refused(1, s);
     }
-    let no = unmaps::unmap_tests(s.granule, s.levels, address);
-    if no != 0 {
-        return unmap_refused(no, s);
+    if !path::in_space(s.granule, s.levels, address, 1) {
+        return unmap_refused(4, s);
+    }
+    if indices::rest_at(s.granule, address, 0) != 0 {
+        return unmap_refused(5, s);
     }
     let n = n as usize;
     let i = starts_to(&places[..], address, n);

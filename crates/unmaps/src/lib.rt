@@ -21,7 +21,7 @@ ghost use Rattle.model.specs.Calls.{unmapTests, unmapAt, unmapW};
 ghost use Rattle.plans.specs.Plan.{planned};
 
 // Unmap's tests 4 and 5, or 0.
-pub fn unmap_tests(granule: u64, levels: u64, address: u64) -> u64
+fn unmap_tests(granule: u64, levels: u64, address: u64) -> u64
     ensures { λ r. ⌜ r ≡ unmapTests (granuleOf granule) levels address ⌝ }
 {
     if !path::in_space(granule, levels, address, 1) {
