@@ -14,17 +14,17 @@ use Rattle.model.specs.Calls.{mapTests, unmapTests}
 use Rattle.plain.specs.Engine.{Book, room, nth, halves, startsTo, aloneFrom, inserted, removed, goodPlain, formatE, queryBetween, queryE, mapBetween, mapE, unmapHere, unmapBetween, unmapE}
 use Rattle.alike.specs.Alike.{Both, maps, unmaps, queries, answersE}
 
-start : Book
+abbrev pub start : Book
 start = formatE 4096 3 (oneRegion 0x40000000 4) (replicate room 7) (replicate room 7) .after
 
-calls : List Both
+abbrev pub calls : List Both
 calls =
     maps 0 0x80000000 0x1000 3 ∷ maps 0x1000 0x80001000 0x1000 5 ∷ maps 0x200000 0x80200000 0x200000 3
     ∷ maps 0x201000 0x80000000 0x1000 3 ∷ maps 0 0x80000000 0x200000 3 ∷ maps 0x40000000 0x80000000 0x1000 3
     ∷ queries 0x201234 ∷ unmaps 0x201000 ∷ unmaps 0x3000 ∷ unmaps 0 ∷ unmaps 0x1000 ∷ unmaps 0x200000
     ∷ maps 0x7FFFFFF000 0x80000000 0x1000 3 ∷ maps 0x8000000000 0x80000000 0x1000 3 ∷ []
 
-answers : List Answer
+abbrev pub answers : List Answer
 answers =
     took 2 ∷ took 0 ∷ took 0
     ∷ refused 6 ∷ refused 6 ∷ refused 7
@@ -33,5 +33,5 @@ answers =
     ∷ took 2 ∷ refused 4 ∷ []
 
 pub cases : answersE four start calls ≡ answers
-unfolding start calls answers granuleOf sizeAt goodLevels spaceOf seek heightOf meetsRegion meetsArea goodArea goodNumbers goodSetup baseAt typeAt frameWord frameAt part mapTests unmapTests nth halves startsTo aloneFrom inserted removed goodPlain formatE queryBetween queryE mapBetween mapE unmapHere unmapBetween unmapE
+unfolding granuleOf sizeAt goodLevels spaceOf seek heightOf meetsRegion meetsArea goodArea goodNumbers goodSetup baseAt typeAt frameWord frameAt part mapTests unmapTests nth halves startsTo aloneFrom inserted removed goodPlain formatE queryBetween queryE mapBetween mapE unmapHere unmapBetween unmapE
 cases = refl

@@ -5,3 +5,4 @@ pub mod Orders
 pub mod Steps
 pub mod Alike
 pub mod Theorem
+pub mod Examples

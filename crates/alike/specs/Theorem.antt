@@ -9,16 +9,18 @@ use native.Mathlib.Omega.{arith}
 use lib.Dec.{ltb, leb, eqb}
 use lib.ListN.{length, take, drop, replicate, length-map, drop-of-length-le}
 use lib.Seq.{take-at, take-all}
-use borrow.Author.Tests.{eqb-true, lt-leb}
+use borrow.Author.Tests.{eqb-true, eq-eqb, lt-leb}
 use Rattle.path.specs.Geometry.{Granule, Sane, goodGranule, granuleOf, pageSize, entries, spaceOf}
 use Rattle.path.specs.Areas.{Area, areaOf, total}
 use Rattle.path.specs.Numbers.{setup, noSetup, setupOf, withFree, goodNumbers, goodSetup, GoodNumbers}
-use Rattle.path.specs.Laws.{granule-sane, granule-page, size-pos, space-some}
+use Rattle.path.specs.Laws.{granule-sane, granule-page, good-numbers, numbers-good, same-truth, size-pos, space-some}
 use Rattle.path.specs.declared.Setup.{Setup}
 use Rattle.model.specs.Answers.{Mapping, mapping, Answer, formatted, took, gave, refused, listed, Pool, pool, Done, done}
 use Rattle.model.specs.Sound.{mappingsOf}
 use Rattle.model.specs.Calls.{mapTests, unmapTests, formatW, formatN}
 use Rattle.model.specs.Ledger.{Ledger, ledger, withLive, anyOverlap, coverOf, dropAt, freeTables, tablesNeeded, tablesLacking, regionsNeeded, sorted, Entered, entered, mapL, unmapOf, unmapL, queryOf, queryL, listL}
+use Rattle.laws.specs.Lists.{down}
+use Rattle.model.specs.LedgerLaws.{and-true, true-and}
 use Rattle.model.specs.Listing.{placeOf, entryOf, fromOn, listing, listedOf, listW, Climbing}
 use Rattle.model.specs.ListingLaws.{from-low, rising-climbing}
 use Rattle.demand.specs.Holds.{Holds}
@@ -27,7 +29,7 @@ use Rattle.demand.specs.Sims.{holds-sim}
 use Rattle.demand.specs.Listings.{live-sorted, list-alike}
 use Rattle.demand.specs.Theorem.{map-other, step-holds, rests, format-demand}
 use Rattle.plain.specs.Engine.{Book, book, room, Kept, kept, refuse, goodPlain, formatE}
-use Rattle.plain.specs.Laws.{good-plain}
+use Rattle.plain.specs.Laws.{plain-good, good-plain}
 use Rattle.alike.specs.Books.{padded, bookOf}
 use Rattle.alike.specs.Orders.{Orderly, holds-orderly}
 use Rattle.alike.specs.Steps.{shows, Keeps, Full, query-alike, map-alike, unmap-alike}
@@ -244,3 +246,55 @@ module _ (number levels : ℕ) (area : Area) (ws : List ℕ) (cut : ℕ) (list :
     where
       few : length (sorted (E .live)) ≤ room
       few = omega arith
+
+-- ---- the two formats answer alike, for any numbers, where all that is lent has the lengths that they ask for
+
+module _ (number levels : ℕ) (area : Area) (ws : List ℕ) (cut : ℕ) (list : List ℕ) (places entries′ : List ℕ)
+    (cut-is : cut ≡ entries (granuleOf number) * area .tables) (words-are : length ws ≡ entries (granuleOf number) * total area) (places-are : length list ≡ total area)
+    (long : length places ≡ room) (wide : length entries′ ≡ room) where
+  s : Setup
+  s = setup levels (area .base) (area .tables) 0 (area .base₂) (area .tables₂) number
+
+  tests-same : goodPlain (granuleOf number) s 0 (length places) (length entries′) ≡ (goodGranule number && goodNumbers (granuleOf number) levels area cut (length ws) (length list))
+  unfolding s
+  tests-same = same-truth _ _ to from
+    where
+      to : goodPlain (granuleOf number) s 0 (length places) (length entries′) ≡ true → (goodGranule number && goodNumbers (granuleOf number) levels area cut (length ws) (length list)) ≡ true
+      to e =
+          let g = plain-good e in
+          let N = g .setup-is .numbers in
+          true-and (granule-page number ∙ eq-eqb number (pageSize (granuleOf number)) (g .setup-is .granule-is))
+          (numbers-good (record { enough = N .enough; not-more = N .not-more; some-table = N .some-table; few = N .few; placed = N .placed; cut-is = cut-is; words-are = words-are; places-are = places-are }))
+
+      from : (goodGranule number && goodNumbers (granuleOf number) levels area cut (length ws) (length list)) ≡ true → goodPlain (granuleOf number) s 0 (length places) (length entries′) ≡ true
+      from e =
+          let (n, m) = and-true (goodGranule number) _ e in
+          let N = good-numbers m in
+          good-plain (record {
+            count = omega arith;
+            places-are = long;
+            entries-are = wide;
+            setup-is = record {
+              granule-is = eqb-true number (pageSize (granuleOf number)) (sym (granule-page number) ∙ n);
+              numbers = record { enough = N .enough; not-more = N .not-more; some-table = N .some-table; few = N .few; placed = N .placed; cut-is = refl; words-are = refl; places-are = refl };
+              room = omega (arith, N .some-table);
+            };
+          })
+
+  pub formats-alike : formatN number levels area ws cut list .answer ≡ formatE number levels area places entries′ .answer
+  unfolding formatN formatW formatE s
+  formats-alike = rw tests-same (go (goodGranule number) (goodNumbers (granuleOf number) levels area cut (length ws) (length list)))
+    where
+      d : Done
+      d = done formatted (pool (setupOf (granuleOf number) levels area (total area - 1)) (replicate (length ws) 0) cut (down (total area)))
+
+      n : Done
+      n = done (refused 1) (pool noSetup ws cut list)
+
+      k : Kept
+      k = kept formatted (book (withFree s (total area - 1)) 0 (replicate room 0) (replicate room 0))
+
+      go : (x y : Bool) → cond x (cond y d n) n .answer ≡ cond (x && y) k (refuse 1 (book noSetup 0 places entries′)) .answer
+      go true true = refl
+      go true false = refl
+      go false y = refl
