@@ -30,11 +30,11 @@ use Rattle.engine.proofs.Parts.{power-fits}
 
 -- ---- what is left where a call refuses
 
-pub map-refuses : (r : Mapped) (s : Setup) (n no : ℕ) (x y : List ℕ) → (saysMap (r .answer) ≡ refused no) × (r .setup ≡ s) → mapDid r n x y ≡ refuse no (book s n x y)
-map-refuses r s n no x y e = λ i. kept (e .0 i) (book (e .1 i) (oneMore (e .0 i) n) x y)
+pub map-refuses : (r : Mapped) (s : Setup) (n t : ℕ) (x y : List ℕ) → (saysMap (r .answer) ≡ refused t) × (r .setup ≡ s) → mapDid r n x y ≡ refuse t (book s n x y)
+map-refuses r s n t x y e = λ i. kept (e .0 i) (book (e .1 i) (oneMore (e .0 i) n) x y)
 
-pub unmap-refuses : (r : Unmapped) (s : Setup) (n no : ℕ) (x y : List ℕ) → (saysUnmap (r .answer) ≡ refused no) × (r .setup ≡ s) → unmapDid r n x y ≡ refuse no (book s n x y)
-unmap-refuses r s n no x y e = λ i. kept (e .0 i) (book (e .1 i) (oneLess (e .0 i) n) x y)
+pub unmap-refuses : (r : Unmapped) (s : Setup) (n t : ℕ) (x y : List ℕ) → (saysUnmap (r .answer) ≡ refused t) × (r .setup ≡ s) → unmapDid r n x y ≡ refuse t (book s n x y)
+unmap-refuses r s n t x y e = λ i. kept (e .0 i) (book (e .1 i) (oneLess (e .0 i) n) x y)
 
 -- ---- the tests before the search
 
@@ -115,7 +115,7 @@ one-up i = omega arith
 -- 9 and the hole
 pub hole-told : (G : Granule) (s : Setup) (a u v : ℕ) {h base size : ℕ} → s .levels - 1 < G .most → h ≡ aloneFrom G a u v (s .levels - 1) - 0
     → base ≡ atLevel G h (baseAt G a h) → size ≡ atLevel G h (sizeAt G h) → hole base size ≡ holeBetween G s a u v
-hole-told G s a u v {h} l e p q =
+hole-told G s a u v {h} {base} {size} l e p q =
     (λ i. hole (p′ i) (q′ i)) ∙ (λ i. hole (baseAt G a (e′ i)) (sizeAt G (e′ i)))
   where
     e′ : h ≡ aloneFrom G a u v (s .levels - 1)
@@ -124,10 +124,10 @@ hole-told G s a u v {h} l e p q =
     low : h < G .most
     low = omega (arith, e, alone-most G a u v (s .levels - 1))
 
-    p′ : _ ≡ baseAt G a h
+    p′ : base ≡ baseAt G a h
     p′ = p ∙ level-some G low (baseAt G a h)
 
-    q′ : _ ≡ sizeAt G h
+    q′ : size ≡ sizeAt G h
     q′ = q ∙ level-some G low (sizeAt G h)
 
 module _ (G : Granule) (s : Setup) (n : ℕ) (x y : List ℕ) (a i : ℕ) {u v : ℕ} (p : u ≡ nth x n i) (q : v ≡ nth x n (i + 1)) where
@@ -263,7 +263,7 @@ module _ (G : Granule) (s : Setup) (n : ℕ) (x y : List ℕ) (a i : ℕ) {u v :
 -- a word that is no frame's
 pub unmap-damaged : (G : Granule) (b : Book) (a i : ℕ) (e : Entry) → ((f k : ℕ) → e ≡ Frame f k → ⊥) → refuse 8 b ≡ unmapHere G b a i e
 unfolding unmapHere
-unmap-damaged G b a i (Frame f k) no = absurd (no f k refl)
-unmap-damaged G b a i Empty no = refl
-unmap-damaged G b a i (Table c) no = refl
-unmap-damaged G b a i Damaged no = refl
+unmap-damaged G b a i (Frame f k) d = absurd (d f k refl)
+unmap-damaged G b a i Empty d = refl
+unmap-damaged G b a i (Table c) d = refl
+unmap-damaged G b a i Damaged d = refl
