@@ -23,8 +23,15 @@ pub mod Adds
 pub mod Rest
 pub mod Theorem
 pub mod Clauses
+pub mod History
 pub mod Members
 pub mod Held
+pub mod StepLaws
+pub mod SameLaws
+pub mod Renames
+pub mod Histories
+pub mod Orders
+pub mod HistoryCases
 pub mod Remade
 pub mod RoundTrip
 pub mod Restores

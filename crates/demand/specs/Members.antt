@@ -1,28 +1,25 @@
 -- What a ledger answers depends on which mappings are live and not on the order in which they came.
 use mathlib.Core.Path.{_≡_, refl, ap, sym, _∙_, subst}
-use mathlib.Core.Logic.{_⊎_, inl, inr, ⊎-elim, _↔_}
+use mathlib.Core.Logic.{_≢_, _⊎_, inl, inr, ⊎-elim, _↔_}
 use mathlib.Core.Bool.{Bool, true, false, cond, false≢true}
 use mathlib.Core.List.{List, [], _∷_, _++_, List·Memᴰ, List·Memᴰ·head as here, List·Memᴰ·tail as there, List·Memᴰ·not-nil, List·Memᴰ·cases-cons, List·Memᴰ·append-cases, Memᴰ·append-left, Memᴰ·append-right, Memᴰ·cast}
 use mathlib.Core.Option.{Option, some, none}
 use Prim.Native.Nat.{ℕ, zero, suc, _+_, _-_, _≤_, _<_}
 use native.Mathlib.Omega.{arith}
-use lib.Dec.{ltb, leb}
+use lib.Dec.{ltb, leb, eqb}
 use lib.ListN.{length, length-append}
-use borrow.Author.Tests.{eqb-true, eq-eqb}
+use borrow.Author.Tests.{eqb-true, eqb-false, eq-eqb}
 use Rattle.laws.specs.Lists.{Distinct}
 use Rattle.path.specs.Geometry.{Granule, sizeAt, spaceOf, Sane}
 use Rattle.path.specs.Areas.{Area}
 use Rattle.path.specs.Paths.{baseAt}
 use Rattle.path.specs.Laws.{size-rises, same-truth}
 use Rattle.model.specs.Answers.{refused, Mapping}
-use Rattle.model.specs.Ledger.{ledger, anyOverlap, coverOf, Region, region, regionsOf, hasRegion, newRegions, regionsNeeded, tablesNeeded, tablesLacking, holeFrom, holeOf, holeAt, queryOf, queryL}
+use Rattle.model.specs.Ledger.{ledger, anyOverlap, coverOf, dropAt, Region, region, regionsOf, hasRegion, newRegions, regionsNeeded, tablesNeeded, tablesLacking, holeFrom, holeOf, holeAt, queryOf, queryL}
 use Rattle.model.specs.Holes.{Within, Shares}
 use Rattle.model.specs.LedgerLaws.{and-true, true-and, or-true, true-or, any-overlap, cover-some, cover-none}
 use Rattle.tree.specs.Count.{length-within, distinct-append}
-
--- two lists have the same members, in whatever order
-abbrev pub SameMembers : {X : Type 0} → List X → List X → Type 0
-SameMembers {X} l k = (x : X) → List·Memᴰ x l ↔ List·Memᴰ x k
+use Rattle.demand.specs.History.{SameMembers}
 
 -- every member of the first list is one of the second
 abbrev pub AllIn : {X : Type 0} → List X → List X → Type 0
@@ -108,6 +105,25 @@ same-query G levels r s L M d e a =
     go : (o : Option Mapping) → queryOf G (ledger levels r L) a o ≡ queryOf G (ledger levels s M) a o
     go none = ap holeAt (same-hole G a L M e (levels - 1))
     go (some m) = refl
+
+-- ---- what is left
+
+-- the ledger without the mapping at an address has the others, and nothing else
+pub drop-has : (a : ℕ) (L : List Mapping) (m : Mapping) → List·Memᴰ m (dropAt a L) ↔ (List·Memᴰ m L × (m .at ≢ a))
+unfolding dropAt
+drop-has a [] m = (λ i. absurd (List·Memᴰ·not-nil i), λ i. i .0)
+drop-has a (k ∷ L) m = go (eqb (k .at) a) refl (drop-has a L m)
+  where
+    go : (b : Bool) → eqb (k .at) a ≡ b → List·Memᴰ m (dropAt a L) ↔ (List·Memᴰ m L × (m .at ≢ a))
+        → List·Memᴰ m (cond b (dropAt a L) (k ∷ dropAt a L)) ↔ (List·Memᴰ m (k ∷ L) × (m .at ≢ a))
+    go true q ih = (
+      λ i. let (x, y) = ih .0 i in (there x, y),
+      λ (i, d). ⊎-elim (λ e. absurd (d (ap (λ (z : Mapping). z .at) e ∙ eqb-true _ _ q))) (λ j. ih .1 (j, d)) (List·Memᴰ·cases-cons i),
+    )
+    go false q ih = (
+      λ i. ⊎-elim (λ e. (here e, λ z. eqb-false _ _ q (ap (λ (z : Mapping). z .at) (sym e) ∙ z))) (λ j. let (x, y) = ih .0 j in (there x, y)) (List·Memᴰ·cases-cons i),
+      λ (i, d). ⊎-elim (λ e. here e) (λ j. there (ih .1 (j, d))) (List·Memᴰ·cases-cons i),
+    )
 
 -- ---- tables needed
 

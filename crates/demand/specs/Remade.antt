@@ -15,25 +15,16 @@ use Rattle.model.specs.Answers.{Answer, took, Mapping, Pool}
 use Rattle.model.specs.Calls.{mapTests, queryW}
 use Rattle.model.specs.Sound.{WellFormed, OffTables}
 use Rattle.model.specs.MappingLaws.{pool-within, pool-well}
-use Rattle.model.specs.Ledger.{Ledger, ledger, withLive, anyOverlap, tablesNeeded, tablesLacking, freeTables, Entered, entered, mapL}
+use Rattle.model.specs.Ledger.{Ledger, ledger, anyOverlap, tablesNeeded, tablesLacking, freeTables, Entered, entered}
 use Rattle.model.specs.LedgerLaws.{any-overlap}
 use Rattle.demand.specs.Holds.{Holds}
 use Rattle.demand.specs.Maps.{Fine}
 use Rattle.demand.specs.Demand3.{mapOf, queryC, stepL, answersL, ledgerAfter}
 use Rattle.demand.specs.Theorem.{step-holds}
-use Rattle.demand.specs.Members.{SameMembers, AllIn, Apart, same-query, needed-more, needed-within}
+use Rattle.demand.specs.History.{SameMembers}
+use Rattle.demand.specs.StepLaws.{Accepts, accepts}
+use Rattle.demand.specs.Members.{AllIn, Apart, same-query, needed-more, needed-within}
 use Rattle.demand.specs.Held.{held-apart, held-count}
-
--- a ledger takes a mapping: no test refuses it, it overlaps no live one, and lacks no more tables than are free
-pub record Accepts (G : Granule) (A : Ledger) (m : Mapping) : Type 0 where
-  pub tests : mapTests G (A .levels) (A .area) (m .at) (m .frame) (m .size) (m .attributes) ≡ 0
-  pub clear : anyOverlap (m .at) (m .size) (A .live) ≡ false
-  pub room : tablesLacking G (A .levels) (A .live) m ≤ freeTables G A
-
-pub accepts : (G : Granule) (A : Ledger) (m : Mapping) → Accepts G A m
-    → mapL G A (m .at) (m .frame) (m .size) (m .attributes) ≡ entered (took (tablesLacking G (A .levels) (A .live) m)) (withLive A (m ∷ A .live))
-unfolding mapL
-accepts G A m a = rw (a .tests, a .clear, le-ltb (freeTables G A) (tablesLacking G (A .levels) (A .live) m) (a .room))
 
 -- the tests of map's arguments refuse nothing that is fine
 pub fine-tests : (G : Granule) (levels : ℕ) (area : Area) (a b size k : ℕ) → Fine G levels area a b size k → mapTests G levels area a b size k ≡ 0

@@ -101,7 +101,7 @@ module _ (G : Granule) (Z : Sane G) {p : Pool} {A : Ledger} (I : Sim G Z p A) wh
   needed-region q m = subst (λ (l : List Region). List·Memᴰ (shownRegion G Z q) l) (sym (needed-shown G Z (k₀ G Z I) (I .L))) (Memᴰ·map (shownRegion G Z) m)
 
   -- its table
-  region-table : (h a : ℕ) → NeededBy G (own G Z I) h a → (r : ℕ) × (h ≤ (k₀ G Z I)) × (r * sizeAt G h ≡ a) × (I .S h r ≡ table) × List·Memᴰ (I .T h r) (needed-tables (I .inv) (k₀ G Z I) (root-at G Z I))
+  pub region-table : (h a : ℕ) → NeededBy G (own G Z I) h a → (r : ℕ) × (h ≤ (k₀ G Z I)) × (r * sizeAt G h ≡ a) × (I .S h r ≡ table) × List·Memᴰ (I .T h r) (needed-tables (I .inv) (k₀ G Z I) (root-at G Z I))
   region-table h a m = let (q, b, e, f) = region-needed h a m in let (l, _) = needed-from (entries G) (k₀ G Z I) (I .L) q b in
       (q.r, omega arith, f, subst (λ (j : ℕ). I .S j q.r ≡ table) e (is-table (I .inv) (k₀ G Z I) (root-at G Z I) q b), subst (λ (j : ℕ). List·Memᴰ (I .T j q.r) (needed-tables (I .inv) (k₀ G Z I) (root-at G Z I))) e (Memᴰ·map (λ (z : Reg). I .T z.h z.r) b))
 

@@ -28,7 +28,7 @@ use Rattle.demand.specs.Others.{accepted-holds}
 use Rattle.demand.specs.Demand3.{Call, mapOf, stepL, answersL, ledgerAfter, Demand3}
 use Rattle.demand.specs.Sims.{holds-sim, sim-holds}
 use Rattle.demand.specs.Theorem.{read-alike, map-never, demand3, from-format}
-use Rattle.demand.specs.Members.{SameMembers}
+use Rattle.demand.specs.History.{SameMembers}
 use Rattle.demand.specs.Saves.{few-mappings}
 use Rattle.demand.specs.Clauses.{ledgerIn}
 use Rattle.demand.specs.Refused.{from-why, from-refused, meant-other}

@@ -35,10 +35,10 @@ use Rattle.demand.specs.Visits.{table-reached, table-mappings}
 use Rattle.demand.specs.Holds.{WfTree, ledgerOf, Holds}
 
 -- the first f places of a list, by place
-place-mem : (f i : ℕ) (l : List ℕ) → f ≤ length l → i < f → List·Memᴰ (placeAt l i) (take f l)
+pub place-mem : (f i : ℕ) (l : List ℕ) → f ≤ length l → i < f → List·Memᴰ (placeAt l i) (take f l)
 place-mem f i l b c = Memᴰ·cast (sym (getD-take f l i 0 c)) (at-mem (take f l) i (omega (arith, length-take-le f l b)))
 
-mem-place : (f t : ℕ) (l : List ℕ) → f ≤ length l → List·Memᴰ t (take f l) → (i : ℕ) × (i < f) × (placeAt l i ≡ t)
+pub mem-place : (f t : ℕ) (l : List ℕ) → f ≤ length l → List·Memᴰ t (take f l) → (i : ℕ) × (i < f) × (placeAt l i ≡ t)
 mem-place f t l b m = let (i, c, e) = mem-at (take f l) m in let d : i < f = omega (arith, length-take-le f l b) in (i, d, sym (getD-take f l i 0 d) ∙ e)
 
 distinct-place : (l : List ℕ) → Distinct l → (i j : ℕ) → i < length l → j < length l → getD l i 0 ≡ getD l j 0 → i ≡ j

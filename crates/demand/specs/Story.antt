@@ -1,24 +1,24 @@
 -- The customer's story: a map that lacked tables is accepted after an add, if its frame is not in the new region and the tables now suffice.
-use mathlib.Core.Path.{_≡_, refl, ap, sym, _∙_, subst}
-use mathlib.Core.Logic.{_≢_, inl, inr, ⊎-elim}
+use mathlib.Core.Path.{_≡_, refl, ap, sym, _∙_}
+use mathlib.Core.Logic.{inl, ⊎-elim}
 use mathlib.Core.Bool.{Bool, true, false, cond}
-use mathlib.Core.List.{List, _∷_}
-use Prim.Native.Nat.{ℕ, suc, _+_, _-_, _*_, _%_, _≤_, _<_}
+use mathlib.Core.List.{List}
+use Prim.Native.Nat.{ℕ, _+_, _-_, _*_, _%_, _≤_}
 use native.Mathlib.Omega.{arith}
 use lib.Dec.{ltb, leb, eqb}
 use lib.ListN.{length}
-use borrow.Author.Tests.{eqb-true, le-ltb}
 use Rattle.path.specs.Geometry.{Granule, Sane, entries, spaceOf, physical, heightOf}
-use Rattle.path.specs.Areas.{Area, areaOf, oneRegion, withSecond, total, Shares, meetsArea}
+use Rattle.path.specs.Areas.{Area, oneRegion, withSecond, Shares, meetsArea}
 use Rattle.path.specs.Numbers.{goodAdding}
 use Rattle.path.specs.Laws.{good-adding, apart-meets}
-use Rattle.model.specs.Answers.{Answer, added, took, refused, Mapping, mapping, Pool}
+use Rattle.model.specs.Answers.{added, took, refused, Mapping, mapping, Pool}
 use Rattle.model.specs.Calls.{mapTests, mapW}
 use Rattle.model.specs.Audit.{noneInside}
-use Rattle.model.specs.Ledger.{Ledger, ledger, withLive, anyOverlap, tablesNeeded, tablesLacking, freeTables, Entered, entered, addL, mapL}
+use Rattle.model.specs.Ledger.{Ledger, ledger, anyOverlap, tablesLacking, freeTables, Entered, entered, addL, mapL}
 use Rattle.demand.specs.Holds.{Holds}
-use Rattle.demand.specs.Maps.{ledgerMap, tests-fine}
+use Rattle.demand.specs.Maps.{tests-fine}
 use Rattle.demand.specs.Held.{held-count}
+use Rattle.demand.specs.StepLaws.{MapCase, map-takes, map-bad, map-meets, map-short, map-case, accepts}
 use Rattle.demand.specs.Demand3.{addC, mapC, stepW, stepL}
 use Rattle.demand.specs.Theorem.{map-other, step-holds}
 
@@ -42,23 +42,16 @@ tests-with G levels r s a b size k e f =
 
 module _ (G : Granule) (Z : Sane G) where
   -- a ledger that answers 7 has passed the tests, and no live mapping overlaps
-  seven : (A : Ledger) (a b size k : ℕ) → mapL G A a b size k .answer ≡ refused 7 → (mapTests G (A .levels) (A .area) a b size k ≡ 0) × (anyOverlap a size (A .live) ≡ false)
-  unfolding mapL
-  seven A a b size k = go (eqb no 0) (anyOverlap a size (A .live)) refl refl
+  seven : (A : Ledger) (m : Mapping) → mapL G A (m .at) (m .frame) (m .size) (m .attributes) .answer ≡ refused 7
+      → (mapTests G (A .levels) (A .area) (m .at) (m .frame) (m .size) (m .attributes) ≡ 0) × (anyOverlap (m .at) (m .size) (A .live) ≡ false)
+  seven A m = go (mapL G A (m .at) (m .frame) (m .size) (m .attributes)) (map-case G A m)
     where
-      no : ℕ
-      no = mapTests G (A .levels) (A .area) a b size k
-
-      rest : Entered
-      rest =
-          let need = tablesLacking G (A .levels) (A .live) (mapping a b size k) in
-          cond (ltb (freeTables G A) need) (entered (refused 7) A) (entered (took need) (withLive A (mapping a b size k ∷ A .live)))
-
-      go : (x y : Bool) → eqb no 0 ≡ x → anyOverlap a size (A .live) ≡ y → cond x (cond y (entered (refused 6) A) rest) (entered (refused no) A) .answer ≡ refused 7
-          → (no ≡ 0) × (anyOverlap a size (A .live) ≡ false)
-      go true false p q e = (eqb-true no 0 p, q)
-      go true true p q e = let z : _≡_ {A = ℕ} 6 7 = cc in absurd (omega arith)
-      go false y p q e = absurd (map-other G Z (A .levels) (A .area) a b size k 7 (omega arith) (let z : no ≡ 7 = cc in z))
+      go : (d : Entered) → MapCase G A m d → d .answer ≡ refused 7
+          → (mapTests G (A .levels) (A .area) (m .at) (m .frame) (m .size) (m .attributes) ≡ 0) × (anyOverlap (m .at) (m .size) (A .live) ≡ false)
+      go d (map-short p q l) e = (p, q)
+      go d (map-takes a) e = let z : _≡_ {A = ℕ} 6 7 = cc in absurd (omega arith)
+      go d (map-meets p q) e = let z : _≡_ {A = ℕ} 6 7 = cc in absurd (omega arith)
+      go d (map-bad n x q) e = absurd (map-other G Z (A .levels) (A .area) (m .at) (m .frame) (m .size) (m .attributes) 7 (omega arith) (q ∙ (let z : n ≡ 7 = cc in z)))
 
   -- a ledger that answers an add has the new region, and had none
   grew : (A : Ledger) (q m second places : ℕ) → addL G A q m second places .answer ≡ added
@@ -78,13 +71,6 @@ module _ (G : Granule) (Z : Sane G) where
       go true false p e = let z : _≡_ {A = ℕ} 0 1 = cc in absurd (omega arith)
       go false y p e = let z : _≡_ {A = ℕ} 0 1 = cc in absurd (omega arith)
 
-  -- a ledger where nothing stands in the way of a map
-  takes : (A : Ledger) (a b size k : ℕ) → mapTests G (A .levels) (A .area) a b size k ≡ 0 → anyOverlap a size (A .live) ≡ false
-      → tablesLacking G (A .levels) (A .live) (mapping a b size k) ≤ freeTables G A
-      → mapL G A a b size k .answer ≡ took (tablesLacking G (A .levels) (A .live) (mapping a b size k))
-  unfolding mapL
-  takes A a b size k t o l = rw (t, o, le-ltb (freeTables G A) (tablesLacking G (A .levels) (A .live) (mapping a b size k)) l)
-
   pub story : {p : Pool} {A : Ledger} → Holds G p A → (a b size k q m : ℕ) (second rest : List ℕ)
       -- a map is refused for want of tables,
       → mapW G p a b size k .answer ≡ refused 7
@@ -99,10 +85,10 @@ module _ (G : Granule) (Z : Sane G) where
   story {p} {A} H a b size k q m second rest lacked came off enough =
       step-holds G Z (step-holds G Z H (addC q m second rest) .1) (mapC a b size k) .0
       ∙ ap (λ (B : Ledger). mapL G B a b size k .answer) (new .1)
-      ∙ takes B a b size k tests (before .1) (omega (arith, free))
+      ∙ ap (λ (d : Entered). d .answer) (accepts G B (mapping a b size k) (record { tests = tests; clear = before .1; room = omega (arith, free) }))
     where
       before : (mapTests G (A .levels) (A .area) a b size k ≡ 0) × (anyOverlap a size (A .live) ≡ false)
-      before = seven A a b size k (sym (step-holds G Z H (mapC a b size k) .0) ∙ lacked)
+      before = seven A (mapping a b size k) (sym (step-holds G Z H (mapC a b size k) .0) ∙ lacked)
 
       new : (A .area .tables₂ ≡ 0) × (stepL G A (addC q m second rest) .after ≡ ledger (A .levels) (withSecond (A .area) q m) (A .live))
       new = grew A q m (length second) (freeTables G A + length rest) (sym (step-holds G Z H (addC q m second rest) .0) ∙ came)

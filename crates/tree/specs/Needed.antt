@@ -157,10 +157,10 @@ module _ {G : Geo} {W : ℕ → ℕ → ℕ} {P : ℕ → ℕ} {f : ℕ} {T : �
   from t m = let (a, n, e) = Memᴰ·of-map (λ (a : Reg). T a.h a.r) N m in (a, needed-from G.K k L a n .0, is-table a n, e)
 
   -- the root, the free tables, the needed ones
-  abbrev tables : List ℕ
+  abbrev pub tables : List ℕ
   tables = 0 ∷ (places P f ++ needed-tables)
 
-  tables-distinct : Distinct tables
+  pub tables-distinct : Distinct tables
   tables-distinct = (
     λ m. ⊎-elim (free-not-root I tt) not-root (List·Memᴰ·append-cases (places P f) m),
     distinct-append (places P f) needed-tables (places-distinct P f (I .spare tt .free .once)) needed-tables-distinct apart,
@@ -173,14 +173,14 @@ module _ {G : Geo} {W : ℕ → ℕ → ℕ} {P : ℕ → ℕ} {f : ℕ} {T : �
       apart t m n = let (i, l, e) = places-from P f t m in let (a, _, s, d) = from t n in
           I .spare tt .free .each i l .1 a.h a.r s (d ∙ sym e)
 
-  tables-low : (t : ℕ) → List·Memᴰ t tables → t < G.n
+  pub tables-low : (t : ℕ) → List·Memᴰ t tables → t < G.n
   tables-low t m = ⊎-elim (λ e. omega (arith, root-low I tt))
       (λ n. ⊎-elim (free-low I tt t) low (List·Memᴰ·append-cases (places P f) n)) (List·Memᴰ·cases-cons m)
     where
       low : List·Memᴰ t needed-tables → t < G.n
       low n = let (a, _, s, e) = from t n in omega (arith, e, I .ren .range a.h a.r s)
 
-  tables-all : (t : ℕ) → t < G.n → List·Memᴰ t tables
+  pub tables-all : (t : ℕ) → t < G.n → List·Memᴰ t tables
   tables-all t l = go (ℕ-discrete t 0) (any? (λ (a : Reg). ℕ-discrete (T a.h a.r) t) N)
     where
       -- a table of the tree is the root or a needed region's

@@ -1,33 +1,16 @@
 -- The ledger's tests, as facts about its mappings.
 use mathlib.Core.Path.{_≡_, refl, ap, sym, _∙_}
-use mathlib.Core.Logic.{_≢_, _⊎_, ⊎-elim, _↔_}
+use mathlib.Core.Logic.{⊎-elim}
 use mathlib.Core.Bool.{Bool, true, false, cond}
 use mathlib.Core.List.{List, [], _∷_, List·Memᴰ, List·Memᴰ·head as here, List·Memᴰ·tail as there, List·Memᴰ·not-nil, List·Memᴰ·cases-cons, List·Memᴰ·append-cases}
 use Prim.Native.Nat.{ℕ, zero, suc, _<_}
-use lib.Dec.{ltb, eqb}
-use borrow.Author.Tests.{ltb-true, eqb-true, eqb-false}
+use lib.Dec.{ltb}
+use borrow.Author.Tests.{ltb-true}
 use Rattle.path.specs.Geometry.{Granule, sizeAt, Sane}
 use Rattle.path.specs.Laws.{size-injective}
 use Rattle.path.specs.Paths.{baseAt}
 use Rattle.model.specs.Answers.{Mapping}
-use Rattle.model.specs.Ledger.{dropAt, Region, region, regionsOf, hasRegion, newRegions, regionsNeeded}
-
--- the ledger without the mapping at an address has the others, and nothing else
-pub drop-has : (a : ℕ) (L : List Mapping) (m : Mapping) → List·Memᴰ m (dropAt a L) ↔ (List·Memᴰ m L × (m .at ≢ a))
-unfolding dropAt
-drop-has a [] m = (λ i. absurd (List·Memᴰ·not-nil i), λ i. i .0)
-drop-has a (k ∷ L) m = go (eqb (k .at) a) refl (drop-has a L m)
-  where
-    go : (b : Bool) → eqb (k .at) a ≡ b → List·Memᴰ m (dropAt a L) ↔ (List·Memᴰ m L × (m .at ≢ a))
-        → List·Memᴰ m (cond b (dropAt a L) (k ∷ dropAt a L)) ↔ (List·Memᴰ m (k ∷ L) × (m .at ≢ a))
-    go true q ih = (
-      λ i. let (x, y) = ih .0 i in (there x, y),
-      λ (i, d). ⊎-elim (λ e. absurd (d (ap (λ (z : Mapping). z .at) e ∙ eqb-true _ _ q))) (λ j. ih .1 (j, d)) (List·Memᴰ·cases-cons i),
-    )
-    go false q ih = (
-      λ i. ⊎-elim (λ e. (here e, λ z. eqb-false _ _ q (ap (λ (z : Mapping). z .at) (sym e) ∙ z))) (λ j. let (x, y) = ih .0 j in (there x, y)) (List·Memᴰ·cases-cons i),
-      λ (i, d). ⊎-elim (λ e. here e) (λ j. there (ih .1 (j, d))) (List·Memᴰ·cases-cons i),
-    )
+use Rattle.model.specs.Ledger.{Region, region, regionsOf, hasRegion, newRegions, regionsNeeded}
 
 -- a region that a mapping needs a table for is larger than the mapping and holds it
 regions-from : (G : Granule) (m : Mapping) (k : ℕ) (q : Region) → List·Memᴰ q (regionsOf G m k) → (j : ℕ) × (m .size < sizeAt G j) × (q ≡ region (sizeAt G j) (baseAt G (m .at) j))

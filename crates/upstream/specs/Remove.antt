@@ -43,11 +43,11 @@ use Rattle.demand.specs.Carried.{A, Cleared, clear-first, prune-carried}
 use Rattle.demand.specs.Holds.{WfTree, ledgerOf}
 use Rattle.demand.specs.Sims.{SimIf, wf-sim, sim-wf, sim-used, sim-live, sim-listed, shown-injective}
 use Rattle.demand.specs.Queries.{area, n, k₀, al, X, R, own, few, root-at, walk-ended, entry-empty, entry-frame}
+use Rattle.demand.specs.Members.{drop-has}
 use Rattle.demand.specs.Maps.{low}
 use Rattle.demand.specs.Unmaps as unmaps
 use Rattle.demand.specs.Unmaps.{distinct-without, unmap-after}
 use Rattle.upstream.specs.State.{UnmapPre}
-use Rattle.upstream.specs.Facts.{drop-has}
 use Rattle.upstream.specs.Calls.{giving, writesOfUnmap, unmap-gave, gave-passed}
 use Rattle.upstream.specs.Trait.{unmap-pre}
 use Rattle.upstream.specs.Tree.{InTree, path-mappings-has-at-most-one-path-for-vbase}

@@ -18,6 +18,7 @@ use Rattle.model.specs.Sound.{Rising, mappingsOf}
 use Rattle.model.specs.MappingLaws.{rising-within, pool-rises, pool-within, pool-well}
 use Rattle.model.specs.Ledger.{Ledger, ledger, withLive, anyOverlap, coverOf, dropAt, tablesLacking, freeTables, Entered, entered, mapL, unmapOf, unmapL, queryOf, queryL, auditL}
 use Rattle.demand.specs.Holds.{Holds}
+use Rattle.demand.specs.Members.{drop-has}
 use Rattle.demand.specs.Held.{rising-one}
 use Rattle.demand.specs.Sims.{holds-sim}
 use Rattle.demand.specs.Maps.{tests-fine}
@@ -26,7 +27,6 @@ use Rattle.demand.specs.Demand3.{mapC, unmapC, queryC}
 use Rattle.demand.specs.Theorem.{rests, step-holds, from-format}
 use Rattle.upstream.specs.State.{Has, StartsAt, Overlap, Within, OverlapsVmem, SameMappings, SameConstants, Mappable, MapPre, Wf, Maps, UnmapPre, Unmaps, Queries}
 use Rattle.model.specs.LedgerLaws.{any-overlap, cover-some, cover-none}
-use Rattle.upstream.specs.Facts.{drop-has}
 
 -- the trait's `view`: the pool's numbers, and the mappings in its words
 abbrev pub view : Granule → Pool → Ledger
