@@ -1,5 +1,5 @@
 -- What the adding call does, by what its tests found.
-use Prim.Native.Nat.{ℕ, ◌+◌, ◌-◌, ◌*◌, ◌≤◌, ◌<◌}
+use Prim.Native.Nat.{ℕ, ◌+◌, ◌*◌, ◌<◌}
 use mathlib.Core.Path.{◌≡◌, refl, sym, ap, ◌∙◌}
 use mathlib.Core.Bool.{true, and-eq-true_iff}
 use mathlib.Core.List.{List, ◌++◌}
@@ -13,9 +13,9 @@ use Rattle.path.specs.Geometry.{Granule, granule_of, page_size, entries}
 use Rattle.path.specs.Areas.{area_of}
 use Rattle.path.specs.Numbers.{setup, GoodAdding}
 use Rattle.path.specs.declared.Setup.{Setup}
-use Rattle.model.specs.Answers.{added, Pool, pool, Done, done, refuse}
+use Rattle.model.specs.Answers.{added, Pool, pool, done, refuse}
 use Rattle.model.specs.Adds.{good_add, appended, add_tests, add_w}
-use Rattle.model.specs.AddLaws.{tests_refuse, tests_pass, may_add}
+use Rattle.model.proofs.AddLaws.{tests_refuse, tests_pass, may_add}
 
 module _ (s : Setup) (ws us list : List ℕ) (q m : ℕ) {no : ℕ} (e : no ≡ add_tests (granule_of s.granule) (pool s (ws ++ us) (length ws) list) q m) where
   abbrev G : Granule

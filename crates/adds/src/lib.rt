@@ -1,4 +1,6 @@
 // The adding call: a second region of tables for a pool that has one.
+#![tactic(auto)]
+
 ghost use Rattle.std.specs.Prelude.{◌≡◌, ◌++◌, ◌+◌, ◌≤◌, length};
 ghost use Rattle.path.specs.Geometry.{granule_of};
 ghost use Rattle.path.specs.Numbers.{most_tables};

@@ -11,7 +11,7 @@ use Rattle.model.specs.Ledger.{Ledger}
 use Rattle.demand.specs.Holds.{Holds}
 use Rattle.demand.specs.Demand3.{audit_c}
 use Rattle.hardware.specs.Machine.{Stands, told}
-use Rattle.hardware.specs.Theorem.{promise_of}
+use Rattle.hardware.proofs.Theorem.{promise_of}
 use Rattle.armwalk.specs.Runs.{memory_of, stage2_of}
 use Rattle.armwalk.specs.Laws.{within_yes, within_not, memory_first, memory_second}
 

@@ -1,5 +1,7 @@
 // The stage 2 walk of the Arm hardware over a pool's words, from the bit fields of the manual; memory outside the pool's regions reads as 0.
 // A granule is a number: 16384 is that of 16 KiB pages, and every other number is read as that of 4 KiB pages.
+#![tactic(auto)]
+
 ghost use Rattle.std.specs.Prelude.{◌≡◌, ◌+◌, ◌*◌, ◌/◌, ◌^◌, ◌≤◌, leb};
 ghost use Rattle.path.specs.Geometry.{granule_of, entries};
 ghost use Rattle.hardware.specs.Machine.{shift, index_bits, leaf, largest_block, step_by, walk};
@@ -12,7 +14,7 @@ const KIB16: u64 = 16384;
 const PHYSICAL: u64 = 0x1_0000_0000_0000;
 
 // What a word makes of a walk. A page or block gives an address, and its word says the rest.
-#[derive(Drop)]
+#[derive(Clone, Copy)]
 enum Step {
     Fault,
     Hit { address: u64, word: u64 },
@@ -20,7 +22,7 @@ enum Step {
 }
 
 // What an address is translated to.
-#[derive(Drop)]
+#[derive(Clone, Copy)]
 pub enum Seen {
     Fault,
     Hit { address: u64, word: u64 },

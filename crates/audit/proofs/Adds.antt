@@ -11,7 +11,7 @@ use Rattle.path.specs.declared.Setup.{Setup}
 use Rattle.model.specs.Answers.{Mapping, pool}
 use Rattle.model.specs.Audit.{Found, none_inside}
 use Rattle.model.specs.Adds.{good_add, sound_tree, add_tests}
-use Rattle.model.specs.AddLaws.{may_add}
+use Rattle.model.proofs.AddLaws.{may_add}
 use Rattle.audit.specs.Checks.{Rooted, tree_of}
 use Rattle.audit.proofs.Whole.{rooted}
 

@@ -9,7 +9,7 @@ use Rattle.path.specs.Areas.{Area, GoodArea, meets_region, meets_area}
 use Rattle.path.specs.Laws.{granule_sane, size_zero, page_pos, level_page, same_truth, meets_byte, byte_meets}
 use Rattle.path.specs.RegionLaws.{multiple_gap}
 use Rattle.entry.specs.Words.{base_in, attrs_in, frame_word, entry_at}
-use Rattle.entry.specs.Laws.{frame_word_ge, frame_at_own, frame_at_not, entry_zero, entry_frame as frame-reads}
+use Rattle.entry.proofs.Laws.{frame_word_ge, frame_at_own, frame_at_not, entry_zero, entry_frame as frame-reads}
 use Rattle.entry.specs.declared.Entry.TheVariants.{Frame, Damaged}
 use Rattle.model.specs.Sound.{word_at}
 use Rattle.audit.specs.Checks.{granule_in, area_in, kept_in, Answers, at_word, at_entry, is_page, PageFit}

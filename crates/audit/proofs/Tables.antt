@@ -10,7 +10,7 @@ use Rattle.path.specs.Geometry.{Granule, granule_of, entries, size_at, at_level}
 use Rattle.path.specs.Areas.{Area, meets_area}
 use Rattle.entry.specs.Words.{entry_at}
 use Rattle.path.specs.Laws.{granule_sane, granule_either, level_some, table_ends}
-use Rattle.entry.specs.Laws.{entry_zero, table_only}
+use Rattle.entry.proofs.Laws.{entry_zero, table_only}
 use Rattle.entry.specs.declared.Entry.{Entry}
 use Rattle.entry.specs.declared.Entry.TheVariants.{Empty, Table, Frame, Damaged}
 use Rattle.model.specs.Walk.{slot}

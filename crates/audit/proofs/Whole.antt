@@ -17,7 +17,7 @@ use Rattle.model.specs.Calls.{good_pool}
 use Rattle.model.specs.Audit.{Found, table_words, of_table, of_pool, free_of, free_sound, none_inside, sound_pool, audit_w}
 use Rattle.model.specs.Adds.{sound_tree}
 use Rattle.model.specs.Sound.{Each, reached_of, mappings_of}
-use Rattle.model.specs.AuditLaws.{each_append, reached_low, free_back}
+use Rattle.model.proofs.AuditLaws.{each_append, reached_low, free_back}
 use Rattle.audit.specs.Checks.{granule_in, area_in, kept_in, strictly, Seen, seen, Marked, clash, marks, mark, walked, Answers, at_table, tree_of, free_pass, RunsFit, TableFit, Rooted}
 use Rattle.audit.specs.declared.Look.{Look}
 use Rattle.audit.specs.declared.Tally.TheVariants.{Counts, Damaged}

@@ -1,4 +1,6 @@
 // The audit: the rules of a sound pool, tested from the root down and then along the free list. The adding call holds a tree to some of them.
+#![tactic(auto)]
+
 ghost use Rattle.std.specs.Prelude.{◌≡◌, ℕ, ◌+◌, ◌-◌, ◌*◌, ◌<◌, ◌≤◌, true, ◌&&◌, List, ◌++◌, length, take, slice_index, slice_set};
 ghost use Rattle.path.specs.Geometry.{granule_of, page_size, entries};
 ghost use Rattle.path.specs.Areas.{area_of, total, one_region, GoodArea, meets_region};
@@ -16,14 +18,14 @@ use path::Setup;
 const MARKS: usize = path::MOST_TABLES as usize;
 
 // What a check of a part of the tree found: tables and mappings, or a broken rule.
-#[derive(Drop)]
+#[derive(Clone, Copy)]
 enum Tally {
     Counts(u64, u64),
     Damaged,
 }
 
 // What a check goes by: the granule; the regions of the tree's tables; regions that no frame may share a byte with; and whether an empty table is as good as another.
-#[derive(Drop)]
+#[derive(Clone, Copy)]
 struct Look {
     granule: u64,
     base: u64,

@@ -7,13 +7,13 @@ use native.Mathlib.Decide.{ℕ_discrete, dec_lt}
 use native.Mathlib.Omega.{arith}
 use lib.Bits.{bit_or, or_add_and, and_le_l, and_le_r}
 use lib.Dec.{eqb}
-use lib.ListN.{length, get_or, set, take, drop, replicate, drop_of_length-le, length-set, length-drop}
+use lib.ListN.{length, get_or, set, take, drop, drop_of_length-le, length-drop}
 use lib.Seq.{set_out, get_or-set_same, get_or-set_other, take_all}
-use borrow.Author.Tests.{eq-eqb, eqb-true, eqb-false, not-true, not-false}
-use Rattle.laws.specs.Lists.{part, zeroed, all_zero}
-use Rattle.laws.specs.ListLaws.{get_d_part, part_first, part_later, zeroed_first, zeroed_later, length_part, length_part_le, zeroed_is, all_zero_of, all_zero_not, all_zero_part_at, all_zero_part_of, all_zero_part_not, all_zero_part_some}
+use borrow.Author.Tests.{eqb-true, eqb-false, not-true, not-false}
+use Rattle.laws.specs.Lists.{part, all_zero}
+use Rattle.laws.specs.ListLaws.{get_d_part, part_first, part_later, length_part_le, all_zero_of, all_zero_not, all_zero_part_at, all_zero_part_of, all_zero_part_not, all_zero_part_some}
 use Rattle.path.specs.Geometry.{granule_of, entries}
-use Rattle.path.specs.Laws.{granule_either, table_ends}
+use Rattle.path.specs.Laws.{granule_either}
 use Rattle.pool.proofs.Laws.{span, whole_table}
 
 -- ---- words or'ed

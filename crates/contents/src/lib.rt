@@ -1,4 +1,6 @@
 // The words of one table in the lent memory, and whether any is in use. The two runs are as in `pool`.
+#![tactic(auto)]
+
 ghost use Rattle.std.specs.Prelude.{◌≡◌, false, not, ◌++◌, ℕ, ◌+◌, ◌-◌, ◌*◌, ◌%◌, ◌≤◌, ◌<◌, eqb, length, get_or, set};
 ghost use Rattle.laws.specs.Lists.{part, all_zero};
 ghost use Rattle.path.specs.Geometry.{granule_of, entries};

@@ -1,40 +1,36 @@
 -- The adding call: over words and over the ledger it comes to the same.
-use Rattle.std.specs.Prelude.{◌≡◌, refl, Bool, true, false, ◌&&◌, ℕ, zero, suc, ◌+◌, ◌-◌, ◌*◌, ◌≤◌, ◌<◌, ltb, length, take, replicate}
+use Rattle.std.specs.Prelude.{◌≡◌, refl, Bool, true, false, ◌&&◌, ℕ, ◌+◌, ◌-◌, ◌*◌, ◌≤◌, ◌<◌, ltb, length, take, replicate}
 use Rattle.std.proofs.Math.Path.{ap}
-use Rattle.std.proofs.Common.{sym, ◌∙◌, subst, inl, inr, ⊎_elim, mul-add, arith, length-append, length-drop, length-take-le, take_all, lt-ltb, eq-eqb}
+use Rattle.std.proofs.Common.{sym, ◌∙◌, inl, ⊎_elim, mul-add, arith, length-append, length-take-le, take_all, lt-ltb, eq-eqb}
 use Rattle.std.proofs.Math.Bool.{cond}
-use Rattle.std.proofs.lemmas.Bool.{false≢true}
 use mathlib.Core.List.Memᴰ
-use mathlib.Core.List.{List, [], ◌∷◌, ◌++◌, map, Memᴰ}
-use Rattle.std.proofs.Math.Decide.{dec_lt}
+use mathlib.Core.List.{List, ◌++◌, Memᴰ}
 use Rattle.std.proofs.Math.ListN.{get_or, drop}
-use Rattle.std.proofs.lemmas.List.{length-replicate}
 use Rattle.std.proofs.Math.Seq.{get_or-take}
 use Rattle.laws.specs.Lists.{down}
-use Rattle.laws.specs.ListLaws.{length_down, get_d_down, get_d_first, get_d_later, part_first, all_zero_at, all_zero_replicate, take_first}
+use Rattle.laws.specs.ListLaws.{get_d_down, get_d_first, get_d_later, part_first, all_zero_at, all_zero_replicate, take_first}
 use Rattle.path.specs.Geometry.{Granule, page_size, entries, Sane}
-use Rattle.path.specs.Areas.{Area, area_of, one_region, with_second, total, Shares}
+use Rattle.path.specs.Areas.{Area, area_of, one_region, with_second, total}
 use Rattle.path.specs.Numbers.{good_adding, GoodNumbers, GoodAdding, GoodSetup}
-use Rattle.path.specs.Laws.{same_truth, good_adding_lem, table_stays}
-use Rattle.entry.specs.Laws.{table_word_stays}
+use Rattle.path.specs.Laws.{same_truth}
+use Rattle.entry.proofs.Laws.{table_word_stays}
 use Rattle.model.specs.Answers as answers
 use Rattle.model.specs.Answers.{Answer, added, refused, Pool, pool, Done, done, refuse}
 use Rattle.model.specs.Walk.{slot}
 use Rattle.model.specs.Audit.{Found, table_words, of_pool, none_inside, free_of}
 use Rattle.model.specs.Adds.{lent, good_add, sound_tree, appended, grown, add_w}
-use Rattle.model.specs.AddLaws as model
-use Rattle.model.specs.AddLaws.{wf_tree, may_add, found_same}
-use Rattle.model.specs.AuditLaws.{inside_back, inside_some}
-use Rattle.model.specs.Sound.{mappings_of, OffTables}
+use Rattle.model.proofs.AddLaws as model
+use Rattle.model.proofs.AddLaws.{wf_tree, may_add, found_same}
+use Rattle.model.proofs.AuditLaws.{inside_back, inside_some}
+use Rattle.model.specs.Sound.{mappings_of}
 use Rattle.model.specs.Ledger.{Ledger, ledger, free_tables, Entered, entered, add_l}
-use Rattle.tree.specs.Tree.{Ent, empty, frame, table, Geo}
-use Rattle.tree.specs.Inv.{Mapping}
-use Rattle.tree.specs.Widen.{Wider, Appended, widen}
+use Rattle.tree.specs.Tree.{Ent, empty, frame, table}
+use Rattle.tree.specs.Widen.{Wider, widen}
 use Rattle.demand.specs.Shown.{shown}
 use Rattle.demand.specs.Arm.{geo}
 use Rattle.demand.specs.Memories.{read_at, place_at, in_table, table_ends, tables_before}
-use Rattle.demand.specs.Sims.{SimIf, Sim, sim_wf, sim_live, sim_listed}
-use Rattle.demand.specs.Queries.{own, area, al}
+use Rattle.demand.specs.Sims.{Sim, sim_wf, sim_live, sim_listed}
+use Rattle.demand.specs.Queries.{own}
 use Rattle.demand.specs.Maps.{Alike, own_sim, free_is}
 use Rattle.demand.specs.Demand3.{go_back}
 

@@ -1,11 +1,11 @@
 -- The entry words are such as the tree's theory asks for: the geometry of a pool.
-use Rattle.std.specs.Prelude.{◌≡◌, refl, ◌≢◌, ℕ, zero, suc, ◌+◌, ◌-◌, ◌*◌, ◌/◌, ◌%◌, ◌^◌, ◌≤◌, ◌<◌}
+use Rattle.std.specs.Prelude.{◌≡◌, refl, ℕ, zero, ◌+◌, ◌%◌, ◌<◌}
 use Rattle.std.proofs.Common.{ap, sym, ◌∙◌, subst, arith}
-use Rattle.path.specs.Geometry.{Granule, page_size, entries, size_at, Sane}
+use Rattle.path.specs.Geometry.{Granule, entries, Sane}
 use Rattle.path.specs.Areas.{Area, total, GoodArea}
 use Rattle.path.specs.Laws.{entries_pos}
 use Rattle.entry.specs.Words.{frame_word, table_word, entry_at, Framed}
-use Rattle.entry.specs.Laws.{entry_zero, empty_only, table_only, frame_only, table_back, frame_back, framed_paged}
+use Rattle.entry.proofs.Laws.{entry_zero, empty_only, table_only, frame_only, table_back, frame_back, framed_paged}
 use Rattle.entry.specs.declared.Entry.{Entry}
 use Rattle.entry.specs.declared.Entry.TheVariants.{Empty, Table, Frame, Damaged}
 use Rattle.tree.specs.Tree.{Ent, empty, frame, table, Read, r_empty, r_frame, r_table, r_bad, read_of, Geo}

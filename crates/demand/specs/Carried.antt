@@ -1,34 +1,33 @@
 -- Carrying out the planned writes of map and of unmap is growing and pruning the tree as its theory has them.
-use Rattle.std.specs.Prelude.{◌≡◌, ◌≢◌, ◌⊎◌, Bool, true, false, cond, ◌&&◌, not, ltb, length}
+use Rattle.std.specs.Prelude.{◌≡◌, ◌≢◌, Bool, true, false, cond, length}
 use Rattle.std.proofs.Math.Path.{refl, ap, sym}
-use Rattle.std.proofs.Common.{◌∙◌, subst, inl, inr, mod-lt, length-set, get_or-set_same, get_or-set_other}
+use Rattle.std.proofs.Common.{◌∙◌, subst, mod-lt, length-set, get_or-set_same, get_or-set_other}
 use Rattle.std.proofs.Math.Logic.{⊎_elim, ite, if_pos, if_neg}
 use Rattle.std.proofs.lemmas.Bool.{false≢true}
 use mathlib.Core.List.Memᴰ
 use mathlib.Core.List.Memᴰ.{head as here}
 use mathlib.Core.List.Memᴰ.{tail as there}
-use mathlib.Core.List.{List, [], ◌∷◌, Memᴰ}
-use Prim.Native.Nat.{ℕ, zero, suc, ◌+◌, ◌-◌, ◌*◌, ◌/◌, ◌%◌, ◌≤◌, ◌<◌}
+use mathlib.Core.List.{List, ◌∷◌, Memᴰ}
+use Prim.Native.Nat.{ℕ, zero, suc, ◌+◌, ◌-◌, ◌*◌, ◌%◌, ◌≤◌, ◌<◌}
 use native.Mathlib.Omega.{arith}
 use Rattle.std.proofs.Math.Decide.{ℕ_discrete}
 use Rattle.std.proofs.Math.ListN.{get_or, set}
 use borrow.Author.Tests.{ltb-true, lt-ltb, not-true}
-use Rattle.laws.specs.Lists.{part, zeroed, all_zero, among}
-use Rattle.laws.specs.ListLaws.{length_zeroed, not_among, among_none, length_part, get_d_part, all_zero_at, all_zero_of}
-use Rattle.path.specs.Geometry.{Granule, page_size, entries, size_at, Sane}
+use Rattle.laws.specs.Lists.{part, zeroed, among}
+use Rattle.laws.specs.ListLaws.{not_among, among_none, length_part, get_d_part, all_zero_at, all_zero_of}
+use Rattle.path.specs.Geometry.{Granule, entries, Sane}
 use Rattle.path.specs.Laws.{entries_pos}
-use Rattle.path.specs.Paths.{path_of}
 use Rattle.entry.specs.Words.{frame_word, table_word}
 use Rattle.path.specs.Areas.{Area, total, GoodArea}
 use Rattle.model.specs.Walk.{slot, at_height}
-use Rattle.model.specs.Writes.{Write, store, wipe, give, Memory, memory, perform, perform_all, map_writes, may_take, only_entry, freed, prune_writes}
+use Rattle.model.specs.Writes.{Memory, memory, perform_all, map_writes, may_take, only_entry, freed, prune_writes}
 use Rattle.tree.specs.Region.{anc, upd, upd_at, upd_other}
-use Rattle.tree.specs.Tree.{Ent, empty, frame, table, Geo, Rendered}
+use Rattle.tree.specs.Tree.{Ent, table, Geo, Rendered}
 use Rattle.tree.specs.Inv.{Store}
 use Rattle.tree.specs.Ops.{grow, mem, Mem}
-use Rattle.tree.specs.Prune.{Bare, bare?, Pool, pool, prune}
-use Rattle.model.specs.LedgerLaws.{and-true}
-use Rattle.demand.specs.Shown.{pg, base_of, attrs_of}
+use Rattle.tree.specs.Prune.{Bare, bare?, pool, prune}
+use Rattle.model.proofs.LedgerLaws.{and-true}
+use Rattle.demand.specs.Shown.{base_of, attrs_of}
 use Rattle.demand.specs.Arm.{geo}
 use Rattle.demand.specs.Memories as memories
 use Rattle.demand.specs.Memories.{read_at, place_at, table_ends, in_table}

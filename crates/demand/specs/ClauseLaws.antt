@@ -7,7 +7,7 @@ use Rattle.path.specs.Laws.{granule_sane}
 use Rattle.model.specs.Answers.{Answer, Pool, pool, Done, done}
 use Rattle.model.specs.Calls.{format_n}
 use Rattle.model.specs.Adds.{add_w}
-use Rattle.model.specs.GranuleLaws.{named, format_named, format_unnamed}
+use Rattle.model.proofs.GranuleLaws.{named, format_named, format_unnamed}
 use Rattle.model.specs.Ledger.{ledger}
 use Rattle.demand.specs.Holds.{Holds}
 use Rattle.demand.specs.Demand3.{Ask, Call, format_c, add_c, ask_c, ask_w, go_on, go_back, step_w, step_l}

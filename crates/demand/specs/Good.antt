@@ -10,13 +10,14 @@ use Rattle.path.specs.Numbers.{no_setup, setup_of, good_numbers}
 use Rattle.path.specs.Laws.{setup_good}
 use Rattle.model.specs.Answers.{formatted, Pool, pool, Done, done, refuse}
 use Rattle.model.specs.Calls.{good_pool, format_w}
-use Rattle.model.specs.AuditLaws.{format_audit, audit_counts}
+use Rattle.model.proofs.AuditLaws.{format_audit, audit_counts}
 use Rattle.model.specs.Adds.{lent, add_w}
-use Rattle.model.specs.AddLaws.{AddView, add_grows, add_refuses, add_view, may_add, grown_good}
-use Rattle.model.specs.LeftLaws.{map_leaves, unmap_leaves, leaves_good}
-use Rattle.model.specs.RangeLeft.{map_range_leaves, unmap_range_leaves}
+use Rattle.model.proofs.AddLaws.{add_view, may_add, grown_good}
+use Rattle.model.specs.AddLaws.{AddView, add_grows, add_refuses}
+use Rattle.model.proofs.LeftLaws.{map_leaves, unmap_leaves, leaves_good}
+use Rattle.model.proofs.RangeLeft.{map_range_leaves, unmap_range_leaves}
 use Rattle.model.specs.Refusals.{Breaks}
-use Rattle.model.specs.RefusalLaws.{good_keeps, unbroken_good}
+use Rattle.model.proofs.RefusalLaws.{good_keeps, unbroken_good}
 use Rattle.demand.specs.Demand3.{Call, format_c, add_c, map_c, unmap_c, map_range_c, unmap_range_c, ask_c, go_on, go_back, step_w, pool_after}
 
 module _ (G : Granule) where

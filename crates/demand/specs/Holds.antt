@@ -1,7 +1,7 @@
 -- A pool that holds a ledger: the audit's rules are kept, the numbers are the ledger's, and the mappings found in the words are the ledger's, in whatever
 -- order. A pool whose words are a tree is `WfTree`.
 use Rattle.std.specs.Prelude.{◌≡◌, length}
-use mathlib.Core.List.{List, Memᴰ}
+use mathlib.Core.List.{Memᴰ}
 use Rattle.path.specs.Geometry.{Granule}
 use Rattle.path.specs.Areas.{area_of}
 use Rattle.path.specs.Numbers.{GoodSetup}

@@ -11,11 +11,11 @@ use Rattle.model.specs.Answers.{Mapping, Answer, refused, Pool}
 use Rattle.model.specs.Calls.{good_pool}
 use Rattle.model.specs.Audit.{of_pool}
 use Rattle.model.specs.Adds.{sound_tree}
-use Rattle.model.specs.AddLaws.{wf_tree}
+use Rattle.model.proofs.AddLaws.{wf_tree}
 use Rattle.model.specs.Sound.{mappings_of}
 use Rattle.model.specs.Ledger.{Ledger, sorted, list_l}
 use Rattle.model.specs.Listing.{from_on, listed_of, list_w, Pages, Climbing}
-use Rattle.model.specs.ListingLaws.{climbing_distinct, sorted_all, sorted_is, pool_climbs, pool_pages}
+use Rattle.model.proofs.ListingLaws.{climbing_distinct, sorted_all, sorted_is, pool_climbs, pool_pages}
 use Rattle.demand.specs.Holds.{Holds}
 use Rattle.demand.specs.Pages.{Paged}
 

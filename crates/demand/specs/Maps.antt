@@ -1,46 +1,44 @@
 -- Map on a pool whose words are a tree: where tables that may be taken are unused, the pool after it has the mappings and the new one. On a pool that
 -- holds a ledger the answer is the ledger's, and the pool after it holds the ledger after it.
-use Rattle.std.specs.Prelude.{◌≡◌, refl, ◌≢◌, ◌⊎◌, Bool, cond, ℕ, zero, suc, ◌+◌, ◌-◌, ◌*◌, ◌/◌, ◌%◌, ◌^◌, ◌≤◌, ◌<◌, min, max, leb, eqb, length, get_or}
+use Rattle.std.specs.Prelude.{◌≡◌, refl, Bool, cond, ℕ, suc, ◌+◌, ◌-◌, ◌*◌, ◌/◌, ◌%◌, ◌≤◌, ◌<◌, max, leb, eqb, length, get_or}
 use Rattle.std.proofs.Math.Path.{ap}
-use Rattle.std.proofs.Common.{sym, ◌∙◌, subst, subst₂, inl, inr, ⊎_elim, div-add-mod', arith}
+use Rattle.std.proofs.Common.{sym, ◌∙◌, subst, subst₂, ⊎_elim, div-add-mod', arith}
 use Rattle.std.proofs.Math.Bool.{true, false}
-use Rattle.std.proofs.lemmas.Bool.{false≢true}
 use mathlib.Core.List.Memᴰ
-use mathlib.Core.List.{List, [], ◌∷◌, map, Memᴰ}
+use mathlib.Core.List.{◌∷◌, map, Memᴰ}
 use Rattle.std.proofs.Math.Dec.{ltb}
-use borrow.Author.Tests.{ltb-true, ltb-false, leb-true, leb-false, eqb-true, eqb-false, lt-ltb, le-ltb}
-use Rattle.path.specs.Geometry.{Granule, page_size, entries, size_at, space_of, physical, height_of, Sane}
-use Rattle.path.specs.Areas.{Area, area_of, total, GoodArea, meets_area}
+use borrow.Author.Tests.{ltb-false, leb-false, eqb-true}
+use Rattle.path.specs.Geometry.{Granule, entries, size_at, space_of, physical, height_of, Sane}
+use Rattle.path.specs.Areas.{Area, area_of, total, meets_area}
 use Rattle.path.specs.Numbers.{with_free, GoodSetup}
-use Rattle.path.specs.Laws.{height_size, size_pos, meets_apart}
+use Rattle.path.specs.Laws.{height_size, meets_apart}
 use Rattle.path.specs.declared.Setup.{Setup}
 use Rattle.path.specs.Paths.{path_of}
 use Rattle.entry.specs.Words.{Framed, frame_word}
-use Rattle.entry.specs.Laws.{framed_paged}
+use Rattle.entry.proofs.Laws.{framed_paged}
 use Rattle.entry.specs.declared.Entry.{Entry}
 use Rattle.entry.specs.declared.Entry.TheVariants.{Empty, Table, Frame, Damaged}
 use Rattle.model.specs.Answers as answers
 use Rattle.model.specs.Answers.{Answer, took, refused, Pool, pool, Done, done, refuse}
 use Rattle.model.specs.declared.Walked.{Walked}
 use Rattle.model.specs.Walk.{at_height}
-use Rattle.model.specs.Writes.{Memory, memory, perform_all, map_writes, may_take}
-use Rattle.model.specs.Calls.{walk_to, written, map_tests, map_here, map_at, map_w}
+use Rattle.model.specs.Writes.{memory, perform_all, map_writes, may_take}
+use Rattle.model.specs.Calls.{walk_to, written, map_tests, map_here, map_at}
 use Rattle.model.specs.Sound.{OffTables}
-use Rattle.model.specs.Ledger.{Ledger, ledger, with_live, any_overlap, tables_lacking, tables_needed, free_tables, Entered, entered, map_l}
-use Rattle.tree.specs.Region.{anc, page, anc_page}
-use Rattle.tree.specs.Tree.{Ent, empty, frame, table, read_of, Geo}
+use Rattle.model.specs.Ledger.{Ledger, with_live, any_overlap, tables_lacking, tables_needed, free_tables, Entered, entered}
+use Rattle.tree.specs.Region.{anc, page}
+use Rattle.tree.specs.Tree.{empty, read_of}
 use Rattle.tree.specs.Inv.{Mapping, mapping, InvIf, whole, excuse}
 use Rattle.tree.specs.Ops.{grow, Mem, Taken, free_taken, MappedIf, ReadyIf, grow_ok}
 use Rattle.tree.specs.Ledger.{lack, lack_is, none_meets, frame_meets, table_meets}
-use Rattle.tree.specs.Needed.{needed, pool_count}
-use Rattle.laws.specs.Lists.{Distinct}
-use Rattle.demand.specs.Shown.{shown, pg, anc_size, page_of, Met, overlap_met, met_overlap, lacking_is, needed_count, base_of, attrs_of}
+use Rattle.tree.specs.Needed.{pool_count}
+use Rattle.demand.specs.Shown.{shown, pg, anc_size, page_of, overlap_met, met_overlap, lacking_is, needed_count, base_of, attrs_of}
 use Rattle.demand.specs.Arm.{read_entry, payload_base, payload_attrs}
 use Rattle.demand.specs.Memories.{read_at, place_at}
-use Rattle.demand.specs.Walks.{Ended, spot, way_at, never_bad, entry_table}
-use Rattle.demand.specs.Carried.{A, map_carried, Fresh, may_take_lem}
+use Rattle.demand.specs.Walks.{Ended, spot, never_bad, entry_table}
+use Rattle.demand.specs.Carried.{A, map_carried, may_take_lem}
 use Rattle.demand.specs.Sims.{SimIf}
-use Rattle.demand.specs.Queries.{area, n, k₀, al, X, R, own, pool_good, few, root_at, space_is, walk_ended, tables_above, entry_empty, entry_frame}
+use Rattle.demand.specs.Queries.{area, n, k₀, al, X, R, own, few, root_at, walk_ended, tables_above, entry_empty, entry_frame}
 
 -- what the tests of map's arguments say where none refuses
 pub record Fine (G : Granule) (levels : ℕ) (area : Area) (a b size k : ℕ) : Type 0 where

@@ -1,17 +1,16 @@
 -- The lent memory is a store of the tree's theory: table t's words from place `entries * t` on, and the free list.
-use Rattle.std.specs.Prelude.{◌≡◌, refl, ◌≢◌, ◌⊎◌, List, ℕ, zero, suc, ◌+◌, ◌-◌, ◌*◌, ◌/◌, ◌%◌, ◌≤◌, ◌<◌, length, get_or, set}
-use Rattle.std.proofs.Common.{ap, sym, ◌∙◌, subst, inl, inr, ⊎_elim, mul-le-mul_left, arith, length-set, get_or-set_same, get_or-set_other}
+use Rattle.std.specs.Prelude.{◌≡◌, refl, ◌≢◌, List, ℕ, ◌*◌, ◌≤◌, ◌<◌, length, get_or, set}
+use Rattle.std.proofs.Common.{sym, ◌∙◌, mul-le-mul_left, arith, length-set, get_or-set_same, get_or-set_other}
 use Rattle.std.proofs.Math.Decide.{ℕ_discrete}
 use Rattle.laws.specs.Lists.{zeroed}
 use Rattle.laws.specs.ListLaws.{length_zeroed}
-use Rattle.path.specs.Geometry.{Granule, page_size, entries, Sane}
+use Rattle.path.specs.Geometry.{Granule, entries, Sane}
 use Rattle.path.specs.Areas.{Area, total, GoodArea}
 pub use Rattle.path.specs.Laws.{table_ends, in_table}
 use Rattle.model.specs.Walk.{slot}
-pub use Rattle.model.specs.WordLaws.{one_place}
-use Rattle.model.specs.WordLaws.{word_stored, word_other, word_wiped, word_kept}
+pub use Rattle.model.proofs.WordLaws.{one_place}
+use Rattle.model.proofs.WordLaws.{word_stored, word_other, word_wiped, word_kept}
 use Rattle.tree.specs.Region.{Same, same?, upd, upd_at, upd_other, put1, put1_at, put1_other}
-use Rattle.tree.specs.Tree.{Geo}
 use Rattle.tree.specs.Inv.{Store}
 use Rattle.demand.specs.Arm.{geo}
 

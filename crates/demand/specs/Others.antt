@@ -1,37 +1,34 @@
 -- Format and audit: a fresh pool holds the empty ledger, and the audit's answer on a pool that holds a ledger is the ledger's.
-use Rattle.std.specs.Prelude.{◌≡◌, refl, Bool, true, false, cond, get_or, replicate}
+use Rattle.std.specs.Prelude.{◌≡◌, refl, get_or, replicate}
 use Rattle.std.proofs.Math.Path.{ap, sym}
 use Rattle.std.proofs.Common.{◌∙◌, subst, arith}
 use mathlib.Core.List.Memᴰ
-use mathlib.Core.List.{List, [], ◌∷◌, map, Memᴰ}
-use Prim.Native.Nat.{ℕ, zero, suc, ◌+◌, ◌-◌, ◌*◌, ◌%◌, ◌≤◌, ◌<◌}
+use mathlib.Core.List.{List, [], map}
+use Prim.Native.Nat.{ℕ, suc, ◌-◌, ◌<◌}
 use Rattle.std.proofs.Math.ListN.{length}
 use Rattle.std.proofs.lemmas.List.{length-replicate, length-map}
 use Rattle.laws.specs.Lists.{down}
 use Rattle.laws.specs.ListLaws.{length_down, get_d_down, all_zero_at, all_zero_replicate}
-use Rattle.path.specs.Geometry.{Granule, entries, Sane}
-use Rattle.path.specs.Areas.{Area, area_of, total, GoodArea}
-use Rattle.path.specs.Numbers.{setup_of, good_numbers, GoodNumbers, GoodSetup}
-use Rattle.path.specs.Laws.{good_numbers_lem, setup_good, good_setup_lem}
-use Rattle.model.specs.Answers as answers
-use Rattle.model.specs.Answers.{Answer, formatted, audited, refused, Pool, pool, done, refuse}
-use Rattle.model.specs.Calls.{good_pool, format_w}
+use Rattle.path.specs.Geometry.{Granule, Sane}
+use Rattle.path.specs.Areas.{Area, area_of, total}
+use Rattle.path.specs.Numbers.{setup_of, GoodNumbers, GoodSetup}
+use Rattle.path.specs.Laws.{good_setup_lem}
+use Rattle.model.specs.Answers.{audited, Pool, pool}
 use Rattle.model.specs.Audit.{audit_w}
 use Rattle.model.specs.Sound.{SoundPool, reached_of, mappings_of}
-use Rattle.model.specs.AuditLaws.{audit_sound, audit_counts}
-use Rattle.model.specs.Ledger.{Ledger, ledger, tables_needed, entered, format_l, audit_l}
+use Rattle.model.proofs.AuditLaws.{audit_sound, audit_counts}
+use Rattle.model.specs.Ledger.{Ledger, ledger, tables_needed, audit_l}
 use Rattle.tree.specs.Inv.{Mapping}
 use Rattle.tree.specs.Count.{Distinct, length_within, distinct_map}
 use Rattle.tree.specs.Visit.{seen}
-use Rattle.tree.specs.Reach.{tabs, maps, reached, tabs_count, maps_distinct, maps_live, live_maps}
+use Rattle.tree.specs.Reach.{maps, tabs_count, maps_distinct, maps_live, live_maps}
 use Rattle.tree.specs.Audit.{accepted}
 use Rattle.tree.specs.Fresh.{fresh}
 use Rattle.demand.specs.Shown.{shown, needed_count}
 use Rattle.demand.specs.Memories.{read_at, place_at}
 use Rattle.demand.specs.Holds.{Holds}
-use Rattle.demand.specs.Sims.{Sim, X, root_height, reached_is, mappings_are, sound_accepts, accepts_sound, sim_holds, shown_injective}
+use Rattle.demand.specs.Sims.{Sim, X, root_height, reached_is, mappings_are, sound_accepts, sim_holds, shown_injective}
 use Rattle.demand.specs.Queries.{own, k₀, root_at, pool_good}
-use Rattle.demand.specs.Maps.{Alike}
 
 zero_at : (k i : ℕ) → get_or {A = ℕ} (replicate k 0) i 0 ≡ 0
 zero_at k i = all_zero_at (replicate k 0) (all_zero_replicate k) i

@@ -1,40 +1,39 @@
 -- A pool whose words are a tree: the walk from its root, and query.
-use Rattle.std.specs.Prelude.{◌≡◌, refl, ◌≢◌, ◌⊎◌, Bool, true, false, cond, ℕ, zero, suc, ◌+◌, ◌-◌, ◌*◌, ◌/◌, ◌%◌, ◌≤◌, ◌<◌, ltb, leb, eqb, length}
-use Rattle.std.proofs.Common.{ap, sym, ◌∙◌, subst, inl, inr, ⊎_elim, arith, leb-true, leb-false}
+use Rattle.std.specs.Prelude.{◌≡◌, refl, Bool, true, false, cond, ℕ, suc, ◌+◌, ◌-◌, ◌*◌, ◌/◌, ◌≤◌, ◌<◌, leb}
+use Rattle.std.proofs.Common.{ap, sym, ◌∙◌, subst, inr, arith, leb-false}
 use mathlib.Core.List.Memᴰ
-use mathlib.Core.List.{List, [], ◌∷◌, map, Memᴰ}
+use mathlib.Core.List.{map, Memᴰ}
 use Rattle.std.proofs.Math.Option
-use Rattle.std.proofs.Math.Option.{Option, some, none}
+use Rattle.std.proofs.Math.Option.{none}
 use Rattle.std.proofs.Math.Nat.{div-eq_of_lt, mul-mod_left}
 use Rattle.std.proofs.Math.Decide.{ℕ_discrete}
-use Rattle.path.specs.Geometry.{Granule, page_size, entries, size_at, space_of, Sane}
+use Rattle.path.specs.Geometry.{Granule, entries, size_at, space_of, Sane}
 use Rattle.path.specs.Areas.{Area, area_of, total, GoodArea}
 use Rattle.path.specs.Laws.{setup_good, space_some, entries_pos}
 use Rattle.path.specs.RegionLaws.{region_base, aligned_base, base_within}
-use Rattle.path.specs.Paths.{base_at, path_of}
-use Rattle.entry.specs.Laws.{framed_paged}
-use Rattle.entry.specs.Words.{Framed}
+use Rattle.path.specs.Paths.{base_at}
+use Rattle.entry.proofs.Laws.{framed_paged}
 use Rattle.entry.specs.declared.Entry.{Entry}
 use Rattle.entry.specs.declared.Entry.TheVariants.{Empty, Table, Frame, Damaged}
 use Rattle.model.specs.Answers as answers
 use Rattle.model.specs.Answers.{Answer, found, refused, Pool}
 use Rattle.model.specs.declared.Walked.{Walked}
-use Rattle.model.specs.Walk.{no_way, walk_from}
+use Rattle.model.specs.Walk.{no_way}
 use Rattle.model.specs.Calls.{good_pool, walk_to, found_at, query_w}
 use Rattle.model.specs.Ledger.{Ledger, ledger, any_overlap, cover_of, hole_of, hole_at, query_of, query_l}
 use Rattle.model.specs.Sound.{Each}
 use Rattle.model.specs.Holes.{Touched, HoldsOne, IsHole, Shaped}
-use Rattle.model.specs.LedgerLaws.{any_overlap_lem}
-use Rattle.model.specs.HoleLaws.{here, around_here, around_one, hole_is, hole_only}
+use Rattle.model.proofs.LedgerLaws.{any_overlap_lem}
+use Rattle.model.proofs.HoleLaws.{here, around_here, around_one, hole_is, hole_only}
 use Rattle.tree.specs.Region.{anc, page, anc_page}
 use Rattle.tree.specs.Tree.{Ent, empty, frame, table, table≢empty, read_of, r_empty, r_frame, Geo, Rendered}
 use Rattle.tree.specs.Walk.{Rooted, rooted, chain, stop, Ends, halt}
-use Rattle.tree.specs.Inv.{Mapping, mapping}
-use Rattle.tree.specs.Ledger.{lookup, ended, none_meets, query_none, query_some, table_inside}
-use Rattle.demand.specs.Shown.{shown, pg, anc_size, cover_lookup, first_in, overlap_met, base_is, base_of, attrs_of}
+use Rattle.tree.specs.Inv.{Mapping}
+use Rattle.tree.specs.Ledger.{ended, none_meets, query_none, query_some, table_inside}
+use Rattle.demand.specs.Shown.{shown, pg, anc_size, cover_lookup, first_in, overlap_met, base_is}
 use Rattle.demand.specs.Arm.{read_entry, geo, payload_base, payload_attrs}
 use Rattle.demand.specs.Memories.{read_at}
-use Rattle.demand.specs.Walks.{stop_of, Ended, Way, no_way_lem, walk_ends, never_bad, entry_table}
+use Rattle.demand.specs.Walks.{Ended, Way, no_way_lem, walk_ends, never_bad, entry_table}
 use Rattle.demand.specs.Sims.{SimIf, root_height}
 
 -- an entry that reads as empty, and one that reads as a frame

@@ -27,9 +27,11 @@ use Rattle.model.specs.Calls.{map_tests}
 use Rattle.model.specs.Ledger.{Ledger, with_live, any_overlap, Region, region, regions_of, has_region, new_regions, regions_needed, tables_needed, tables_lacking, free_tables, Entered, entered, map_l}
 use Rattle.model.specs.Holes.{Shares}
 use Rattle.model.specs.Ranges.{map_range_tests, pieces, Probe, walk_for, piece_walk, piece_walks, is_taken, any_ends, lacked, ways, map_piece, left_by, map_range_here, map_range_at, map_range_w, gain, gain_of, map_range_l}
-use Rattle.model.specs.RangeLaws.{Tiles, over, piece, FineRange, range_fine, tiles, fits_tests, tiles_tests, tiles_inside, tiles_overlap, overlap_less, overlaps_none, none_overlaps, part_outside}
-use Rattle.model.specs.RangeMapped.{or_assoc, has_append, some_ends, none_ends, neither, MapRangeView, range_takes, range_refuses, map_range_view}
-use Rattle.model.specs.DescentLaws.{clash}
+use Rattle.model.proofs.RangeLaws.{range_fine, tiles, fits_tests, tiles_tests, tiles_inside, tiles_overlap, overlap_less, overlaps_none, none_overlaps, part_outside}
+use Rattle.model.specs.RangeLaws.{Tiles, over, piece, FineRange}
+use Rattle.model.proofs.RangeMapped.{or_assoc, has_append, some_ends, none_ends, neither, map_range_view}
+use Rattle.model.specs.RangeMapped.{MapRangeView, range_takes, range_refuses}
+use Rattle.model.proofs.DescentLaws.{clash}
 use Rattle.tree.specs.Region.{anc}
 use Rattle.tree.specs.Tree.{empty, table, table≢empty}
 use Rattle.tree.specs.Walk.{chain}
@@ -263,13 +265,13 @@ module _ (G : Granule) (Z : Sane G) where
   pieces_sim (m ∷ ms) I = pieces_sim ms (map_step G Z I m.at m.frame m.size m.attributes).sim
 
   -- pieces that overlap nothing, and whose tables are there: the ledger gains them one after the other
-  pieces_gain : (A : Ledger) {k a b left : ℕ} {ms : List answers.Mapping} → Tiles G k a b left ms → k < 16 → a + left ≤ space_of G A.levels
+  pieces_gain : {k : ℕ} (A : Ledger) {a b left : ℕ} {ms : List answers.Mapping} → Tiles G k a b left ms → k < 16 → a + left ≤ space_of G A.levels
       → b + left ≤ physical → (¬ areas.Shares G A.area b left) → any_overlap a left A.live ≡ false
       → tables_needed G A.levels (gain ms A.live) ≤ total A.area - 1
       → ledger_after G A (map map_of ms) ≡ with_live A (gain ms A.live)
   unfolding gain free_tables
   pieces_gain A over few l r out e c = refl
-  pieces_gain A {k} {a} {b} {left} (piece {h = h} {ms = ms} F most t) few l r out e c =
+  pieces_gain {k} A {a} {b} {left} (piece {h = h} {ms = ms} F most t) few l r out e c =
       ap (λ (x : Entered). ledger_after G x.after (map map_of ms)) enters
       ∙ pieces_gain (with_live A (m ∷ A.live)) t few (omega (arith, F.small)) (omega (arith, F.small)) (part_outside out (omega arith) (omega (arith, F.small))) rest c
     where

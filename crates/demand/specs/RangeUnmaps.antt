@@ -28,13 +28,15 @@ use Rattle.model.specs.declared.Walked.{Walked}
 use Rattle.model.specs.Writes.{freed, unmap_writes}
 use Rattle.model.specs.Calls.{good_pool, walk_to, written, found_at, query_w, unmap_tests, unmap_here, unmap_at, unmap_w}
 use Rattle.model.specs.Ledger.{Ledger, with_live, holds_address, cover_of, drop_at, free_tables, entered, query_of, query_l, unmap_of, unmap_l}
-use Rattle.model.specs.LedgerLaws.{true_and, true_or, cover_some, cover_none}
+use Rattle.model.proofs.LedgerLaws.{true_and, true_or, cover_some, cover_none}
 use Rattle.model.specs.Holes.{Within, Shares}
-use Rattle.model.specs.DescentLaws.{clash}
-use Rattle.model.specs.Unique.{found_same}
+use Rattle.model.proofs.DescentLaws.{clash}
+use Rattle.model.proofs.Unique.{found_same}
 use Rattle.model.specs.Ranges.{unmap_range_tests, pages_from, pages_of, Probe, page_walk, page_walks, inside, cut_at, any_cut_by, answers_of, left_by, sum_of, accepted_in, refuses_with, any_refused, unmap_range_here, unmap_range_at, unmap_range_w, any_cut, drop_in, clear_of, unmap_range_l}
-use Rattle.model.specs.RangeUnmapped.{unmap_tests_lem, UnmapRangeView, range_clears, range_stays, unmap_range_view}
-use Rattle.model.specs.RangeLaws.{page_next, pages_from_lem, pages_has, FineUnmap, unmap_fine, Clear, inside_so, cut_clear, cut_some, dropped_from, drop_absent, drop_none, drop_step, false_or}
+use Rattle.model.proofs.RangeUnmapLaws.{unmap_tests_lem, unmap_range_view}
+use Rattle.model.specs.RangeUnmapped.{UnmapRangeView, range_clears, range_stays}
+use Rattle.model.proofs.RangeLaws.{page_next, pages_from_lem, pages_has, unmap_fine, inside_so, cut_clear, cut_some, dropped_from, drop_absent, drop_none, drop_step, false_or}
+use Rattle.model.specs.RangeLaws.{FineUnmap, Clear}
 use Rattle.tree.specs.Region.{anc, page}
 use Rattle.tree.specs.Inv.{Mapping, mapping}
 use Rattle.tree.specs.Ledger.{ended, covers_at}

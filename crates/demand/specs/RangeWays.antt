@@ -20,7 +20,7 @@ use Rattle.model.specs.Writes.{may_take}
 use Rattle.model.specs.Calls.{walk_to}
 use Rattle.model.specs.Ledger.{Ledger, Region, region}
 use Rattle.model.specs.Ranges.{Probe, is_damaged, any_ends, Standing, standing, on_way, on_ways, agree, agrees, one_region_each, spoiled, ways}
-use Rattle.model.specs.RangeLaws.{false_or}
+use Rattle.model.proofs.RangeLaws.{false_or}
 use Rattle.tree.specs.Region.{anc}
 use Rattle.tree.specs.Tree.{table}
 use Rattle.tree.specs.Needed.{reg}

@@ -1,12 +1,11 @@
 -- What holds of a pool at rest, in the words of demand 3.
-use Rattle.std.specs.Prelude.{◌≡◌, refl, ◌≢◌, ◌⊎◌, ◌↔◌, ℕ, zero, suc, ◌+◌, ◌-◌, ◌*◌, ◌/◌, ◌%◌, ◌≤◌, ◌<◌, length}
+use Rattle.std.specs.Prelude.{◌≡◌, ◌≢◌, ℕ, ◌*◌, ◌≤◌, ◌<◌, length}
 use Rattle.std.proofs.Common.{ap, sym, ◌∙◌, subst, inl, inr, ⊎_elim, mul-div_cancel, arith, length-append, length-take-le}
 use mathlib.Core.List.Memᴰ
-use mathlib.Core.List.Memᴰ.{head as here}
 use mathlib.Core.List.Memᴰ.{tail as there}
-use mathlib.Core.List.{List, [], ◌∷◌, ◌++◌, map, Memᴰ}
-use Rattle.std.proofs.Math.Decide.{dec_lt, ℕ_discrete}
-use Rattle.path.specs.Areas.{Area, area_of, total, GoodArea}
+use mathlib.Core.List.{List, ◌∷◌, ◌++◌, Memᴰ}
+use Rattle.std.proofs.Math.Decide.{ℕ_discrete}
+use Rattle.path.specs.Areas.{area_of, total}
 use Rattle.path.specs.Geometry.{Granule, entries, size_at, space_of, Sane}
 use Rattle.path.specs.Laws.{size_pos, size_injective}
 use Rattle.entry.specs.declared.Entry.{Entry}
@@ -16,16 +15,16 @@ use Rattle.model.specs.declared.Walked.{Walked}
 use Rattle.model.specs.Calls.{walk_to, unmap_w}
 use Rattle.model.specs.Audit.{free_of}
 use Rattle.model.specs.Sound.{reached_of}
-use Rattle.model.specs.AuditLaws.{pool_reached_low}
-use Rattle.model.specs.Ledger.{Ledger, Region, region, regions_needed, unmap_l}
-use Rattle.model.specs.HoleLaws.{query_hole, unmap_hole}
-use Rattle.tree.specs.Region.{anc, page}
+use Rattle.model.proofs.AuditLaws.{pool_reached_low}
+use Rattle.model.specs.Ledger.{Ledger, Region, region, unmap_l}
+use Rattle.model.proofs.HoleLaws.{query_hole, unmap_hole}
+use Rattle.tree.specs.Region.{anc}
 use Rattle.tree.specs.Tree.{Ent, table, table≢empty, read_of, r_table}
 use Rattle.tree.specs.Walk.{chain, nonzero}
-use Rattle.tree.specs.Needed.{Reg, reg, needed, needed_from, needed_tables, is_table_lem}
+use Rattle.tree.specs.Needed.{Reg, needed, needed_from, needed_tables, is_table_lem}
 use Rattle.tree.specs.Count.{Distinct, distinct_append, has_all}
-use Rattle.tree.specs.Reach.{tabs, reached, tabs_needed, needed_tabs}
-use Rattle.demand.specs.Shown.{shown_region, needed_shown, pg, anc_size, page_of, within_from, first_in}
+use Rattle.tree.specs.Reach.{tabs, tabs_needed, needed_tabs}
+use Rattle.demand.specs.Shown.{shown_region, needed_shown, pg, anc_size, within_from}
 use Rattle.demand.specs.Arm.{read_entry}
 use Rattle.demand.specs.Walks.{Ended}
 use Rattle.demand.specs.Holds.{Holds}

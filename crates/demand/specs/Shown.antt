@@ -1,8 +1,8 @@
 -- The tree's theory numbers regions by height; the ledger speaks of addresses and sizes. The bridge between the two.
-use Rattle.std.specs.Prelude.{◌≡◌, ◌≢◌, ◌⊎◌, Bool, ◌&&◌, ◌||◌, ltb, leb, length}
+use Rattle.std.specs.Prelude.{◌≡◌, ◌⊎◌, Bool, ◌&&◌, ltb, length}
 use Rattle.std.proofs.Math.Path.{refl, ap, sym}
-use Rattle.std.proofs.Common.{◌∙◌, subst, div-mul-le_self, mul-le-mul_right, add-mul, mul_comm, mul_assoc, lt_of_mul-lt-mul_right, arith, length-append}
-use Rattle.std.proofs.Math.Logic.{inl, inr, ⊎_elim, ite, if_pos, if_neg}
+use Rattle.std.proofs.Common.{◌∙◌, subst, div-mul-le_self, mul-le-mul_right, add-mul, mul_comm, mul_assoc, lt_of_mul-lt-mul_right, arith}
+use Rattle.std.proofs.Math.Logic.{inl, inr, ⊎_elim, ite, if_neg}
 use Rattle.std.proofs.Math.Bool.{true, false, cond}
 use Rattle.std.proofs.lemmas.Bool.{false≢true}
 use mathlib.Core.List.Memᴰ
@@ -10,22 +10,22 @@ use mathlib.Core.List.Memᴰ.{head as here}
 use mathlib.Core.List.Memᴰ.{tail as there}
 use mathlib.Core.List.{List, [], ◌∷◌, ◌++◌, map, Memᴰ}
 use Rattle.std.proofs.Math.Option
-use Rattle.std.proofs.Math.Option.{Option, some, none}
+use Rattle.std.proofs.Math.Option.{some}
 use Prim.Native.Nat.{ℕ, zero, suc, ◌+◌, ◌-◌, ◌*◌, ◌/◌, ◌%◌, ◌^◌, ◌≤◌, ◌<◌, max}
 use Rattle.std.proofs.Math.Nat.{div-eq_of_lt-le, lt-div-mul-add, mul-div_cancel, div-add-mod'}
 use Rattle.std.proofs.Math.Decide.{ℕ_discrete, dec_lt, dec_le}
 use Rattle.std.proofs.Math.Dec.{eqb}
 use Rattle.std.proofs.lemmas.List.{length-map}
-use borrow.Author.Tests.{ltb-true, leb-true, eqb-true, lt-ltb, le-ltb, le-leb, lt-leb, eq-eqb, ne_eqb}
+use borrow.Author.Tests.{ltb-true, leb-true, eqb-true, lt-ltb, le-leb, eq-eqb}
 use Rattle.path.specs.Geometry.{Granule, page_size, entries, size_at, Sane}
 use Rattle.path.specs.Paths.{base_at}
 use Rattle.path.specs.Laws.{page_pos, entries_pos, size_pos, size_le, size_rises, size_injective, size_add}
 use Rattle.model.specs.Answers as answers
-use Rattle.model.specs.LedgerLaws.{and-true, true_and, or-true, true_or}
-use Rattle.model.specs.Ledger.{overlaps, any_overlap, holds_address, cover_of, drop_at, Region, region, regions_of, has_region, new_regions, regions_needed, tables_needed, tables_lacking}
+use Rattle.model.proofs.LedgerLaws.{and-true, true_and, or-true, true_or}
+use Rattle.model.specs.Ledger.{overlaps, any_overlap, holds_address, cover_of, drop_at, Region, region, regions_of, has_region, new_regions, regions_needed}
 use Rattle.tree.specs.Region.{anc, Same, same?, page, anc_page, anc_address, page_address}
-use Rattle.tree.specs.Inv.{Mapping, mapping, without, drop_if}
-use Rattle.tree.specs.Ledger.{Covers, Meets, Inside, Needs, needs?, lookup, lack}
+use Rattle.tree.specs.Inv.{Mapping, without, drop_if}
+use Rattle.tree.specs.Ledger.{Covers, Meets, Needs, needs?, lookup, lack}
 use Rattle.tree.specs.Needed.{Reg, reg, spine, needed, add_all, add_if, member?, add_all_has, add_all_from, needed_has, needed_from, spine_from}
 use Rattle.laws.specs.Lists.{Distinct}
 

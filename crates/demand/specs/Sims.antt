@@ -1,15 +1,15 @@
 -- A pool that holds a ledger is one of the tree's theory, and the other way round; and the same of a pool whose words are a tree, with no more known.
-use Rattle.std.specs.Prelude.{◌≡◌, refl, ◌≢◌, ◌⊎◌, length, get_or, take}
-use Rattle.std.proofs.Common.{ap, sym, ◌∙◌, subst, inl, inr, ⊎_elim, mul-div_cancel, arith, length-take-le, get_or-take}
+use Rattle.std.specs.Prelude.{◌≡◌, refl, ◌≢◌, length, get_or, take}
+use Rattle.std.proofs.Common.{ap, sym, ◌∙◌, subst, ⊎_elim, mul-div_cancel, arith, length-take-le, get_or-take}
 use mathlib.Core.List.Memᴰ
 use mathlib.Core.List.Memᴰ.{head as here}
 use mathlib.Core.List.Memᴰ.{tail as there}
 use mathlib.Core.List.{List, [], ◌∷◌, map, Memᴰ}
-use Prim.Native.Nat.{ℕ, zero, suc, ◌+◌, ◌-◌, ◌*◌, ◌/◌, ◌%◌, ◌≤◌, ◌<◌}
+use Prim.Native.Nat.{ℕ, zero, suc, ◌+◌, ◌-◌, ◌*◌, ◌/◌, ◌≤◌, ◌<◌}
 use Rattle.laws.specs.ListLaws.{mem_at, at_mem}
-use Rattle.path.specs.Geometry.{Granule, page_size, entries, size_at, Sane}
-use Rattle.path.specs.Areas.{Area, area_of, total, GoodArea}
-use Rattle.path.specs.Numbers.{GoodNumbers, GoodSetup}
+use Rattle.path.specs.Geometry.{Granule, entries, size_at, Sane}
+use Rattle.path.specs.Areas.{Area, area_of, total}
+use Rattle.path.specs.Numbers.{GoodSetup}
 use Rattle.path.specs.Laws.{size_pos, size_injective}
 use Rattle.entry.specs.Words.{entry_at}
 use Rattle.entry.specs.declared.Entry.{Entry}
@@ -18,16 +18,15 @@ use Rattle.model.specs.Answers as answers
 use Rattle.model.specs.Answers.{Pool}
 use Rattle.model.specs.Sound as sound
 use Rattle.model.specs.Sound.{SoundPool, SoundEntry, SoundTable, word_at, reached_of, mappings_of, OffTables}
-use Rattle.model.specs.Audit.{of_pool, of_table, free_of}
+use Rattle.model.specs.Audit.{of_table, free_of}
 use Rattle.model.specs.Ledger.{Ledger}
 use Rattle.tree.specs.Tree.{Ent, Geo}
-use Rattle.tree.specs.Inv.{Mapping, mapping, InvIf, Inv}
-use Rattle.tree.specs.Inv as inv
+use Rattle.tree.specs.Inv.{Mapping, mapping, InvIf}
 use Rattle.tree.specs.Count.{Distinct, distinct_map}
 use Rattle.tree.specs.Visit.{seen}
-use Rattle.tree.specs.Reach.{tabs, maps, reached, maps_distinct, maps_live, live_maps}
+use Rattle.tree.specs.Reach.{maps, reached, maps_distinct, maps_live, live_maps}
 use Rattle.tree.specs.Audit.{SoundE, SoundT, Accepts, IsTree, treeᵃ, treeᵃ-holds, kid, is_tree, tree_alive, accepted, accepts}
-use Rattle.demand.specs.Shown.{shown, base_of, attrs_of}
+use Rattle.demand.specs.Shown.{shown}
 use Rattle.demand.specs.Arm.{read_entry, geo}
 use Rattle.demand.specs.Memories.{read_at, place_at}
 use Rattle.demand.specs.Visits.{table_reached, table_mappings}

@@ -1,21 +1,21 @@
 -- The customer's story: a map that lacked tables is accepted after an add, if its frame is not in the new region and the tables now suffice.
-use Rattle.std.specs.Prelude.{◌≡◌, ◌≢◌, Bool, true, false, cond, List, ◌∷◌, ltb, leb, eqb, length}
+use Rattle.std.specs.Prelude.{◌≡◌, Bool, true, false, cond, List, ◌∷◌, ltb, leb, eqb, length}
 use Rattle.std.proofs.Math.Path.{refl, ap}
-use Rattle.std.proofs.Common.{sym, ◌∙◌, subst, inl, inr, ⊎_elim, arith}
-use Prim.Native.Nat.{ℕ, suc, ◌+◌, ◌-◌, ◌*◌, ◌%◌, ◌≤◌, ◌<◌}
+use Rattle.std.proofs.Common.{sym, ◌∙◌, subst, inl, ⊎_elim, arith}
+use Prim.Native.Nat.{ℕ, suc, ◌+◌, ◌*◌, ◌%◌, ◌≤◌}
 use borrow.Author.Tests.{eqb-true, le-ltb}
 use Rattle.path.specs.Geometry.{Granule, Sane, entries, space_of, physical, height_of}
-use Rattle.path.specs.Areas.{Area, area_of, one_region, with_second, total, Shares, meets_area}
+use Rattle.path.specs.Areas.{Area, one_region, with_second, total, Shares, meets_area}
 use Rattle.path.specs.Numbers.{good_adding}
 use Rattle.path.specs.Laws.{good_adding_lem, apart_meets}
-use Rattle.model.specs.Answers.{Answer, added, took, refused, Mapping, mapping, Pool}
+use Rattle.model.specs.Answers.{added, took, refused, mapping, Pool}
 use Rattle.model.specs.Calls.{map_tests, map_w}
 use Rattle.model.specs.Audit.{none_inside}
 use Rattle.model.specs.Ledger.{Ledger, ledger, with_live, any_overlap, tables_needed, tables_lacking, free_tables, Entered, entered, add_l, map_l}
 use Rattle.demand.specs.Holds.{Holds}
 use Rattle.demand.specs.Sims.{Sim, holds_sim}
-use Rattle.demand.specs.Queries.{own, ledger_is}
-use Rattle.demand.specs.Maps.{ledger_map, tests_fine, count_is}
+use Rattle.demand.specs.Queries.{ledger_is}
+use Rattle.demand.specs.Maps.{tests_fine, count_is}
 use Rattle.demand.specs.Demand3.{add_c, map_c, step_w, step_l}
 use Rattle.demand.specs.Theorem.{map_other, step_holds}
 

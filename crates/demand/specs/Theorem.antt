@@ -1,31 +1,31 @@
 -- Demand 3 is met, from any pool that holds a ledger, by any sequence of calls; and so from a fresh format, and from a pool that the audit accepts.
-use Rattle.std.specs.Prelude.{◌≡◌, ◌⊎◌, ℕ, zero, suc, ◌+◌, ◌-◌, ◌*◌, ◌%◌, ◌≤◌, ◌<◌, ltb, leb, eqb, take, replicate}
+use Rattle.std.specs.Prelude.{◌≡◌, ℕ, ◌+◌, ◌-◌, ◌*◌, ◌%◌, ltb, leb, eqb, take, replicate}
 use Rattle.std.proofs.Math.Path.{refl}
-use Rattle.std.proofs.Common.{ap, sym, ◌∙◌, subst, inl, inr, ⊎_elim, leb-true, leb-false, eqb-true}
+use Rattle.std.proofs.Common.{ap, sym, ◌∙◌, subst, ⊎_elim}
 use Rattle.std.proofs.Math.Logic.{◌≢◌}
 use Rattle.std.proofs.Math.Bool.{Bool, true, false, cond}
 use mathlib.Core.List.Memᴰ
-use mathlib.Core.List.{List, [], ◌∷◌, map, Memᴰ}
+use mathlib.Core.List.{List, [], ◌∷◌, Memᴰ}
 use Rattle.std.proofs.Math.Option.{Option, some, none}
 use native.Mathlib.Omega.{arith}
 use Rattle.std.proofs.Math.ListN.{length}
 use Rattle.laws.specs.Lists.{down}
-use Rattle.path.specs.Geometry.{Granule, granule_of, entries, page_size, size_at, space_of, physical, height_of, Sane}
+use Rattle.path.specs.Geometry.{Granule, granule_of, entries, page_size, space_of, physical, height_of, Sane}
 use Rattle.path.specs.Laws.{granule_sane, good_numbers_lem}
-use Rattle.path.specs.Areas.{Area, area_of, one_region, with_second, total, GoodArea, meets_area}
-use Rattle.path.specs.Numbers.{no_setup, setup_of, good_numbers, good_adding, GoodNumbers}
-use Rattle.model.specs.Answers.{Answer, formatted, added, took, gave, cleared, found, audited, refused, Mapping, mapping, Pool, pool, Done, done, refuse}
-use Rattle.model.specs.Calls.{walk_to, format_w, format_n, query_w, map_tests, map_at, map_w, unmap_tests, unmap_at, unmap_w}
+use Rattle.path.specs.Areas.{Area, area_of, one_region, with_second, total, meets_area}
+use Rattle.path.specs.Numbers.{no_setup, setup_of, good_numbers, good_adding}
+use Rattle.model.specs.Answers.{Answer, formatted, added, took, gave, cleared, audited, refused, Mapping, mapping, Pool, pool, Done, done, refuse}
+use Rattle.model.specs.Calls.{format_w, format_n, map_tests, unmap_tests}
 use Rattle.model.specs.Audit.{audit_w, none_inside}
-use Rattle.model.specs.GranuleLaws.{format_accepted}
+use Rattle.model.proofs.GranuleLaws.{format_accepted}
 use Rattle.model.specs.Sound.{mappings_of}
 use Rattle.model.specs.Ledger.{Ledger, ledger, with_live, any_overlap, cover_of, drop_at, tables_needed, free_tables, tables_lacking, Entered, entered, format_l, add_l, query_of, query_l, map_l, unmap_of, unmap_l, audit_l, sorted, list_l}
 use Rattle.model.specs.Listing.{from_on, listed_of}
-use Rattle.model.specs.ListingLaws.{lists_not}
+use Rattle.model.proofs.ListingLaws.{lists_not}
 use Rattle.model.specs.Ranges.{good_length, map_range_tests, unmap_range_tests, pieces, gain, gain_of, map_range_l, any_cut, drop_in, clear_of, unmap_range_l}
 use Rattle.demand.specs.Holds.{ledger_of, Holds}
 use Rattle.demand.specs.Sims.{Sim, holds_sim, sim_holds}
-use Rattle.demand.specs.Queries.{own, ledger_is, pool_good, query_own}
+use Rattle.demand.specs.Queries.{own, ledger_is, query_own}
 use Rattle.demand.specs.Maps.{Alike, ledger_map, own_sim}
 use Rattle.demand.specs.Steps.{map_step, unmap_step}
 use Rattle.demand.specs.RangeMaps.{map_range_step}

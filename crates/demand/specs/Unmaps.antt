@@ -1,43 +1,39 @@
 -- Unmap on a pool whose words are a tree: the pool after it has the mappings without the one at the address. On a pool that holds a ledger the answer
 -- is the ledger's, and the pool after it holds the ledger after it.
-use Rattle.std.specs.Prelude.{◌≡◌, refl, ◌≢◌, ◌⊎◌, Bool, true, false, cond, ℕ, zero, suc, ◌+◌, ◌-◌, ◌*◌, ◌/◌, ◌%◌, ◌≤◌, ◌<◌, ltb, leb, eqb, length, get_or, set}
+use Rattle.std.specs.Prelude.{◌≡◌, refl, ◌≢◌, Bool, true, false, cond, ℕ, suc, ◌+◌, ◌-◌, ◌*◌, ◌/◌, ◌%◌, ◌≤◌, ◌<◌, eqb, length, get_or, set}
 use Rattle.std.proofs.Math.Path.{ap}
-use Rattle.std.proofs.Common.{sym, ◌∙◌, subst, subst₂, inl, inr, ⊎_elim, div-add-mod', mod-lt, mul-div_cancel, arith, length-set, ltb-true, ltb-false, leb-true, leb-false, eqb-true, lt-ltb, le-ltb, eq-eqb, ne_eqb}
-use Rattle.std.proofs.lemmas.Bool.{false≢true, eqb-false}
+use Rattle.std.proofs.Common.{sym, ◌∙◌, subst, div-add-mod', mod-lt, mul-div_cancel, arith, length-set, eqb-true, le-ltb, eq-eqb, ne_eqb}
+use Rattle.std.proofs.lemmas.Bool.{eqb-false}
 use mathlib.Core.List.{List, [], ◌∷◌, map, Memᴰ}
 use Rattle.std.proofs.Math.Option
-use Rattle.std.proofs.Math.Option.{Option, some, none}
-use Rattle.std.proofs.Math.Decide.{dec_lt}
+use Rattle.std.proofs.Math.Option.{some}
 use Rattle.path.specs.Numbers.{with_free}
-use Rattle.path.specs.Areas.{Area, area_of, total, GoodArea}
-use Rattle.path.specs.Geometry.{Granule, page_size, entries, size_at, space_of, Sane}
+use Rattle.path.specs.Geometry.{Granule, entries, size_at, space_of, Sane}
 use Rattle.path.specs.Numbers.{with_free}
 use Rattle.path.specs.Laws.{size_pos, entries_pos}
 use Rattle.path.specs.Paths.{path_of}
-use Rattle.entry.specs.Laws.{framed_paged}
+use Rattle.entry.proofs.Laws.{framed_paged}
 use Rattle.entry.specs.declared.Entry.{Entry}
 use Rattle.entry.specs.declared.Entry.TheVariants.{Empty, Table, Frame, Damaged}
-use Rattle.model.specs.Answers as answers
-use Rattle.model.specs.Answers.{Answer, gave, refused, Pool, pool, Done, done, refuse}
+use Rattle.model.specs.Answers.{gave, Pool, pool, refuse}
 use Rattle.model.specs.declared.Walked.{Walked}
 use Rattle.model.specs.Walk.{slot, at_height}
 use Rattle.model.specs.Writes.{Memory, memory, perform_all, freed, prune_writes, unmap_writes}
-use Rattle.model.specs.Calls.{walk_to, written, unmap_tests, unmap_here, unmap_at, unmap_w}
-use Rattle.model.specs.Ledger.{Ledger, ledger, with_live, cover_of, drop_at, free_tables, hole_at, Entered, entered, unmap_of, unmap_l}
-use Rattle.tree.specs.Region.{anc, page, Same, same?, upd, upd_other}
-use Rattle.tree.specs.Tree.{Ent, empty, frame, table, table≢empty, table≢frame, empty≢frame, read_of, Geo, Rendered}
-use Rattle.tree.specs.Walk.{chain, Ends, unmet}
+use Rattle.model.specs.Calls.{walk_to, written, unmap_here, unmap_at}
+use Rattle.model.specs.Ledger.{Ledger, with_live, cover_of, drop_at, free_tables, hole_at, Entered, unmap_of}
+use Rattle.tree.specs.Region.{anc, Same, same?, upd, upd_other}
+use Rattle.tree.specs.Tree.{empty, frame, read_of}
+use Rattle.tree.specs.Walk.{unmet}
 use Rattle.tree.specs.Inv.{Mapping, mapping, drop_if, without, without_gives, clear, reword}
 use Rattle.tree.specs.Prune as prunes
 use Rattle.tree.specs.Prune.{LooseIf, PrunedIf, prune, prune_ok}
-use Rattle.tree.specs.Ledger.{lookup, ended, covers_at, query_none, query_some}
-use Rattle.tree.specs.Needed.{needed, pool_count}
+use Rattle.tree.specs.Ledger.{ended, covers_at, query_none, query_some}
 use Rattle.tree.specs.Count.{Distinct, free_room}
-use Rattle.demand.specs.Shown.{shown, pg, anc_size, cover_lookup, drop_without, needed_count, base_of, attrs_of}
+use Rattle.demand.specs.Shown.{shown, pg, anc_size, cover_lookup, drop_without}
 use Rattle.demand.specs.Arm.{read_entry, payload_base, payload_attrs}
-use Rattle.demand.specs.Memories.{read_at, place_at, rd_wr}
+use Rattle.demand.specs.Memories.{rd_wr}
 use Rattle.demand.specs.Walks.{Ended, spot, way_at, never_bad, entry_table}
-use Rattle.demand.specs.Carried.{A, Cleared, clear_first, prune_carried}
+use Rattle.demand.specs.Carried.{A, clear_first, prune_carried}
 use Rattle.demand.specs.Sims.{SimIf}
 use Rattle.demand.specs.Queries.{area, n, k₀, al, X, R, own, few, root_at, walk_ended, tables_above, hole_own, entry_empty, entry_frame}
 use Rattle.demand.specs.Maps.{AlikeIf, own_sim, free_is, regood}

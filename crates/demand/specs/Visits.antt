@@ -1,30 +1,28 @@
 -- What the audit finds, table by table, is what the theory's traversal of the words lists.
 use Rattle.std.specs.Prelude.{◌≡◌, refl, Bool, false, get_or, take}
 use Rattle.std.proofs.Math.Path.{ap, sym}
-use Rattle.std.proofs.Common.{◌∙◌, subst, add-mul, mul_assoc, mul_comm, le_refl, arith, take-suc, take_all, length-take-le}
+use Rattle.std.proofs.Common.{◌∙◌, add-mul, mul_assoc, arith, take-suc, take_all, length-take-le}
 use Rattle.std.proofs.Math.Bool.{true}
 use mathlib.Core.List.{List, [], ◌∷◌, ◌++◌, map, append_assoc, append-nil}
 use Rattle.std.proofs.Math.Option.{Option, some, none}
-use Prim.Native.Nat.{ℕ, zero, suc, ◌+◌, ◌-◌, ◌*◌, ◌/◌, ◌%◌, ◌≤◌, ◌<◌}
+use Prim.Native.Nat.{ℕ, zero, suc, ◌+◌, ◌*◌, ◌≤◌, ◌<◌}
 use Rattle.std.proofs.Math.Nat.{suc-mul}
 use Rattle.std.proofs.Math.ListN.{length}
-use Rattle.laws.specs.Lists.{part}
 use Rattle.laws.specs.ListLaws.{length_part, get_d_part}
-use Rattle.path.specs.Geometry.{Granule, page_size, entries, size_at, Sane}
+use Rattle.path.specs.Geometry.{Granule, entries, size_at, Sane}
 use Rattle.path.specs.Laws.{size_suc}
-use Rattle.entry.specs.Words.{entry_at, Framed}
-use Rattle.entry.specs.Laws.{frame_only, table_only, framed_paged}
+use Rattle.entry.specs.Words.{entry_at}
+use Rattle.entry.proofs.Laws.{frame_only, table_only, framed_paged}
 use Rattle.entry.specs.declared.Entry.{Entry}
 use Rattle.entry.specs.declared.Entry.TheVariants.{Empty, Table, Frame, Damaged}
 use Rattle.path.specs.Areas.{Area, total, GoodArea}
 use Rattle.model.specs.Answers as answers
 use Rattle.model.specs.Walk.{slot}
-use Rattle.model.specs.Audit.{Found, nothing, ◌⊕◌, table_words, of_entry, of_entries, of_visit, of_table}
-use Rattle.tree.specs.Tree.{Read, r_empty, r_frame, r_table, r_bad, Geo}
-use Rattle.tree.specs.Inv.{Mapping, mapping}
-use Rattle.tree.specs.Visit.{Item, item, entry, gather, visit}
-use Rattle.tree.specs.Reach.{keep, pick, tab_of, map_of, item_tab, item_map, tabs, maps}
-use Rattle.demand.specs.Shown.{shown, base_of, attrs_of}
+use Rattle.model.specs.Audit.{Found, nothing, ◌⊕◌, table_words, of_entry, of_entries, of_table}
+use Rattle.tree.specs.Tree.{Geo}
+use Rattle.tree.specs.Visit.{Item, entry, gather, visit}
+use Rattle.tree.specs.Reach.{keep, pick, item_tab, item_map, tabs, maps}
+use Rattle.demand.specs.Shown.{shown, base_of}
 use Rattle.demand.specs.Arm.{read_entry, geo, payload_base, payload_attrs}
 use Rattle.demand.specs.Memories.{read_at, table_ends}
 

@@ -2,26 +2,25 @@
 use Rattle.std.specs.Prelude.{◌≡◌, ◌≢◌, ◌⊎◌, Bool, true, false, cond, leb, length, get_or}
 use Rattle.std.proofs.Math.Path.{refl, ap}
 use Rattle.std.proofs.Common.{sym, ◌∙◌, subst, inl, inr, ⊎_elim, arith, length-set, get_or-set_same, get_or-set_other, leb-true, leb-false}
-use Rattle.std.proofs.lemmas.Bool.{false≢true}
 use mathlib.Core.List.Memᴰ
-use mathlib.Core.List.{List, [], ◌∷◌, Memᴰ}
-use Prim.Native.Nat.{ℕ, zero, suc, ◌+◌, ◌-◌, ◌*◌, ◌/◌, ◌%◌, ◌≤◌, ◌<◌}
+use mathlib.Core.List.{List, Memᴰ}
+use Prim.Native.Nat.{ℕ, zero, suc, ◌-◌, ◌%◌, ◌≤◌, ◌<◌}
 use Rattle.std.proofs.Math.Decide.{ℕ_discrete}
 use Rattle.std.proofs.Math.ListN.{set}
 use Rattle.laws.specs.Lists.{among}
 use Rattle.laws.specs.ListLaws.{among_mem, mem_at}
-use Rattle.path.specs.Geometry.{Granule, page_size, entries, size_at, Sane}
+use Rattle.path.specs.Geometry.{Granule, entries, Sane}
 use Rattle.path.specs.Paths.{index_at, path_of}
 use Rattle.path.specs.PathLaws.{path_of_at}
 use Rattle.entry.specs.Words.{entry_at, Framed}
-use Rattle.entry.specs.Laws.{frame_only}
+use Rattle.entry.proofs.Laws.{frame_only}
 use Rattle.entry.specs.declared.Entry.{Entry}
 use Rattle.entry.specs.declared.Entry.TheVariants.{Empty, Table, Frame, Damaged}
-use Rattle.path.specs.Areas.{Area, total, GoodArea}
+use Rattle.path.specs.Areas.{Area, GoodArea}
 use Rattle.model.specs.declared.Walked.{Walked}
 use Rattle.model.specs.Walk.{slot, at_height, no_way, onward, walk_from}
 use Rattle.tree.specs.Region.{anc}
-use Rattle.tree.specs.Tree.{Ent, empty, frame, table, table≢empty, Read, r_empty, r_frame, r_table, r_bad, read_of, Geo, Rendered}
+use Rattle.tree.specs.Tree.{Ent, empty, frame, table, r_table, r_bad, read_of, Geo, Rendered}
 use Rattle.tree.specs.Walk.{Stop, stop, Along, Ends, extend, halt, deeper, read_is, nonzero, unmet}
 use Rattle.demand.specs.Shown.{pg, anc_size}
 use Rattle.demand.specs.Arm.{read_entry, geo}

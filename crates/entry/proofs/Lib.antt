@@ -1,1 +1,5 @@
 pub mod Made
+pub mod Below
+pub mod Bits
+pub mod Laws
+pub mod Parts

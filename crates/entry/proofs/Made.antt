@@ -1,10 +1,11 @@
 -- What the code adds up is the word of the definitions.
 use Prim.Native.Nat.{ℕ, ◌+◌, ◌-◌, ◌*◌, ◌/◌, ◌%◌, ◌^◌, ◌≤◌, ◌<◌}
-use mathlib.Core.Path.{◌≡◌, refl, sym, ap, ◌∙◌}
+use mathlib.Core.Path.{◌≡◌, refl, sym, ◌∙◌}
 use native.Mathlib.Omega.{arith}
 use Rattle.entry.specs.Words.{attr_word, base_in, attrs_in, type_at, frame_word}
-use Rattle.entry.specs.Parts.{device_bits, normal_more, attr_of_bits}
-use Rattle.entry.specs.Laws.{type_le}
+use Rattle.entry.proofs.Parts.{attr_of_bits}
+use Rattle.entry.specs.Parts.{device_bits, normal_more}
+use Rattle.entry.proofs.Laws.{type_le}
 
 -- a frame's word from its three parts
 pub sum_word : (b h a k m : ℕ) → k ≡ type_at h → m ≡ attr_word a → b + k + m ≡ frame_word b h a

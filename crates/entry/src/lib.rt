@@ -1,4 +1,6 @@
 // Entry words of frames: the word of a frame, and the frame that a word says.
+#![tactic(auto)]
+
 ghost use Rattle.std.specs.Prelude.{◌≡◌, cond, leb, eqb};
 ghost use Rattle.path.specs.Geometry.{granule_of, physical};
 ghost use Rattle.entry.specs.Words.{base_in, attrs_in, type_at, frame_word, frame_at};
@@ -13,7 +15,7 @@ const DEVICE: u64 = 0x400;
 const BELOW_BASE: u64 = 4096;
 
 // What a word says.
-#[derive(Drop)]
+#[derive(Clone, Copy)]
 pub enum Entry {
     Empty,
     Table(u32),

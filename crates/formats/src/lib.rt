@@ -1,4 +1,6 @@
 // Format.
+#![tactic(auto)]
+
 ghost use Rattle.std.specs.Prelude.{◌≡◌, ◌++◌, ◌≤◌, length};
 ghost use Rattle.laws.specs.Lists.{down};
 ghost use Rattle.path.specs.Areas.{area_at};

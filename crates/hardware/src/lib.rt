@@ -1,1 +1,2 @@
 // Theory only: see specs/.
+#![tactic(auto)]

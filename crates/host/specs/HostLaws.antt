@@ -1,7 +1,7 @@
 -- Laws of the host's two calls: an answer below 16 is a refusal and no other is, and on every other answer each call undoes the other.
 use Rattle.std.specs.Prelude.{ℕ, zero, suc, ◌+◌, ◌%◌, ◌^◌, ◌≤◌, ◌<◌, ◌≡◌, Bool, ◌⊎◌, eqb}
 use Rattle.std.proofs.Math.Path.{refl, sym}
-use Rattle.std.proofs.Common.{◌∙◌, inl, inr, ⊎_elim, arith}
+use Rattle.std.proofs.Common.{◌∙◌, inl, inr, ⊎_elim, subst, arith}
 use Rattle.std.proofs.Math.Bool.{true, false, cond}
 use Rattle.std.proofs.Math.Decide.{dec_lt}
 use Rattle.std.proofs.Math.Dec.{ltb}
@@ -10,7 +10,7 @@ use Rattle.path.specs.Geometry.{Granule, Sane, four, sixteen, granule_of, size_a
 use Rattle.path.specs.Laws.{four_sane, sixteen_sane, granule_either, height_size}
 use Rattle.entry.specs.Words.{frame_word, frame_at, Framed, base_in, attrs_in}
 use Rattle.entry.specs.Host.{sized_by, FrameSize, host_word, Accepted, meaning_of, host_meaning}
-use Rattle.entry.specs.Laws.{framed_paged, frame_at_back, frame_at_only, frame_or_damaged, frame_word_ge, attrs_lt}
+use Rattle.entry.proofs.Laws.{framed_paged, frame_at_back, frame_at_only, frame_or_damaged, frame_word_ge, attrs_lt}
 use Rattle.entry.specs.declared.Entry.{Entry}
 use Rattle.entry.specs.declared.Entry.TheVariants.{Empty, Table, Frame, Damaged}
 
@@ -62,11 +62,17 @@ size_known size l = go (dec_lt sixteen.large (height_of sixteen size))
 
 pub known_size : (size : ℕ) → FrameSize size → height_of (sized_by size) size ≤ (sized_by size).large
 unfolding sized_by height_of seek size_at
-known_size size (inl e) = rw e (omega arith)
-known_size size (inr (inl e)) = rw e (omega arith)
-known_size size (inr (inr (inl e))) = rw e (omega arith)
-known_size size (inr (inr (inr (inl e)))) = rw e (omega arith)
-known_size size (inr (inr (inr (inr e)))) = rw e (omega arith)
+known_size size f = go f
+  where
+    at : (k : ℕ) → size ≡ k → height_of (sized_by k) k ≤ (sized_by k).large → height_of (sized_by size) size ≤ (sized_by size).large
+    at k e l = subst (λ (s : ℕ). height_of (sized_by s) s ≤ (sized_by s).large) (sym e) l
+
+    go : FrameSize size → height_of (sized_by size) size ≤ (sized_by size).large
+    go (inl e) = at (2 ^ 12) e (omega arith)
+    go (inr (inl e)) = at (2 ^ 21) e (omega arith)
+    go (inr (inr (inl e))) = at (2 ^ 30) e (omega arith)
+    go (inr (inr (inr (inl e)))) = at (2 ^ 14) e (omega arith)
+    go (inr (inr (inr (inr e)))) = at (2 ^ 25) e (omega arith)
 
 -- and whichever of the two granules has frames of a size, it is that size's
 pub sized_granule : (number size : ℕ) → height_of (granule_of number) size ≤ (granule_of number).large → sized_by size ≡ granule_of number

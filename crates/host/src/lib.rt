@@ -1,4 +1,6 @@
 // The host's two calls: the entry word of a frame, and the meaning of a word.
+#![tactic(auto)]
+
 ghost use Rattle.std.specs.Prelude.{◌≡◌, ◌<◌, ◌^◌, cond, ltb};
 ghost use Rattle.path.specs.Geometry.{granule_of};
 ghost use Rattle.entry.specs.Words.{attr_word};

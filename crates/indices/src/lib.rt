@@ -1,4 +1,6 @@
 // Regions of a height and paths: the size of a region, the indices of an address, and back. A granule is a number, as in `path`.
+#![tactic(auto)]
+
 ghost use Rattle.std.specs.Prelude.{◌≡◌, ◌+◌, ◌*◌, ◌%◌};
 ghost use Rattle.path.specs.Geometry.{granule_of, size_at, at_level};
 ghost use Rattle.path.specs.Paths.{index_at, base_at, path_of, address_of};

@@ -1,5 +1,5 @@
 -- Lists of numbers: parts, zeros, members.
-use Rattle.std.specs.Prelude.{ℕ, zero, suc, ◌+◌, ◌*◌, ◌-◌, Bool, true, false, cond, ◌&&◌, ◌||◌, not, length, take, drop, replicate, eqb, leb}
+use Rattle.std.specs.Prelude.{ℕ, zero, suc, ◌+◌, Bool, true, false, cond, ◌&&◌, ◌||◌, not, length, take, drop, replicate, eqb, leb}
 use mathlib.Core.List.{List, [], ◌∷◌, ◌++◌, Memᴰ}
 
 -- the k numbers from `at` on

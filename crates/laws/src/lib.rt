@@ -1,1 +1,2 @@
 // Definitions and laws of lists: see specs/.
+#![tactic(auto)]

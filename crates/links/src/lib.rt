@@ -1,4 +1,6 @@
 // Words that name a table, and what any word says.
+#![tactic(auto)]
+
 ghost use Rattle.std.specs.Prelude.{◌≡◌, ℕ, if◌then◌else◌, nat_le, nat_lt};
 ghost use Rattle.path.specs.Geometry.{granule_of, physical};
 ghost use Rattle.path.specs.Areas.{area_at};

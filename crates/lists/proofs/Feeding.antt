@@ -11,11 +11,11 @@ use borrow.Author.Tests.{lt-ltb, le-ltb, le-leb, lt-leb}
 use Rattle.path.specs.Geometry.{Granule, Sane, size_at}
 use Rattle.path.specs.Laws.{size_height}
 use Rattle.entry.specs.Words.{frame_word, Framed}
-use Rattle.entry.specs.Parts.{frame_word_ge}
+use Rattle.entry.proofs.Parts.{frame_word_ge}
 use Rattle.model.specs.declared.ListAnswer.TheVariants as L
 use Rattle.model.specs.Answers.{Mapping, mapping, listed, list_did}
 use Rattle.model.specs.Listing.{place_of, entry_of, from_on, listing, listed_of, over, leaves}
-use Rattle.model.specs.ListingLaws.{listing_places, listing_entries}
+use Rattle.model.proofs.ListingLaws.{listing_places, listing_entries}
 use Rattle.lists.specs.Feeds.{Fed, goes_on, stops, fed, feed, OneOf, none_there, frame_there}
 use Rattle.lists.specs.declared.Cursor.{Cursor}
 

@@ -1,7 +1,7 @@
 -- A table's mappings from an entry on: what each entry gives, and the loops over the entries.
 use Prim.Native.Nat.{ℕ, zero, suc, ◌+◌, ◌-◌, ◌*◌, ◌%◌, ◌≤◌, ◌<◌}
 use mathlib.Core.Path.{◌≡◌, refl, sym, ap, subst, ◌∙◌}
-use mathlib.Core.Logic.{◌⊎◌, inl, inr, ⊎_elim}
+use mathlib.Core.Logic.{inl, inr, ⊎_elim}
 use mathlib.Core.Bool.{true, false}
 use mathlib.Core.List.{List, [], ◌++◌}
 use native.Mathlib.Nat.{add-mul-mod_self_left, mul_comm, mul-le-mul_left, mod-lt}
@@ -17,17 +17,17 @@ use Rattle.path.specs.Laws.{entries_pos, size_pos, size_suc', level_some, table_
 use Rattle.path.specs.PathLaws.{index_below, rest_index}
 use Rattle.path.specs.RegionLaws.{aligned_down, base_rest, base_inside}
 use Rattle.entry.specs.Words.{child_at, entry_at}
-use Rattle.entry.specs.Laws.{entry_zero, empty_only, table_only, frame_only, entry_table, child_some, child_only}
+use Rattle.entry.proofs.Laws.{entry_zero, empty_only, table_only, frame_only, entry_table, child_some, child_only}
 use Rattle.entry.specs.declared.Entry.{Entry}
 use Rattle.entry.specs.declared.Entry.TheVariants.{Empty, Table, Frame, Damaged}
 use Rattle.model.specs.Answers.{Mapping}
 use Rattle.model.specs.Walk.{slot}
 use Rattle.model.specs.Audit.{table_words, of_entry, of_entries, of_table}
 use Rattle.model.specs.Sound.{Each, word_at, SoundEntry, SoundTable, Rising, WellFormed}
-use Rattle.model.specs.AuditLaws.{each_nil}
-use Rattle.model.specs.MappingLaws.{rising_within, rise_entry, table_rises, well_entry, table_well}
+use Rattle.model.proofs.AuditLaws.{each_nil}
+use Rattle.model.proofs.MappingLaws.{rising_within, rise_entry, table_rises, well_entry, table_well}
 use Rattle.model.specs.Listing.{from_on}
-use Rattle.model.specs.ListingLaws.{from_append, from_none}
+use Rattle.model.proofs.ListingLaws.{from_append, from_none}
 use Rattle.lists.specs.Feeds.{goes_on, fed, feed, OneOf, none_there, frame_there, below, SoundBelow, rest_of, last_of, SoundPages, LeftFrom, PagesFit, RegionFit, TableFit, EntryFit, RunsFit}
 use Rattle.lists.specs.declared.Cursor.{Cursor}
 use Rattle.lists.proofs.Feeding.{fed_on, fed_stop, fed_none}

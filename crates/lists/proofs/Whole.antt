@@ -18,7 +18,7 @@ use Rattle.model.specs.Answers.{Pool, pool, list_did}
 use Rattle.model.specs.Calls.{good_pool}
 use Rattle.model.specs.Audit.{of_pool}
 use Rattle.model.specs.Adds.{sound_tree}
-use Rattle.model.specs.AddLaws.{tree_wf}
+use Rattle.model.proofs.AddLaws.{tree_wf}
 use Rattle.model.specs.Listing.{from_on, listed_of, list_w, leaves}
 use Rattle.lists.specs.Feeds.{TableFit, RunsFit, fed, feed}
 use Rattle.lists.specs.declared.Cursor.{Cursor}

@@ -1,4 +1,6 @@
 // List: the mappings of a pool from an address on, in rising order, into two lent runs.
+#![tactic(auto)]
+
 ghost use Rattle.std.specs.Prelude.{◌≡◌, List, ◌++◌, ℕ, suc, ◌+◌, ◌*◌, ◌≤◌, length};
 ghost use Rattle.path.specs.Geometry.{granule_of, physical};
 ghost use Rattle.path.specs.Areas.{Area};
@@ -12,7 +14,7 @@ use model::ListAnswer;
 use path::Setup;
 
 // How many places are written; whether a mapping found no place any more, and its base.
-#[derive(Drop)]
+#[derive(Clone, Copy)]
 struct Cursor {
     written: usize,
     more: bool,
@@ -20,7 +22,7 @@ struct Cursor {
 }
 
 // The tree that is listed: the granule; the regions of its tables; and the address from which on it is listed.
-#[derive(Drop)]
+#[derive(Clone, Copy)]
 struct Tree {
     granule: u64,
     base: u64,

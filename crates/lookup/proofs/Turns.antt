@@ -15,8 +15,7 @@ use Rattle.path.specs.Laws.{words_fit, level_some, in_table}
 use Rattle.path.specs.PathLaws.{index_below, path_of_at}
 use Rattle.path.specs.declared.Setup.{Setup}
 use Rattle.entry.specs.Words.{child_at, entry_at}
-use Rattle.entry.specs.Laws.{child_only}
-use Rattle.entry.specs.declared.Entry.TheVariants.{Damaged}
+use Rattle.entry.proofs.Laws.{child_only}
 use Rattle.model.specs.Walk.{slot, at_height, no_way, stop}
 use Rattle.lookup.specs.WalkLaws.{word_of, walk_at, walk_reaches}
 use Rattle.lookup.specs.Steps.{Going, going_first, going_past, going_down, Above, above_first, above_past, above_down, on_way_lem, ends_none, comes_again, goes_down}

@@ -1,5 +1,5 @@
 -- Laws of where a walk ends.
-use Rattle.std.specs.Prelude.{ℕ, ◌+◌, ◌*◌, ◌/◌, ◌%◌, ◌≤◌, ◌<◌, ◌≡◌, refl, Bool, true, false, cond, ◌&&◌, List, [], ltb, leb, eqb, get_or}
+use Rattle.std.specs.Prelude.{ℕ, ◌+◌, ◌*◌, ◌/◌, ◌%◌, ◌≤◌, ◌<◌, ◌≡◌, refl, Bool, true, false, List, ltb, leb, get_or}
 use Rattle.std.proofs.Math.Path.{ap}
 use Rattle.std.proofs.Common.{◌∙◌}
 use native.Mathlib.Omega.{arith}
@@ -12,9 +12,8 @@ use Rattle.path.specs.Paths.{path_of}
 use Rattle.path.specs.Laws.{good_levels_lem, levels_some}
 use Rattle.path.specs.declared.Setup.{Setup}
 use Rattle.entry.specs.Words.{entry_at}
-use Rattle.entry.specs.Laws.{and-true}
+use Rattle.entry.proofs.Laws.{and-true}
 use Rattle.entry.specs.declared.Entry.TheVariants.{Damaged}
-use Rattle.model.specs.declared.Walked.{Walked}
 use Rattle.model.specs.Walk.{slot, at_height, stop}
 use Rattle.model.specs.Answers.{Pool, pool}
 use Rattle.model.specs.Calls.{walk_to}

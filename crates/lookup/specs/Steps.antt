@@ -9,7 +9,7 @@ use Rattle.laws.specs.Lists.{among}
 use Rattle.path.specs.Geometry.{Granule, size_at}
 use Rattle.path.specs.Areas.{Area}
 use Rattle.entry.specs.Words.{base_in, attrs_in, frame_word, child_at, frame_at, entry_at}
-use Rattle.entry.specs.Laws.{entry_zero, entry_table, entry_frame}
+use Rattle.entry.proofs.Laws.{entry_zero, entry_table, entry_frame}
 use Rattle.entry.specs.declared.Entry.TheVariants.{Empty, Table, Frame, Damaged}
 use Rattle.model.specs.Walk.{no_way, stop}
 use Rattle.lookup.specs.WalkLaws.{is_table, word_of, entry_of, walk_at, walk_ends, walk_again, walk_down}

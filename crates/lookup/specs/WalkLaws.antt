@@ -1,13 +1,13 @@
 -- Laws of the walk.
 use Prim.Native.Nat.{ℕ, zero, suc, ◌-◌, ◌≤◌, ◌<◌}
-use Rattle.std.specs.Prelude.{◌≡◌, refl, Bool, true, false, cond, List, ltb, leb, get_or, set}
+use Rattle.std.specs.Prelude.{◌≡◌, refl, Bool, true, false, cond, List, leb, get_or, set}
 use Rattle.std.proofs.Common.{sym, ◌∙◌, true≢false, sub-one}
 use Rattle.std.proofs.Math.Path.{ap}
 use native.Mathlib.Omega.{arith}
 use borrow.Author.Tests.{lt-ltb, le-ltb, le-leb, lt-leb, leb-false}
 use Rattle.laws.specs.Lists.{among}
 use Rattle.path.specs.Geometry.{Granule, Sane}
-use Rattle.path.specs.Areas.{Area, area_of, area_at, total}
+use Rattle.path.specs.Areas.{Area, area_of, total}
 use Rattle.path.specs.Numbers.{most_tables, GoodSetup}
 use Rattle.path.specs.Paths.{path_of}
 use Rattle.path.specs.declared.Setup.{Setup}

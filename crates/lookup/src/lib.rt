@@ -1,4 +1,6 @@
 // The walk down the tables.
+#![tactic(auto)]
+
 ghost use Rattle.std.specs.Prelude.{◌≡◌, ◌++◌, ◌/◌, ◌%◌, ◌≤◌, ◌<◌, length};
 ghost use Rattle.path.specs.Geometry.{granule_of};
 ghost use Rattle.path.specs.Areas.{area_at, area_of};

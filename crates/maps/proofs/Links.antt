@@ -38,7 +38,7 @@ module _ (G : Granule) (area : Area) (path list : List ℕ) (g word : ℕ) where
   pub map_list : (t f n : ℕ) (m : Memory) → (perform_all G (map_writes G area path list g word t f n) m).list ≡ m.list
   unfolding map_writes perform_all
   map_list t f zero m = refl
-  map_list t f (suc n) m = map_list _ _ n _
+  map_list t f (suc n) m = map_list (get_or list (f - 1) 0) (f - 1) n _
 
   map_length : (t f n : ℕ) → length (map_writes G area path list g word t f n) ≡ 2 * n + 1
   unfolding map_writes

@@ -14,7 +14,7 @@ use Rattle.path.specs.Numbers.{with_free}
 use Rattle.path.specs.Paths.{path_of}
 use Rattle.path.specs.declared.Setup.{Setup}
 use Rattle.entry.specs.Words.{frame_word, entry_at}
-use Rattle.entry.specs.Laws.{entry_zero, empty_only}
+use Rattle.entry.proofs.Laws.{entry_zero, empty_only}
 use Rattle.entry.specs.declared.Entry.{Entry}
 use Rattle.entry.specs.declared.Entry.TheVariants.{Empty, Table, Frame, Damaged}
 use Rattle.model.specs.declared.Walked.{Walked}
@@ -22,7 +22,7 @@ use Rattle.model.specs.Answers.{took, Pool, pool, Done, done, refuse}
 use Rattle.model.specs.Walk.{slot, at_height, no_way, stop}
 use Rattle.model.specs.Writes.{Write, memory, perform_all, map_writes, may_take}
 use Rattle.model.specs.Calls.{good_pool, walk_to, map_tests, map_here, map_at, map_w}
-use Rattle.model.specs.Refusing.{passed}
+use Rattle.model.proofs.Refusing.{passed}
 use Rattle.lookup.specs.WalkLaws.{walk_above, walk_within}
 use Rattle.lookup.specs.Reaches.{Came, came_again, came_word}
 use Rattle.maps.specs.Parts.{met_by, map_from}

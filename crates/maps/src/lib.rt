@@ -1,4 +1,6 @@
 // Map. It makes every test first, then its single writes, one after the other.
+#![tactic(auto)]
+
 ghost use Rattle.std.specs.Prelude.{◌≡◌, true, List, ◌++◌, ℕ, ◌+◌, ◌-◌, ◌*◌, ◌≤◌, ◌<◌, length};
 ghost use Rattle.path.specs.Geometry.{granule_of, entries, physical, height_of};
 ghost use Rattle.path.specs.Areas.{area_of};

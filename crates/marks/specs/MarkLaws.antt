@@ -1,10 +1,9 @@
 -- Laws of the marks: noting the ways of walks, one after the other, finds exactly where they come to one table for two regions.
-use Prim.Native.Nat.{ℕ, zero, suc, ◌+◌, ◌-◌, ◌*◌, ◌/◌, ◌%◌, ◌^◌, ◌≤◌, ◌<◌}
-use Rattle.std.specs.Prelude.{◌≡◌, ◌≢◌, ◌⊎◌, Bool, cond, ◌&&◌, ◌||◌, not, ltb, leb, eqb, get_or, replicate}
+use Prim.Native.Nat.{ℕ, zero, suc, ◌+◌, ◌-◌, ◌/◌, ◌^◌, ◌≤◌, ◌<◌}
+use Rattle.std.specs.Prelude.{◌≡◌, ◌≢◌, ◌⊎◌, Bool, cond, leb, eqb, get_or, replicate}
 use Rattle.std.proofs.Math.Path.{refl}
-use Rattle.std.proofs.Common.{ap, sym, ◌∙◌, subst, inl, inr, ⊎_elim, true≢false, div-lt_iff_lt-mul, arith, get_or-set_same, get_or-set_other}
+use Rattle.std.proofs.Common.{ap, sym, ◌∙◌, subst, inl, inr, ⊎_elim, div-lt_iff_lt-mul, arith, get_or-set_same, get_or-set_other}
 use Rattle.std.proofs.Math.Bool.{true, false}
-use Rattle.std.proofs.lemmas.Bool.{false≢true}
 use mathlib.Core.List.Memᴰ
 use mathlib.Core.List.Memᴰ.{head as here}
 use mathlib.Core.List.Memᴰ.{tail as there}
@@ -16,7 +15,7 @@ use Rattle.std.proofs.Math.Seq.{set_out}
 use borrow.Author.Tests.{eq-eqb, ne_eqb, eqb-true, eqb-false, le-leb, lt-leb, lt-ltb, le-ltb}
 use Rattle.laws.specs.Lists.{among, all_zero}
 use Rattle.laws.specs.ListLaws.{get_d_past, all_zero_at, all_zero_replicate, among_none, mem_among, mem_at, at_mem}
-use Rattle.path.specs.Geometry.{Granule, Sane, granule_of, size_at, physical, four, sixteen}
+use Rattle.path.specs.Geometry.{Granule, Sane, granule_of, size_at, physical}
 use Rattle.path.specs.Laws.{untrue, granule_either, size_pos, size_le, size_injective}
 use Rattle.path.specs.Areas.{Area, area_of}
 use Rattle.path.specs.Paths.{base_at, path_of}
@@ -27,10 +26,12 @@ use Rattle.model.specs.declared.Walked.{Walked}
 use Rattle.model.specs.Answers.{Pool}
 use Rattle.model.specs.Walk.{at_height, no_way, stop, onward, walk_from}
 use Rattle.model.specs.Calls.{walk_to}
-use Rattle.model.specs.Ledger.{Region, region}
+use Rattle.model.specs.Ledger.{region}
 use Rattle.model.specs.Ranges.{Probe, probe, Standing, standing, on_way, on_ways, agree, agrees, one_region_each, ways}
-use Rattle.model.specs.RangeWalks.{read_by, left_low}
-use Rattle.model.specs.RangeMapped.{OneRegion, each_so, standing_at, ways_has, tables_in_lem}
+use Rattle.model.proofs.RangeWalks.{left_low}
+use Rattle.model.specs.RangeWalks.{read_by}
+use Rattle.model.proofs.RangeMapped.{each_so, ways_has, tables_in_lem}
+use Rattle.model.specs.RangeMapped.{OneRegion, standing_at}
 use Rattle.marks.specs.Marks.{region_number, Noted, noted, note_one, note_from, note_way}
 
 -- ---- numbers of regions

@@ -1,5 +1,7 @@
 // Marks: of each table that walks come to, the region that it stands for, as a number; 0 for a table that none came to. So it is seen where walks come to
 // one table for two regions.
+#![tactic(auto)]
+
 ghost use Rattle.std.specs.Prelude.{◌≡◌, suc, ◌^◌, ◌<◌};
 ghost use Rattle.path.specs.Geometry.{granule_of, physical, size_at};
 ghost use Rattle.marks.specs.Marks.{region_number, noted, note_one, note_way};

@@ -3,7 +3,7 @@
 use Rattle.std.specs.Prelude.{ℕ, ◌+◌, ◌*◌, Bool, cond, ◌&&◌, List, ◌++◌, ltb, eqb, length, take, drop, replicate}
 use Rattle.laws.specs.Lists.{down, distinct}
 use Rattle.path.specs.Geometry.{Granule, page_size, entries}
-use Rattle.path.specs.Areas.{Area, area_of, one_region, with_second, total}
+use Rattle.path.specs.Areas.{area_of, one_region, with_second, total}
 use Rattle.path.specs.Numbers.{setup_of, good_adding}
 use Rattle.model.specs.Answers.{added, Pool, pool, Done, done, refuse}
 use Rattle.model.specs.Audit.{Found, of_pool, free_of, none_inside}

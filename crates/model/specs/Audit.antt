@@ -1,5 +1,5 @@
 -- The audit: what a traversal from the root finds, and the rules of a sound pool.
-use Rattle.std.specs.Prelude.{ℕ, zero, suc, ◌+◌, ◌-◌, ◌*◌, Bool, true, false, cond, ◌&&◌, ◌||◌, not, List, [], ◌∷◌, ◌++◌, ltb, eqb, length, take}
+use Rattle.std.specs.Prelude.{ℕ, zero, suc, ◌+◌, ◌-◌, Bool, true, false, cond, ◌&&◌, ◌||◌, not, List, [], ◌∷◌, ◌++◌, ltb, eqb, length, take}
 use Rattle.laws.specs.Lists.{part, all_zero, distinct}
 use Rattle.path.specs.Geometry.{Granule, entries, size_at}
 use Rattle.path.specs.Areas.{Area, area_of, total, meets_area}

@@ -1,18 +1,17 @@
 -- The calls over a pool, as document 01's steps have them: what each answers, and the pool that it leaves.
-use Rattle.std.specs.Prelude.{ℕ, zero, suc, ◌+◌, ◌-◌, ◌*◌, ◌%◌, Bool, true, false, cond, List, [], ◌∷◌, ltb, leb, eqb, length, replicate}
+use Rattle.std.specs.Prelude.{ℕ, ◌+◌, ◌-◌, ◌%◌, Bool, cond, List, ltb, leb, eqb, length, replicate}
 use Rattle.laws.specs.Lists.{down}
 use Rattle.path.specs.Geometry.{Granule, good_granule, granule_of, page_size, size_at, physical, space_of, height_of}
 use Rattle.path.specs.Areas.{Area, area_of, total, meets_area}
 use Rattle.path.specs.Numbers.{no_setup, setup_of, with_free, good_numbers, good_setup}
 use Rattle.path.specs.Paths.{base_at, path_of}
-use Rattle.path.specs.declared.Setup.{Setup}
 use Rattle.entry.specs.Words.{frame_word}
 use Rattle.entry.specs.declared.Entry.{Entry}
 use Rattle.entry.specs.declared.Entry.TheVariants.{Empty, Table, Frame, Damaged}
 use Rattle.model.specs.declared.Walked.{Walked}
 use Rattle.model.specs.Answers.{Answer, formatted, took, gave, found, refused, hole, mapping, Pool, pool, Done, done, refuse}
 use Rattle.model.specs.Walk.{no_way, at_height, walk_from}
-use Rattle.model.specs.Writes.{Memory, memory, Write, perform_all, map_writes, may_take, freed, unmap_writes}
+use Rattle.model.specs.Writes.{memory, Write, perform_all, map_writes, may_take, freed, unmap_writes}
 
 -- refusal 1
 abbrev pub good_pool : Granule → Pool → Bool

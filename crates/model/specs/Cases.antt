@@ -7,7 +7,7 @@ use Rattle.path.specs.Areas.{one_region, table_at, meets_region, meets_area}
 use Rattle.path.specs.Numbers.{good_area, good_numbers, good_setup, good_adding}
 use Rattle.path.specs.Paths.{index_at, base_at, indices, path_of}
 use Rattle.entry.specs.Words.{type_at, frame_word, table_word, named_in, child_at, frame_at, entry_at}
-use Rattle.model.specs.Answers.{Mapping, mapping, Answer, formatted, added, took, gave, found, refused, hole, pool, Done, done, refuse}
+use Rattle.model.specs.Answers.{mapping, Answer, formatted, added, took, gave, found, refused, hole, pool, Done, done, refuse}
 use Rattle.model.specs.Walk.{onward, walk_from}
 use Rattle.model.specs.Writes.{perform_all, map_writes, may_take, only_entry, freed, prune_writes}
 use Rattle.model.specs.Calls.{format_w, format_n, found_at, query_w, map_tests, map_here, map_at, map_w, unmap_tests, unmap_here, unmap_at, unmap_w}

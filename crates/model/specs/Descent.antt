@@ -3,7 +3,7 @@
 use Rattle.std.specs.Prelude.{ℕ, suc, ◌-◌, ◌≤◌, ◌≡◌, ◌≢◌}
 use mathlib.Core.List.{List, [], ◌∷◌, Memᴰ}
 use Rattle.path.specs.Geometry.{Granule}
-use Rattle.path.specs.Areas.{Area, area_at, area_of, total, GoodArea}
+use Rattle.path.specs.Areas.{area_of}
 use Rattle.path.specs.Paths.{path_of}
 use Rattle.entry.specs.Words.{Says}
 use Rattle.entry.specs.declared.Entry.{Entry}

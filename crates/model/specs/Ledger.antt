@@ -1,7 +1,7 @@
 -- The ledger: the live mappings, in addresses and sizes alone, and what each call answers by it.
-use Rattle.std.specs.Prelude.{ℕ, zero, suc, ◌+◌, ◌-◌, ◌*◌, ◌%◌, Bool, true, false, cond, ◌&&◌, ◌||◌, not, List, [], ◌∷◌, ◌++◌, ltb, leb, eqb, length}
+use Rattle.std.specs.Prelude.{ℕ, zero, suc, ◌+◌, ◌-◌, ◌*◌, Bool, false, cond, ◌&&◌, ◌||◌, List, [], ◌∷◌, ◌++◌, ltb, leb, eqb, length}
 use Rattle.std.proofs.Math.Option.{Option, some, none}
-use Rattle.path.specs.Geometry.{Granule, page_size, entries, size_at, space_of}
+use Rattle.path.specs.Geometry.{Granule, entries, size_at, space_of}
 use Rattle.path.specs.Areas.{Area, one_region, with_second, total}
 use Rattle.path.specs.Numbers.{good_numbers, good_adding}
 use Rattle.path.specs.Paths.{base_at}

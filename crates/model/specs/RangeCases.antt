@@ -59,7 +59,7 @@ abbrev made : ℕ → List ℕ → ℕ → List ℕ → Pool
 made free words more list = let p = fresh.pool.after in pool (with_free p.numbers free) (words ++ replicate more 0) p.cut list
 
 -- damaged: root entries 0 and 1 both name table 1
-abbrev shared : Pool
+abbrev pub shared : Pool
 shared = made 2 (0x40001003 ∷ 0x40001003 ∷ []) 2046 (3 ∷ 2 ∷ 1 ∷ 0 ∷ [])
 
 -- damaged: table 1 is in use and on the free list, where it is the next one
@@ -163,48 +163,6 @@ pub record RangeCases16 : Type 0 where
   -- the pool's last page; the frames start where the pool ends
   pub in_pool_16k : Answers (map_range_as sixteen fresh16 0 0x40008000 0x8000 3) (refused 11)
   pub after_pool_16k : Answers (map_range_as sixteen fresh16 0 0x4000C000 0x8000 3) (took 2)
-
-pub range_cases : RangeCases
-unfolding map_range_as unmap_range_as
-range_cases =
-    record {
-      two_sizes = refl;
-      all_three = refl;
-      by_both = refl;
-      takes = (refl, refl);
-      none_free = refl;
-      takes_pages = (refl, refl);
-      clears = (refl, refl);
-      clears_table = (refl, refl);
-      clears_some = (refl, refl);
-      clears_first = (refl, refl);
-      clears_none = (refl, refl);
-      clears_fresh = (refl, refl);
-      cut_end = (refl, refl);
-      cut_start = (refl, refl);
-      cut_inside = (refl, refl);
-      occupied = (refl, refl);
-      too_few = (refl, refl);
-      no_length = (refl, refl);
-      part_page = (refl, refl);
-      too_long = (refl, refl);
-      attributes = (refl, refl);
-      past_end = (refl, refl);
-      past_all = (refl, refl);
-      unmap_past_all = (refl, refl);
-      off_page = (refl, refl);
-      frame_off_page = (refl, refl);
-      unmap_off_page = (refl, refl);
-      in_pool_lem = (refl, refl);
-      before_pool = (refl, refl);
-      one_side = refl;
-      crossing = refl;
-      two_large = refl;
-      unmap_crossing = refl;
-      unmap_one_side = refl;
-      on_path = refl;
-      no_room = refl;
-    }
 
 pub range_cases_16 : RangeCases16
 unfolding map_range_as unmap_range_as

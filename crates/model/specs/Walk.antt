@@ -1,5 +1,5 @@
 -- The walk: down from the root until an entry is not a table or the target height is reached.
-use Rattle.std.specs.Prelude.{ℕ, zero, suc, ◌+◌, ◌-◌, ◌*◌, Bool, true, false, cond, List, [], ◌∷◌, leb, get_or, set}
+use Rattle.std.specs.Prelude.{ℕ, zero, suc, ◌+◌, ◌-◌, ◌*◌, cond, List, [], ◌∷◌, leb, get_or, set}
 use Rattle.laws.specs.Lists.{among}
 use Rattle.path.specs.Geometry.{Granule, entries}
 use Rattle.path.specs.Areas.{Area}

@@ -1,5 +1,5 @@
 -- The single writes of a call, in their order, and what carrying them out does to the lent memory.
-use Rattle.std.specs.Prelude.{ℕ, zero, suc, ◌+◌, ◌-◌, ◌*◌, Bool, true, false, cond, ◌&&◌, not, List, [], ◌∷◌, ltb, leb, get_or, set, length}
+use Rattle.std.specs.Prelude.{ℕ, zero, suc, ◌+◌, ◌-◌, Bool, true, cond, ◌&&◌, not, List, [], ◌∷◌, ltb, get_or, set}
 use Rattle.laws.specs.Lists.{part, zeroed, all_zero, among}
 use Rattle.path.specs.Geometry.{Granule, entries}
 use Rattle.path.specs.Areas.{Area}

@@ -1,4 +1,6 @@
 // The C surface: every call on plain numbers and pointers. include/oakabut.h declares it.
+#![tactic(auto)]
+
 ghost use Rattle.std.specs.Prelude.{◌≡◌, List, [], ◌++◌, ℕ, length, get_or};
 ghost use Rattle.path.specs.Geometry.{granule_of};
 ghost use Rattle.path.specs.Areas.{area_at};

@@ -1,5 +1,7 @@
 // The page table: format, add, query, list, map and unmap of a mapping or of a range, and audit of one pool of tables in lent memory, of one region or two. Each contract
 // says the whole answer and all lent memory after the call, for every input (`whole`), and what both are by any ledger that the pool holds (`ledger`).
+#![tactic(auto)]
+
 ghost use Rattle.std.specs.Prelude.{◌≡◌, ◌++◌, length};
 ghost use Rattle.path.specs.Geometry.{granule_of};
 ghost use Rattle.path.specs.Areas.{area_at};

@@ -1,6 +1,6 @@
 -- Laws of prefixes, over any granule and any number of levels: a prefix is a region.
 use Prim.Native.Nat.{ℕ, zero, suc, ◌+◌, ◌/◌, ◌%◌, ◌≤◌, ◌<◌}
-use Rattle.std.specs.Prelude.{◌≡◌, ◌↔◌, take, replicate}
+use Rattle.std.specs.Prelude.{◌≡◌, ◌↔◌, take}
 use Rattle.std.proofs.Math.Path.{refl, ap}
 use Rattle.std.proofs.Common.{sym, ap₂, ◌∙◌, mod-eq_of_lt, zero-add, suc-add, arith, length-take-le, get_or-take}
 use mathlib.Core.List.{List, ◌∷◌, ◌++◌}

@@ -1,5 +1,7 @@
 // Setup numbers, granules and sizes. A granule is a number: 16384 is that of 16 KiB pages, and every other number is read as
 // that of 4 KiB pages.
+#![tactic(auto)]
+
 ghost use Rattle.std.specs.Prelude.{◌≡◌, ◌+◌, ◌/◌, ◌%◌, ◌&&◌, leb};
 ghost use Rattle.path.specs.Geometry.{good_granule, granule_of, page_size, entries, good_levels, space_of, height_of};
 ghost use Rattle.path.specs.Numbers.{no_setup, with_free};
@@ -25,7 +27,7 @@ pub const PHYSICAL: u64 = 281474976710656;
 // The most tables that a pool may have.
 pub const MOST_TABLES: u64 = 512;
 
-#[derive(Drop)]
+#[derive(Clone, Copy)]
 pub struct Setup {
     pub levels: u64,
     pub base: u64,

@@ -1,6 +1,6 @@
 -- Carrying out the writes of a call, one after the other; the index by which an entry on the path is written.
 use Prim.Native.Nat.{ℕ, zero, suc, ◌+◌, ◌<◌}
-use Rattle.std.specs.Prelude.{◌≡◌, refl, take, drop}
+use Rattle.std.specs.Prelude.{◌≡◌, take, drop}
 use Rattle.std.proofs.Common.{sym, ◌∙◌, add-one, arith}
 use Rattle.std.proofs.Math.Path.{ap}
 use mathlib.Core.List.{List, [], ◌∷◌}

@@ -1,11 +1,13 @@
 // The single writes of a call: a step is one of them, and is carried out on the lent memory.
+#![tactic(auto)]
+
 ghost use Rattle.std.specs.Prelude.{◌≡◌, List, ◌++◌, ℕ, ◌*◌, length};
 ghost use Rattle.path.specs.Geometry.{Granule, granule_of, entries};
 ghost use Rattle.model.specs.Writes.{memory, perform};
 ghost use Rattle.plans.specs.Plan.{write_of};
 
 // A single write: a word, all words of a table to 0, or a place of the free list.
-#[derive(Drop)]
+#[derive(Clone, Copy)]
 pub enum Step {
     Store { place: usize, value: u64 },
     Wipe { table: u32 },

@@ -1,5 +1,7 @@
 // The lent memory: the words of the tables, in two runs, and the places of the free list. What is past the end reads as 0 and is not written. Contracts
 // speak of the two runs put together, in which the tables stand one after the other; that a table is in one of the runs is known where the first is of whole tables.
+#![tactic(auto)]
+
 ghost use Rattle.std.specs.Prelude.{◌≡◌, ◌++◌, ℕ, ◌*◌, length, get_or, set, replicate};
 ghost use Rattle.laws.specs.Lists.{zeroed, among};
 ghost use Rattle.path.specs.Geometry.{granule_of, entries};

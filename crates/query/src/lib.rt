@@ -1,4 +1,6 @@
 // Query.
+#![tactic(auto)]
+
 ghost use Rattle.std.specs.Prelude.{◌≡◌, ◌++◌, ◌-◌, ◌≤◌, ◌<◌, length};
 ghost use Rattle.path.specs.Geometry.{granule_of, size_at};
 ghost use Rattle.path.specs.Areas.{area_at};

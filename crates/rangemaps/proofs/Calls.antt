@@ -12,7 +12,7 @@ use Rattle.model.specs.Answers.{Mapping, took, Pool, done, refuse}
 use Rattle.model.specs.Writes.{may_take}
 use Rattle.model.specs.Calls.{good_pool}
 use Rattle.model.specs.Ranges.{map_range_tests, pieces, piece_walks, ways, map_piece, left_by, map_range_here, map_range_at, map_range_w}
-use Rattle.model.specs.Refusing.{passed}
+use Rattle.model.proofs.Refusing.{passed}
 use Rattle.rangemaps.specs.Surveys.{MarksOf, Surveyed, is_spoiled, is_taken_lem, is_free}
 
 module _ (G : Granule) (p : Pool) (a b len k : ℕ) {r : Bool} (e : r ≡ good_pool G p) where

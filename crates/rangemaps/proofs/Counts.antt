@@ -25,11 +25,11 @@ use Rattle.model.specs.declared.Walked.{Walked}
 use Rattle.model.specs.Answers.{Mapping, mapping, Pool}
 use Rattle.model.specs.Walk.{slot, at_height}
 use Rattle.model.specs.Calls.{walk_to}
-use Rattle.model.specs.DescentLaws.{clash}
+use Rattle.model.proofs.DescentLaws.{clash}
 use Rattle.model.specs.Ledger.{Region, region, regions_of, has_region, new_regions}
 use Rattle.model.specs.Ranges.{walk_for, lacked}
-use Rattle.model.specs.RangeWalks.{came_target, stopped_walk, stopped_moved, walk_stopped, same_index}
-use Rattle.model.specs.RangeMapped.{has_append}
+use Rattle.model.proofs.RangeWalks.{came_target, stopped_walk, stopped_moved, walk_stopped, same_index}
+use Rattle.model.proofs.RangeMapped.{has_append}
 use Rattle.ranges.specs.Stretches.{in_row}
 use Rattle.ranges.specs.StretchLaws.{row_has, row_only, row_region, row_aligned}
 use Rattle.rangemaps.specs.Rows.{begun_at}

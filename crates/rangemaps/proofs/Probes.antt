@@ -1,14 +1,14 @@
 -- What the walks of a row come to, by what the code finds of them.
 use Prim.Native.Nat.{ℕ, zero, suc, ◌+◌, ◌-◌, ◌/◌, ◌%◌, ◌≤◌, ◌<◌}
 use mathlib.Core.Path.{◌≡◌, refl, ap, sym, ◌∙◌, subst}
-use mathlib.Core.Logic.{◌≢◌, ◌⊎◌, ⊎_elim}
+use mathlib.Core.Logic.{◌≢◌, ⊎_elim}
 use mathlib.Core.Bool.{Bool, true, false, cond, false≢true, true≢false}
 use mathlib.Core.List.Memᴰ
 use mathlib.Core.List.{List, [], ◌∷◌, ◌++◌, Memᴰ}
 use native.Mathlib.Omega.{arith}
 use native.Mathlib.Decide.{ℕ_discrete, dec_lt}
 use lib.Dec.{ltb}
-use lib.ListN.{length, get_or, take}
+use lib.ListN.{length, get_or}
 use lib.Seq.{drop-cons}
 use borrow.Author.Tests.{ltb-true, ltb-false, lt-ltb, le-ltb}
 use Rattle.laws.specs.Lists.{part}
@@ -25,9 +25,9 @@ use Rattle.model.specs.declared.Walked.{Walked}
 use Rattle.model.specs.Answers.{Pool}
 use Rattle.model.specs.Walk.{slot, at_height, stop}
 use Rattle.model.specs.Calls.{good_pool, walk_to}
-use Rattle.model.specs.DescentLaws.{clash}
+use Rattle.model.proofs.DescentLaws.{clash}
 use Rattle.model.specs.Ranges.{Probe, probe, any_ends, is_damaged, is_taken, Standing, on_way, on_ways}
-use Rattle.model.specs.RangeWalks.{walk_stopped, came_target, came_low, stopped_in}
+use Rattle.model.proofs.RangeWalks.{walk_stopped, came_target, came_low, stopped_in}
 use Rattle.lookup.specs.Reaches.{Came, came_again, came_word}
 use Rattle.marks.specs.Marks.{Noted, noted, note_way}
 use Rattle.marks.specs.MarkLaws.{Marked, Clash, clash_like, marked_like, Noting, agreed, clashes, Within, on_ways_append, note_walk}
@@ -305,7 +305,7 @@ module _ (G : Granule) (p : Pool) (h a : ℕ) (M : List ℕ) (n : ℕ) {e : Entr
 -- the first word of a row is damaged
 pub first_damaged : (G : Granule) (area : Area) (h : ℕ) (ws : List ℕ) (i n : ℕ) → 0 < n → i < length ws → is_damaged (entry_at G area h (get_or ws i 0)) ≡ true
     → met_in G area h 0 (part ws i n) ≡ 8
-unfolding met_in any_says part take
+unfolding met_in any_says part
 first_damaged G area h ws i zero l m d = absurd (omega arith)
 first_damaged G area h ws i (suc n) l m d = rw (drop-cons ws i 0 m, d)
 

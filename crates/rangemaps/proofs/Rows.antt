@@ -1,16 +1,14 @@
 -- The walks of a row: those of one table.
-use Prim.Native.Nat.{ℕ, zero, suc, ◌+◌, ◌-◌, ◌*◌, ◌/◌, ◌≤◌, ◌<◌}
+use Prim.Native.Nat.{ℕ, zero, suc, ◌+◌, ◌-◌, ◌*◌, ◌≤◌, ◌<◌}
 use mathlib.Core.Path.{◌≡◌, refl, ap, sym, ◌∙◌, subst}
-use mathlib.Core.Logic.{◌≢◌, ◌⊎◌, ⊎_elim}
+use mathlib.Core.Logic.{◌≢◌, ⊎_elim}
 use mathlib.Core.Bool.{Bool, true, false, ◌||◌}
 use mathlib.Core.List.Memᴰ
 use mathlib.Core.List.Memᴰ.{head as here}
-use mathlib.Core.List.Memᴰ.{tail as there}
 use mathlib.Core.List.{List, [], ◌∷◌, Memᴰ}
 use native.Mathlib.Nat.{suc-mul}
 use native.Mathlib.Omega.{arith}
-use native.Mathlib.Decide.{ℕ_discrete}
-use lib.ListN.{length, get_or, take}
+use lib.ListN.{length, get_or}
 use lib.Seq.{get_or-set_other, drop-cons}
 use Rattle.laws.specs.Lists.{part, all_zero}
 use Rattle.laws.specs.ListLaws.{all_zero_at}
@@ -18,20 +16,21 @@ use Rattle.path.specs.Geometry.{Granule, Sane, entries, size_at}
 use Rattle.path.specs.Areas.{Area, area_of}
 use Rattle.path.specs.Laws.{size_height}
 use Rattle.path.specs.Paths.{index_at, base_at, path_of}
-use Rattle.path.specs.PathLaws.{path_of_at}
 use Rattle.path.specs.RegionLaws.{region_above, region_base}
 use Rattle.entry.specs.Words.{entry_at}
 use Rattle.entry.specs.declared.Entry.{Entry}
 use Rattle.entry.specs.declared.Entry.TheVariants.{Damaged}
 use Rattle.model.specs.declared.Walked.{Walked}
 use Rattle.model.specs.Answers.{Pool}
-use Rattle.model.specs.Walk.{slot, at_height, no_way, stop}
+use Rattle.model.specs.Walk.{at_height, no_way}
 use Rattle.model.specs.Calls.{walk_to}
 use Rattle.model.specs.Ledger.{region}
 use Rattle.model.specs.Ranges.{Probe, probe, piece_walks, any_ends, Standing, standing, on_ways}
-use Rattle.model.specs.RangeWalks.{Came, Stopped, came_low, came_kept, stopped_long, walk_stopped, walk_region, walk_table}
+use Rattle.model.proofs.RangeWalks.{came_low, came_kept, stopped_long, walk_stopped, walk_region, walk_table}
+use Rattle.model.specs.RangeWalks.{Came, Stopped}
 use Rattle.model.specs.RangeWalks as walks
-use Rattle.model.specs.RangeMapped.{standing_at, ways_has}
+use Rattle.model.proofs.RangeMapped.{ways_has}
+use Rattle.model.specs.RangeMapped.{standing_at}
 use Rattle.marks.specs.MarkLaws.{Within, ways_from, Placed}
 use Rattle.ranges.specs.Stretches.{in_row}
 use Rattle.ranges.specs.RowWalks.{same_table, row_low, row_left, row_tables}
@@ -134,13 +133,13 @@ module _ (G : Granule) (p : Pool) (h : ℕ) where
 
   -- and from the words of their table
   part_cons : (xs : List ℕ) (i k : ℕ) → i < length xs → part xs i (suc k) ≡ get_or xs i 0 ∷ part xs (suc i) k
-  unfolding part take
+  unfolding part
   part_cons xs i k l = rw (drop-cons xs i 0 l)
 
   pub row_says : (such : Entry → Bool) (area : Area) (ws : List ℕ) (a n i : ℕ) → i + n ≤ length ws
       → ((j : ℕ) → j < n → (walk_to G p h (a + j * s)).entry ≡ entry_at G area h (get_or ws (i + j) 0))
       → any_ends such (row_walks G p h a n) ≡ any_says such G area h (part ws i n)
-  unfolding row_walks any_ends any_says part take
+  unfolding row_walks any_ends any_says part
   row_says such area ws a zero i l f = refl
   row_says such area ws a (suc n) i l f =
       let later = row_says such area ws (a + s) n (suc i) (omega arith) (λ j m. ap (λ (w : Probe). w.end.entry) (at_next a j) ∙ f (suc j) (omega arith) ∙ shift j) in

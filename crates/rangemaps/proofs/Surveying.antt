@@ -1,7 +1,7 @@
 -- The walks of a range, row by row: what is known after some rows, and how it goes on.
 use Prim.Native.Nat.{ℕ, suc, ◌+◌, ◌-◌, ◌*◌, ◌≤◌, ◌<◌}
 use mathlib.Core.Path.{◌≡◌, refl, ap, sym, ◌∙◌, subst, subst₂}
-use mathlib.Core.Logic.{◌≢◌, ◌⊎◌, ⊎_elim}
+use mathlib.Core.Logic.{◌≢◌, ⊎_elim}
 use mathlib.Core.Bool.{Bool, true, false, cond, ◌||◌, not, false≢true}
 use mathlib.Core.List.Memᴰ
 use mathlib.Core.List.{List, [], ◌∷◌, ◌++◌, append_assoc, append-nil, Memᴰ}
@@ -22,9 +22,10 @@ use Rattle.entry.specs.declared.Entry.TheVariants.{Damaged}
 use Rattle.model.specs.Answers.{Mapping, Pool}
 use Rattle.model.specs.Calls.{good_pool, walk_to}
 use Rattle.model.specs.Ranges.{map_range_tests, piece_at, pieces, Probe, piece_walk, piece_walks, any_ends, is_damaged, is_taken, on_ways, spoiled, ways}
-use Rattle.model.specs.RangeLaws.{Tiles, over, piece, range_fine, tiles}
-use Rattle.model.specs.RangeMapped.{none_ends}
-use Rattle.model.specs.RangeWalks.{walk_stopped, came_target, came_low}
+use Rattle.model.proofs.RangeLaws.{range_fine, tiles}
+use Rattle.model.specs.RangeLaws.{Tiles, over, piece}
+use Rattle.model.proofs.RangeMapped.{none_ends}
+use Rattle.model.proofs.RangeWalks.{walk_stopped, came_target, came_low}
 use Rattle.marks.specs.Marks.{note_way}
 use Rattle.marks.specs.MarkLaws.{Marked, clash_more, marked_each, Placed, unmarked, marked_way}
 use Rattle.ranges.specs.Stretches.{stretch_at, in_row}

@@ -17,7 +17,7 @@ use Rattle.laws.specs.ListLaws.{drop_part, take_part, set_first, set_later}
 use Rattle.path.specs.Geometry.{Granule, entries, size_at, physical}
 use Rattle.path.specs.Areas.{Area}
 use Rattle.entry.specs.Words.{entry_at, attr_word, type_at, frame_word}
-use Rattle.entry.specs.Laws.{entry_zero, and-true}
+use Rattle.entry.proofs.Laws.{entry_zero, and-true}
 use Rattle.entry.specs.declared.Entry.{Entry}
 use Rattle.entry.specs.declared.Entry.TheVariants.{Empty, Damaged}
 use Rattle.model.specs.Walk.{slot}

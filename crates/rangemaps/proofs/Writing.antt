@@ -24,11 +24,13 @@ use Rattle.model.specs.Answers.{Mapping, mapping, Answer, took, Pool, pool, Done
 use Rattle.model.specs.Walk.{slot, at_height}
 use Rattle.model.specs.Writes.{Memory, memory, perform_all, map_writes}
 use Rattle.model.specs.Calls.{walk_to, map_tests, map_w}
-use Rattle.model.specs.DescentLaws.{clash}
+use Rattle.model.proofs.DescentLaws.{clash}
 use Rattle.model.specs.Ranges.{piece_at, pieces, walk_for, piece_walk, piece_walks, is_damaged, is_taken, lacked, map_piece, left_by, map_range_w}
-use Rattle.model.specs.RangeLaws.{Tiles, over, piece, FineRange, range_fine, tiles, tiles_tests, tiles_inside}
-use Rattle.model.specs.RangeWalks.{came_target}
-use Rattle.model.specs.RangeMapped.{Ok, Piece, Put, chain, map_piece_lem, tiles_piece, way_of, put_same, start, neither, none_ends, Accepted, MapRangeView, range_takes, range_refuses, map_range_view}
+use Rattle.model.proofs.RangeLaws.{range_fine, tiles, tiles_tests, tiles_inside}
+use Rattle.model.specs.RangeLaws.{Tiles, over, piece, FineRange}
+use Rattle.model.proofs.RangeWalks.{came_target}
+use Rattle.model.proofs.RangeMapped.{Ok, Piece, Put, chain, map_piece_lem, tiles_piece, way_of, put_same, start, neither, none_ends, map_range_view}
+use Rattle.model.specs.RangeMapped.{Accepted, MapRangeView, range_takes, range_refuses}
 use Rattle.ranges.specs.Stretches.{stretch_at, in_row}
 use Rattle.ranges.specs.StretchLaws.{row_index, row_region, Stretched, stretched}
 use Rattle.rangemaps.specs.Rows.{filled}

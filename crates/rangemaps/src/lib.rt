@@ -1,4 +1,6 @@
 // Map a range. All walks are made first, over the memory at entry, stretch by stretch; then the pieces are written.
+#![tactic(auto)]
+
 ghost use Rattle.std.specs.Prelude.{◌≡◌, ◌≢◌, true, List, [], ◌++◌, ℕ, ◌+◌, ◌-◌, ◌*◌, ◌^◌, ◌≤◌, ◌<◌, length, get_or};
 ghost use Rattle.laws.specs.Lists.{part};
 ghost use Rattle.path.specs.Geometry.{granule_of, entries, size_at, physical};
@@ -21,7 +23,7 @@ use model::{MapAnswer, Mapped};
 use path::Setup;
 
 // What the walks of a range find: 8, 6, or 0; and the tables that it needs where they find nothing.
-#[derive(Drop)]
+#[derive(Clone, Copy)]
 struct Found {
     no: u64,
     need: u64,

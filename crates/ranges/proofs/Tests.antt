@@ -1,17 +1,18 @@
 -- The tests of the arguments of a range, one after the other.
 use Prim.Native.Nat.{ℕ, ◌+◌, ◌%◌, ◌≤◌, ◌<◌}
-use mathlib.Core.Path.{◌≡◌, refl, sym, ap, ◌∙◌}
+use mathlib.Core.Path.{◌≡◌, sym, ap, ◌∙◌}
 use mathlib.Core.Logic.{◌≢◌}
 use mathlib.Core.Bool.{Bool, true, false, cond, not, ◌&&◌}
 use native.Mathlib.Decide.{dec_lt, ℕ_discrete}
 use native.Mathlib.Omega.{arith}
 use borrow.Author.Tests.{not-true, not-false, lt-ltb, le-ltb, le-leb, lt-leb, eq-eqb, ne_eqb}
-use lib.Dec.{ltb, leb, eqb}
+use lib.Dec.{leb}
 use Rattle.path.specs.Geometry.{Granule, page_size, physical, good_levels, space_of}
 use Rattle.path.specs.Areas.{Area, meets_area}
 use Rattle.path.specs.Laws.{in_space, past_space}
-use Rattle.model.specs.Ranges.{longest, good_length, map_range_tests, unmap_range_tests}
-use Rattle.model.specs.RangeLaws.{FineLength, length_fine}
+use Rattle.model.specs.Ranges.{good_length, map_range_tests, unmap_range_tests}
+use Rattle.model.proofs.RangeLaws.{length_fine}
+use Rattle.model.specs.RangeLaws.{FineLength}
 
 module _ (G : Granule) (levels : ℕ) (area : Area) (a b len k : ℕ) {fine : Bool} (e : fine ≡ good_length G len) where
   pub refuses_length : not fine ≡ true → 2 ≡ map_range_tests G levels area a b len k

@@ -13,7 +13,7 @@ use Rattle.model.specs.declared.Walked.{Walked}
 use Rattle.model.specs.Answers.{Pool}
 use Rattle.model.specs.Walk.{slot, at_height, stop}
 use Rattle.model.specs.Calls.{walk_to}
-use Rattle.model.specs.RangeWalks.{came_target, walk_stopped, walk_region, walk_table}
+use Rattle.model.proofs.RangeWalks.{came_target, walk_stopped, walk_region, walk_table}
 use Rattle.ranges.specs.StretchLaws.{row_index, row_region}
 
 module _ (G : Granule) (p : Pool) (few : p.numbers.levels ≤ 4) (h a n : ℕ) (top : h ≤ p.numbers.levels - 1) (some : 0 < p.numbers.levels)

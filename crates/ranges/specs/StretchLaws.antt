@@ -5,7 +5,7 @@ use Rattle.std.proofs.Common.{◌∙◌, subst, ⊎_elim, suc-mul, mod-lt, mul-l
 use mathlib.Core.List.Memᴰ
 use mathlib.Core.List.Memᴰ.{head as here}
 use mathlib.Core.List.Memᴰ.{tail as there}
-use mathlib.Core.List.{List, [], ◌∷◌, ◌++◌, Memᴰ}
+use mathlib.Core.List.{List, ◌∷◌, ◌++◌, Memᴰ}
 use Rattle.std.proofs.Math.Nat.{add-mod_right, add-mul-div_right, add-mul-mod_self_right}
 use Rattle.std.proofs.Math.Decide.{dec_le}
 use Rattle.std.proofs.Math.Arith.{digits_div, digits_mod}
@@ -16,7 +16,8 @@ use Rattle.path.specs.PathLaws.{index_below, region_up}
 use Rattle.path.specs.RegionLaws.{aligned_down, aligned_index}
 use Rattle.model.specs.Answers.{Mapping, mapping}
 use Rattle.model.specs.Ranges.{piece_at}
-use Rattle.model.specs.RangeLaws.{Tiles, over, piece, Fits, piece_fits, piece_most}
+use Rattle.model.proofs.RangeLaws.{piece_fits, piece_most}
+use Rattle.model.specs.RangeLaws.{Tiles, over, piece, Fits}
 use Rattle.ranges.specs.Stretches.{stretch_at, in_row}
 
 -- ---- addresses of one table

@@ -1,4 +1,6 @@
 // A range: the tests of its arguments, and its pieces.
+#![tactic(auto)]
+
 ghost use Rattle.std.specs.Prelude.{◌≡◌, ◌^◌, ◌≤◌};
 ghost use Rattle.path.specs.Geometry.{granule_of, at_level};
 ghost use Rattle.path.specs.Areas.{area_of};

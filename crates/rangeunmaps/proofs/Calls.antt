@@ -1,6 +1,6 @@
 -- What unmap a range does, by what its tests found.
 use Prim.Native.Nat.{ℕ, ◌+◌, ◌*◌, ◌/◌}
-use mathlib.Core.Path.{◌≡◌, refl, ap, sym, ◌∙◌, subst}
+use mathlib.Core.Path.{◌≡◌, ap, sym, ◌∙◌}
 use mathlib.Core.Logic.{◌≢◌}
 use mathlib.Core.Bool.{Bool, true, false, cond, not}
 use mathlib.Core.List.{List}
@@ -12,7 +12,7 @@ use Rattle.path.specs.Laws.{page_pos}
 use Rattle.model.specs.Answers.{cleared, tables_in, Pool, Done, done, refuse}
 use Rattle.model.specs.Calls.{good_pool, unmap_w}
 use Rattle.model.specs.Ranges.{unmap_range_tests, pages_from, pages_of, Probe, page_walks, spoiled, any_cut_by, answers_of, left_by, sum_of, accepted_in, any_refused, unmap_range_here, unmap_range_at, unmap_range_w}
-use Rattle.model.specs.Refusing.{passed}
+use Rattle.model.proofs.Refusing.{passed}
 use Rattle.sweeps.specs.Parts.{Removes, walks_say}
 use Rattle.sweeps.specs.Rooms.{says_fine}
 

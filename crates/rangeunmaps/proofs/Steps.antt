@@ -1,24 +1,23 @@
 -- What one unmap of a range comes to, by what the code has of it.
 use Prim.Native.Nat.{ℕ, ◌+◌, ◌-◌, ◌<◌, ◌≤◌, ◌%◌}
 use mathlib.Core.Path.{◌≡◌, refl, ap, sym, ◌∙◌, subst}
-use mathlib.Core.Logic.{◌≢◌}
 use mathlib.Core.Bool.{true}
-use mathlib.Core.List.{List, []}
+use mathlib.Core.List.{List}
 use native.Mathlib.Decide.{ℕ_discrete}
 use lib.ListN.{length, get_or, set}
 use lib.Seq.{get_or-set_same, get_or-set_other}
 use native.Mathlib.Omega.{arith}
-use Rattle.path.specs.Geometry.{Granule, Sane, page_size, size_at, physical}
+use Rattle.path.specs.Geometry.{Granule, Sane, size_at, physical}
 use Rattle.path.specs.Laws.{good_setup_lem, size_fits}
 use Rattle.path.specs.Paths.{base_at, path_of}
 use Rattle.path.specs.Areas.{area_of}
 use Rattle.path.specs.RegionLaws.{base_le}
-use Rattle.model.specs.Answers.{Answer, gave, hole, refused, Pool, Done, done, refuse}
+use Rattle.model.specs.Answers.{gave, hole, refused, Pool, Done, done}
 use Rattle.model.specs.Walk.{no_way}
 use Rattle.model.specs.Calls.{good_pool, walk_to, unmap_w}
-use Rattle.model.specs.DescentLaws.{clash}
-use Rattle.model.specs.RangeWalks.{left_low}
-use Rattle.model.specs.RangeUnmapped.{given_at, removed_at}
+use Rattle.model.proofs.DescentLaws.{clash}
+use Rattle.model.proofs.RangeWalks.{left_low}
+use Rattle.model.proofs.RangeUnmapLaws.{given_at, removed_at}
 use Rattle.sweeps.specs.Parts.{lesser, until_end, Rest, Removes, Meets, used_in}
 use Rattle.sweeps.specs.Removing.{Unmaps, removes_one, passes_hole, refuses, unmap_comes, hole_step, frame_step, page_step}
 

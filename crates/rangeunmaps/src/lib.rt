@@ -1,5 +1,7 @@
 // Unmap a range. Every test is made first, on the memory as it is: the walks of its pages, and whether the free list has room for the tables that come back. Then the
 // mappings go, in rising order: pages side by side in one table at once, as far as no table comes free, any other mapping by unmap.
+#![tactic(auto)]
+
 ghost use Rattle.std.specs.Prelude.{◌≡◌, true, false, cond, not, List, [], ◌++◌, ℕ, ◌+◌, ◌-◌, ◌*◌, ◌^◌, ◌≤◌, ◌<◌, length, get_or, drop, replicate};
 ghost use Rattle.laws.specs.Lists.{part, zeroed};
 ghost use Rattle.path.specs.Geometry.{granule_of, entries, physical};
@@ -326,7 +328,7 @@ fn fits<'a>(
 }
 
 // A part of a range that is done: where it ends, the setup then, how many mappings went and how many tables came back.
-#[derive(Drop)]
+#[derive(Clone, Copy)]
 struct Gone {
     next: u64,
     setup: Setup,
@@ -335,7 +337,7 @@ struct Gone {
 }
 
 // What may be cleared by itself: from which place on, how many words, and how many of them are in use.
-#[derive(Drop)]
+#[derive(Clone, Copy)]
 struct Slots {
     place: usize,
     count: usize,

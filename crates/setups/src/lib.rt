@@ -1,4 +1,6 @@
 // Tests of setup numbers, and of the bytes that they say are the tables'. A granule is a number, as in `path`.
+#![tactic(auto)]
+
 ghost use Rattle.std.specs.Prelude.{◌≡◌, ◌+◌, ◌≤◌, ◌&&◌, ltb, eqb};
 ghost use Rattle.path.specs.Geometry.{granule_of, page_size};
 ghost use Rattle.path.specs.Areas.{area_at, area_of, total, meets_region, meets_area};

@@ -1,7 +1,7 @@
 -- Laws of the walks of a range, from where one ended to where the next begins.
-use Rattle.std.specs.Prelude.{ℕ, zero, suc, ◌+◌, ◌-◌, ◌*◌, ◌/◌, ◌%◌, ◌≤◌, ◌<◌, ◌≡◌, refl, ◌≢◌, ◌⊎◌, Bool, ◌||◌, ltb, leb, length, replicate}
+use Rattle.std.specs.Prelude.{ℕ, zero, suc, ◌+◌, ◌-◌, ◌*◌, ◌/◌, ◌%◌, ◌≤◌, ◌<◌, ◌≡◌, refl, ◌≢◌, Bool, ◌||◌, ltb, length, replicate}
 use Rattle.std.proofs.Math.Path.{ap, subst}
-use Rattle.std.proofs.Common.{sym, ◌∙◌, inl, inr, ⊎_elim, add-mul, suc-mul, arith, lt-ltb, le-ltb, le-leb}
+use Rattle.std.proofs.Common.{sym, ◌∙◌, inl, inr, ⊎_elim, add-mul, arith, lt-ltb, le-ltb, le-leb}
 use Rattle.std.proofs.Math.Bool.{true, false, cond, not}
 use mathlib.Core.List.Memᴰ.{head as here}
 use mathlib.Core.List.Memᴰ.{tail as there}
@@ -9,9 +9,9 @@ use mathlib.Core.List.{List, [], ◌∷◌, ◌++◌, map, Memᴰ}
 use Rattle.std.proofs.Math.Nat.{mul-div_cancel}
 use Rattle.std.proofs.Math.Decide.{dec_lt}
 use Rattle.std.proofs.lemmas.Bool.{lt-leb}
-use Rattle.path.specs.Geometry.{Granule, Sane, page_size, size_at, physical, space_of}
-use Rattle.path.specs.Areas.{area_of, total}
-use Rattle.path.specs.Laws.{good_setup_lem, page_pos, space_physical}
+use Rattle.path.specs.Geometry.{Granule, Sane, page_size, size_at, physical}
+use Rattle.path.specs.Areas.{area_of}
+use Rattle.path.specs.Laws.{good_setup_lem, page_pos}
 use Rattle.path.specs.Paths.{base_at, path_of}
 use Rattle.path.specs.RegionLaws.{base_region, base_inside, base_aligned, base_le, region_above, region_base}
 use Rattle.entry.specs.declared.Entry.{Entry}
@@ -21,18 +21,19 @@ use Rattle.path.specs.declared.Setup.{Setup}
 use Rattle.model.specs.Answers.{Pool, pool}
 use Rattle.model.specs.Ledger.{region}
 use Rattle.model.specs.Walk.{at_height, no_way}
-use Rattle.model.specs.Calls.{good_pool, walk_to}
-use Rattle.model.specs.DescentLaws.{clash}
-use Rattle.model.specs.LedgerLaws.{or-true, true_or}
-use Rattle.model.specs.Ranges.{pages_from, pages_of, Probe, probe, page_walk, page_walks, any_ends, is_damaged, Standing, standing, on_ways, one_region_each, spoiled, inside, cut_at, any_cut_by}
-use Rattle.model.specs.RangeLaws.{pages_from_lem, pages_has, false_or}
-use Rattle.model.specs.RangeWalks.{left_low, walk_region, walk_stopped, stopped_in}
-use Rattle.model.specs.RangeMapped.{standing_at, ways_has, or_assoc}
-use Rattle.model.specs.RangeUnmapped.{few_levels}
-use Rattle.model.specs.RangeSkips.{pages_append}
+use Rattle.model.specs.Calls.{walk_to}
+use Rattle.model.proofs.DescentLaws.{clash}
+use Rattle.model.proofs.LedgerLaws.{true_or}
+use Rattle.model.specs.Ranges.{pages_from, pages_of, Probe, page_walk, page_walks, any_ends, is_damaged, Standing, standing, on_ways, one_region_each, spoiled, inside, cut_at, any_cut_by}
+use Rattle.model.proofs.RangeLaws.{pages_from_lem, pages_has, false_or}
+use Rattle.model.proofs.RangeWalks.{left_low, walk_region, walk_stopped, stopped_in}
+use Rattle.model.proofs.RangeMapped.{ways_has, or_assoc}
+use Rattle.model.specs.RangeMapped.{standing_at}
+use Rattle.model.proofs.RangeUnmapLaws.{few_levels}
+use Rattle.model.proofs.RangeSkips.{pages_append}
 use Rattle.marks.specs.Marks.{Noted, noted, note_way}
 use Rattle.marks.specs.MarkLaws.{Marked, Clash, Noting, agreed, clashes, marked_none, marked_like, marked_each, clash_like, clash_each, on_ways_append, note_walk, ways_from, Within}
-use Rattle.sweeps.specs.Parts.{lesser, until_end, Rest, walks_say, AllNoted, Meets, cut_or}
+use Rattle.sweeps.specs.Parts.{lesser, Rest, walks_say, AllNoted, Meets, cut_or}
 use Rattle.sweeps.specs.Pages.{pages_between, pages_some, Ends, ends_at}
 use Rattle.sweeps.specs.Removing.{pages_whole}
 

@@ -1,30 +1,32 @@
 -- Laws of a range that is removed row by row: its pages stay such as can be unmapped, and what may be cleared by itself is a row.
-use Rattle.std.specs.Prelude.{ℕ, zero, suc, ◌+◌, ◌-◌, ◌*◌, ◌/◌, ◌%◌, ◌≤◌, ◌<◌, ◌≡◌, refl, ◌≢◌, ◌⊎◌, Bool, true, false, cond, ◌||◌, List, [], ◌∷◌, ◌++◌, ltb, length, get_or}
+use Rattle.std.specs.Prelude.{ℕ, zero, suc, ◌+◌, ◌-◌, ◌*◌, ◌/◌, ◌≤◌, ◌<◌, ◌≡◌, refl, ◌≢◌, Bool, true, false, cond, List, ◌++◌, ltb, length, get_or}
 use Rattle.std.proofs.Common.{ap, sym, ◌∙◌, subst, inl, inr, ⊎_elim, true≢false, suc-mul, suc-add, zero-add, add-mul, div-mul-le_self, le_of_mul-le-mul_right, mul-le-mul_right, mul-le-mul_left, arith, ltb-true, ltb-false}
 use Rattle.std.proofs.Math.Decide.{dec_lt}
 use Rattle.laws.specs.Lists.{part, zeroed}
 use Rattle.laws.specs.ListLaws.{get_d_part, length_part}
-use Rattle.path.specs.Geometry.{Granule, Sane, entries, page_size, size_at, space_of}
+use Rattle.path.specs.Geometry.{Granule, Sane, entries, page_size, size_at}
 use Rattle.path.specs.Areas.{area_of, total}
-use Rattle.path.specs.Paths.{index_at, path_of}
+use Rattle.path.specs.Paths.{index_at}
 use Rattle.path.specs.PathLaws.{index_below}
 use Rattle.path.specs.Laws.{good_setup_lem, page_pos, size_zero, table_ends}
 use Rattle.entry.specs.Words.{entry_at}
 use Rattle.entry.specs.declared.Entry.TheVariants.{Damaged}
 use Rattle.path.specs.declared.Setup.{Setup}
 use Rattle.model.specs.declared.Walked.{Walked}
-use Rattle.model.specs.Answers.{Pool, pool, Done, done, gave, hole, refuse}
-use Rattle.model.specs.Walk.{slot, at_height, no_way, stop}
+use Rattle.model.specs.Answers.{Pool, pool, Done}
+use Rattle.model.specs.Walk.{at_height, stop}
 use Rattle.model.specs.Calls.{good_pool, walk_to, unmap_w}
 use Rattle.model.specs.Ranges.{pages_from, pages_of, answers_of, left_by, refuses_with, any_refused}
-use Rattle.model.specs.RangeLaws.{pages_has, or-false}
-use Rattle.model.specs.RangeWalks.{walk_stopped, stopped_in}
-use Rattle.model.specs.RangeUnmapped.{few_levels, Ok, Next, removes, holes, full, next}
-use Rattle.model.specs.RangeSkips.{answers_append, any_append, pages_append}
+use Rattle.model.proofs.RangeLaws.{pages_has, or-false}
+use Rattle.model.proofs.RangeWalks.{walk_stopped, stopped_in}
+use Rattle.model.proofs.RangeUnmapLaws.{few_levels, next}
+use Rattle.model.specs.RangeUnmapped.{Ok}
+use Rattle.model.proofs.RangeUnmapLaws.{Next, removes, holes, full}
+use Rattle.model.proofs.RangeSkips.{answers_append, any_append, pages_append}
 use Rattle.ranges.specs.Stretches.{stretch_at}
 use Rattle.ranges.specs.RowWalks.{row_here}
-use Rattle.sweeps.specs.Parts.{Rest, Sure, Removes, Allowed, Clearable, in_use}
-use Rattle.sweeps.specs.Removing.{removes_good, pages_whole}
+use Rattle.sweeps.specs.Parts.{Sure, Removes, Allowed, Clearable, in_use}
+use Rattle.sweeps.specs.Removing.{pages_whole}
 use Rattle.sweeps.specs.Rooms.{fine_rest, whole_length, allowed_ok}
 use Rattle.sweeps.specs.Rows.{with_words, place_of, Row, row_removes}
 

@@ -1,37 +1,23 @@
 -- Laws of the words in use: how many a table has, what an unmap does to that, and how many tables come free by these counts.
-use Prim.Native.Nat.{ℕ, zero, suc, ◌+◌, ◌-◌, ◌*◌, ◌/◌, ◌%◌, ◌≤◌, ◌<◌}
-use Rattle.std.specs.Prelude.{◌≡◌, ◌≢◌, ◌⊎◌, Bool, ◌&&◌, ◌||◌, ltb, leb, length}
+use Prim.Native.Nat.{ℕ, zero, suc, ◌+◌, ◌-◌, ◌*◌, ◌≤◌, ◌<◌}
+use Rattle.std.specs.Prelude.{◌≡◌, ◌≢◌, Bool, ◌&&◌, ◌||◌, ltb, length}
 use Rattle.std.proofs.Math.Path.{refl, ap, sym, subst}
-use Rattle.std.proofs.Common.{◌∙◌, inl, inr, ⊎_elim, true≢false, add-zero, add-suc, suc-add, length-set, get_or-set_same, get_or-set_other, ext_get_or}
+use Rattle.std.proofs.Common.{◌∙◌, length-set, get_or-set_same, get_or-set_other, ext_get_or}
 use Rattle.std.proofs.Math.Bool.{true, false, cond, not}
-use Rattle.std.proofs.lemmas.Bool.{false≢true}
-use mathlib.Core.List.{List, [], ◌∷◌, ◌++◌}
+use mathlib.Core.List.{List, [], ◌∷◌}
 use Rattle.std.proofs.Math.Numerals.{add-one, sub-one}
 use native.Mathlib.Omega.{arith}
-use Rattle.std.proofs.Math.Decide.{ℕ_discrete, dec_lt, dec_le}
+use Rattle.std.proofs.Math.Decide.{ℕ_discrete}
 use Rattle.std.proofs.Math.Dec.{eqb}
 use Rattle.std.proofs.Math.ListN.{get_or, set}
-use borrow.Author.Tests.{lt-ltb, le-ltb, ltb-true, ltb-false, eq-eqb, ne_eqb, eqb-true, eqb-false}
+use borrow.Author.Tests.{lt-ltb, le-ltb, ltb-false, eq-eqb, ne_eqb}
 use Rattle.laws.specs.Lists.{part, all_zero}
-use Rattle.laws.specs.ListLaws.{get_d_past, get_d_part, length_part}
-use Rattle.path.specs.Geometry.{Granule, Sane, entries, size_at}
-use Rattle.path.specs.Areas.{area_of, total}
-use Rattle.path.specs.Paths.{path_of}
-use Rattle.path.specs.PathLaws.{path_of_at, index_below}
-use Rattle.path.specs.Laws.{good_setup_lem, in_table, table_ends}
-use Rattle.entry.specs.Words.{entry_at}
-use Rattle.entry.specs.Laws.{entry_zero}
-use Rattle.entry.specs.declared.Entry.{Entry}
-use Rattle.entry.specs.declared.Entry.TheVariants.{Empty, Table, Frame, Damaged}
-use Rattle.model.specs.declared.Walked.{Walked}
-use Rattle.model.specs.Answers.{Pool}
-use Rattle.model.specs.Walk.{slot, at_height, no_way}
-use Rattle.model.specs.Writes.{memory, perform_all, only_entry, freed, prune_writes}
-use Rattle.model.specs.Calls.{good_pool, walk_to}
+use Rattle.laws.specs.ListLaws.{get_d_part, length_part}
+use Rattle.path.specs.Geometry.{Granule, entries}
+use Rattle.path.specs.Laws.{table_ends}
+use Rattle.model.specs.Walk.{slot, at_height}
+use Rattle.model.specs.Writes.{only_entry, freed}
 use Rattle.model.specs.Sound.{word_at}
-use Rattle.model.specs.DescentLaws.{clash}
-use Rattle.model.specs.RangeWalks.{read_by, Stopped, left_low, walk_stopped, stopped_apart, stopped_in, stopped_last, stopped_through, through_table, came_low}
-use Rattle.model.specs.RangeUnmapped.{given_at, few_levels, removed_at, high, word_stays}
 use Rattle.sweeps.specs.Parts.{in_use, used_in, Lowered, lowered, lower_from}
 
 -- ---- numbers in use

@@ -1,20 +1,18 @@
 -- Laws of what one unmap does: to the words in use of each table, to their counts, and to the walks of other pages.
-use Rattle.std.specs.Prelude.{ℕ, zero, suc, ◌+◌, ◌-◌, ◌*◌, ◌/◌, ◌%◌, ◌≤◌, ◌<◌, ◌≡◌, refl, ◌≢◌, ◌⊎◌, Bool, true, false, cond, not, length, get_or, set}
-use Rattle.std.proofs.Common.{ap, sym, ◌∙◌, subst, inl, inr, ⊎_elim, true≢false, add-zero, add-suc, suc-add, arith, length-set, get_or-set_same, get_or-set_other}
-use Rattle.std.proofs.lemmas.Bool.{false≢true}
-use mathlib.Core.List.{List, [], ◌∷◌, ◌++◌, Memᴰ}
-use Rattle.std.proofs.Math.Decide.{ℕ_discrete, dec_lt, dec_le}
-use Rattle.laws.specs.Lists.{part, all_zero}
-use Rattle.laws.specs.ListLaws.{get_d_past, get_d_part, length_part, all_zero_at}
-use Rattle.path.specs.Geometry.{Granule, Sane, entries, size_at, page_size}
+use Rattle.std.specs.Prelude.{ℕ, zero, suc, ◌+◌, ◌-◌, ◌*◌, ◌/◌, ◌%◌, ◌≤◌, ◌<◌, ◌≡◌, refl, ◌≢◌, ◌⊎◌, Bool, true, false, cond, length, get_or, set}
+use Rattle.std.proofs.Common.{ap, sym, ◌∙◌, subst, inl, inr, ⊎_elim, add-zero, add-suc, suc-add, arith, length-set, get_or-set_same, get_or-set_other}
+use mathlib.Core.List.{List}
+use Rattle.std.proofs.Math.Decide.{ℕ_discrete, dec_lt}
+use Rattle.laws.specs.Lists.{part}
+use Rattle.laws.specs.ListLaws.{get_d_past, get_d_part, all_zero_at}
+use Rattle.path.specs.Geometry.{Granule, Sane, entries, size_at}
 use Rattle.path.specs.Areas.{Area, area_of, total}
-use Rattle.path.specs.Paths.{path_of, base_at}
+use Rattle.path.specs.Paths.{path_of}
 use Rattle.path.specs.PathLaws.{path_of_at, index_below, region_index}
 use Rattle.path.specs.RegionLaws.{region_above, base_region, base_inside, aligned_base}
-use Rattle.path.specs.Laws.{good_setup_lem, in_table, table_ends}
+use Rattle.path.specs.Laws.{good_setup_lem}
 use Rattle.entry.specs.Words.{entry_at}
-use Rattle.entry.specs.Laws.{entry_zero}
-use Rattle.entry.specs.declared.Entry.{Entry}
+use Rattle.entry.proofs.Laws.{entry_zero}
 use Rattle.entry.specs.declared.Entry.TheVariants.{Empty, Table, Frame, Damaged}
 use Rattle.model.specs.declared.Walked.{Walked}
 use Rattle.model.specs.Answers.{Pool}
@@ -22,11 +20,13 @@ use Rattle.model.specs.Walk.{slot, at_height, no_way, stop}
 use Rattle.model.specs.Writes.{memory, perform_all, only_entry, freed, prune_writes, unmap_writes}
 use Rattle.model.specs.Calls.{good_pool, walk_to}
 use Rattle.model.specs.Sound.{word_at}
-use Rattle.model.specs.DescentLaws.{clash}
-use Rattle.model.specs.LeftLaws.{performed_length}
-use Rattle.model.specs.RangeWalks.{read_by, Came, there, further, came_low, came_moved, came_long, Through, Stopped, left_low, same_index, walk_stopped, stopped_walk, stopped_apart, stopped_in, stopped_last, stopped_through, through_table}
-use Rattle.model.specs.RangeUnmapped.{given_at, few_levels, removed_at, high, word_stays, hole_there, hole_region, walk_kept}
-use Rattle.sweeps.specs.Parts.{in_use, used_in, Lowered, lowered, lower_from}
+use Rattle.model.proofs.DescentLaws.{clash}
+use Rattle.model.proofs.LeftLaws.{performed_length}
+use Rattle.model.proofs.RangeWalks.{came_low, came_moved, left_low, same_index, walk_stopped, stopped_walk, stopped_apart, stopped_in, stopped_last, stopped_through, through_table}
+use Rattle.model.specs.RangeWalks.{read_by, Came, there, further, Stopped}
+use Rattle.model.proofs.RangeUnmapLaws.{few_levels, high, word_stays, hole_there, hole_region, walk_kept}
+use Rattle.model.proofs.RangeUnmapLaws.{given_at, removed_at}
+use Rattle.sweeps.specs.Parts.{used_in, Lowered, lower_from}
 use Rattle.sweeps.specs.Counting.{some_used, live, lower_live, used_same, used_less, lower_freed, lower_hit, lower_miss, lower_long}
 
 -- ---- zeros stay

@@ -1,12 +1,11 @@
 -- Laws of addresses that are multiples of a page, and of how many pages there are between two.
-use Rattle.std.specs.Prelude.{ℕ, zero, suc, ◌+◌, ◌-◌, ◌*◌, ◌/◌, ◌%◌, ◌≤◌, ◌<◌, ◌≡◌, refl, Bool, true, false, cond, ltb}
-use Rattle.std.proofs.Common.{ap, sym, ◌∙◌, subst, add-mul, div-add-mod', le_of_mul-le-mul_right, mul-div_cancel, arith, lt-ltb, le-ltb}
-use Rattle.std.proofs.Math.Nat.{add-mod, zero-mod}
+use Rattle.std.specs.Prelude.{ℕ, zero, suc, ◌+◌, ◌-◌, ◌*◌, ◌/◌, ◌%◌, ◌≤◌, ◌<◌, ◌≡◌, refl}
+use Rattle.std.proofs.Common.{ap, sym, ◌∙◌, subst, add-mul, div-add-mod', le_of_mul-le-mul_right, arith, lt-ltb, le-ltb}
 use Rattle.std.proofs.Math.Decide.{dec_lt}
 use Rattle.path.specs.Geometry.{Granule, page_size, size_at}
-use Rattle.path.specs.Laws.{page_pos, size_zero, size_pos}
+use Rattle.path.specs.Laws.{page_pos, size_zero}
 use Rattle.path.specs.Paths.{base_at}
-use Rattle.path.specs.RegionLaws.{base_aligned, base_le, base_end, end_aligned}
+use Rattle.path.specs.RegionLaws.{base_aligned, base_end, end_aligned}
 use Rattle.sweeps.specs.Parts.{lesser, until_end}
 
 pub lesser_is : (P : ℕ → Type 0) (a b : ℕ) → (a ≤ b → P a) → (b ≤ a → P b) → P (lesser a b)

@@ -1,32 +1,33 @@
 -- Laws of unmapping from page to page: what an unmap finds, a mapping or a hole, is done with it.
-use Prim.Native.Nat.{ℕ, zero, suc, ◌+◌, ◌-◌, ◌*◌, ◌/◌, ◌%◌, ◌≤◌, ◌<◌}
-use Rattle.std.specs.Prelude.{◌≡◌, ◌≢◌, ◌⊎◌, Bool, true, false, cond, ltb, eqb}
+use Prim.Native.Nat.{ℕ, zero, suc, ◌+◌, ◌-◌, ◌*◌, ◌%◌, ◌≤◌, ◌<◌}
+use Rattle.std.specs.Prelude.{◌≡◌, true, ltb, eqb}
 use Rattle.std.proofs.Math.Path.{refl, ap}
-use Rattle.std.proofs.Common.{sym, ◌∙◌, subst, inl, inr, ⊎_elim, add-mul, le-mul_of_pos_right, eqb-true}
-use mathlib.Core.List.{List, [], ◌∷◌, ◌++◌, Memᴰ}
+use Rattle.std.proofs.Common.{sym, ◌∙◌, subst, add-mul, le-mul_of_pos_right, eqb-true}
+use mathlib.Core.List.{List, ◌++◌, Memᴰ}
 use Rattle.std.proofs.Math.Nat.{suc-mul}
 use native.Mathlib.Omega.{arith}
 use Rattle.path.specs.Geometry.{Granule, Sane, page_size, size_at, physical}
 use Rattle.path.specs.Areas.{area_of, total}
-use Rattle.path.specs.Laws.{good_setup_lem, page_pos, size_zero, size_le}
-use Rattle.path.specs.Paths.{base_at, path_of}
-use Rattle.path.specs.RegionLaws.{base_region, base_inside, base_aligned, base_le, base_end, aligned_base}
+use Rattle.path.specs.Laws.{good_setup_lem, page_pos, size_zero}
+use Rattle.path.specs.Paths.{base_at}
+use Rattle.path.specs.RegionLaws.{base_region, base_inside, base_aligned, base_le, aligned_base}
 use Rattle.entry.specs.declared.Entry.{Entry}
 use Rattle.entry.specs.declared.Entry.TheVariants.{Empty, Table, Frame, Damaged}
 use Rattle.model.specs.declared.Walked.{Walked}
-use Rattle.model.specs.Answers.{Answer, answered, refusal, gave, hole, refused, tables_in, Pool, Done, done, refuse}
-use Rattle.model.specs.Writes.{freed}
+use Rattle.model.specs.Answers.{Answer, answered, refusal, gave, hole, tables_in, Pool, Done, done, refuse}
 use Rattle.model.specs.Calls.{good_pool, walk_to, unmap_tests, unmap_here, unmap_at, unmap_w}
-use Rattle.model.specs.DescentLaws.{clash}
-use Rattle.model.specs.LeftLaws.{unmap_leaves, leaves_good, leaves_kept, Kept}
+use Rattle.model.proofs.LeftLaws.{unmap_leaves, leaves_good, leaves_kept}
+use Rattle.model.specs.LeftLaws.{Kept}
 use Rattle.model.specs.Ranges.{pages_from, answers_of, left_by, sum_of, accepted_in}
-use Rattle.model.specs.RangeLaws.{pages_from_lem, page_next}
-use Rattle.model.specs.RangeLeft.{left_leaves}
-use Rattle.model.specs.RangeMapped.{chosen}
-use Rattle.model.specs.RangeUnmapped.{given_at, removed_at, few_levels, high}
-use Rattle.model.specs.RangeSkips.{left_append, answers_append, sum_append, pages_append, Passed, hole_skip, frame_skip}
+use Rattle.model.proofs.RangeLaws.{pages_from_lem, page_next}
+use Rattle.model.proofs.RangeLeft.{left_leaves}
+use Rattle.model.proofs.RangeMapped.{chosen}
+use Rattle.model.proofs.RangeUnmapLaws.{few_levels}
+use Rattle.model.proofs.RangeUnmapLaws.{given_at, removed_at}
+use Rattle.model.proofs.RangeSkips.{left_append, answers_append, sum_append, pages_append, hole_skip, frame_skip}
+use Rattle.model.specs.RangeSkips.{Passed}
 use Rattle.sweeps.specs.Parts.{Rest, Removes, until_end, lesser}
-use Rattle.sweeps.specs.Pages.{lesser_is, pages_between, pages_some, Ends, ends_at}
+use Rattle.sweeps.specs.Pages.{pages_between, pages_some, Ends, ends_at}
 
 -- ---- what one unmap comes to, of any pool
 

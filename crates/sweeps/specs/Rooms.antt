@@ -1,6 +1,6 @@
 -- Laws of the room in the free list, by what the code has of a sweep: what a look met, and what its lowering comes to.
-use Rattle.std.specs.Prelude.{ℕ, zero, suc, ◌+◌, ◌-◌, ◌*◌, ◌/◌, ◌%◌, ◌≤◌, ◌<◌, ◌≡◌, refl, ◌≢◌, ◌⊎◌, Bool, true, false, cond, not, length, get_or, set, drop}
-use Rattle.std.proofs.Common.{ap, sym, ◌∙◌, subst, inl, inr, ⊎_elim, add-mul, div-add-mod', arith, get_or-set_other}
+use Rattle.std.specs.Prelude.{ℕ, zero, suc, ◌+◌, ◌-◌, ◌*◌, ◌/◌, ◌%◌, ◌≤◌, ◌<◌, ◌≡◌, refl, ◌≢◌, Bool, true, false, cond, not, length, get_or, set, drop}
+use Rattle.std.proofs.Common.{ap, sym, ◌∙◌, subst, ⊎_elim, add-mul, div-add-mod', arith, get_or-set_other}
 use mathlib.Core.List.{List, [], ◌∷◌, Memᴰ}
 use Rattle.std.proofs.Math.Decide.{dec_lt}
 use Rattle.std.proofs.lemmas.Bool.{not-false}
@@ -14,12 +14,13 @@ use Rattle.model.specs.declared.Walked.{Walked}
 use Rattle.model.specs.Answers.{Pool}
 use Rattle.model.specs.Walk.{at_height, no_way}
 use Rattle.model.specs.Calls.{good_pool, walk_to, unmap_w}
-use Rattle.model.specs.DescentLaws.{clash}
+use Rattle.model.proofs.DescentLaws.{clash}
 use Rattle.model.specs.Ranges.{unmap_range_tests, pages_from, pages_of, Probe, page_walks, any_ends, is_damaged, on_ways, one_region_each, spoiled, any_cut_by, answers_of, any_refused}
-use Rattle.model.specs.RangeLaws.{FineUnmap, unmap_fine, pages_has, or-false}
-use Rattle.model.specs.RangeWalks.{left_low}
-use Rattle.model.specs.RefusalLaws.{no_table_last}
-use Rattle.model.specs.RangeUnmapped.{few_levels, Ok, start}
+use Rattle.model.proofs.RangeLaws.{unmap_fine, pages_has, or-false}
+use Rattle.model.proofs.RangeWalks.{left_low}
+use Rattle.model.proofs.RefusalLaws.{no_table_last}
+use Rattle.model.proofs.RangeUnmapLaws.{few_levels, start}
+use Rattle.model.specs.RangeUnmapped.{Ok}
 use Rattle.sweeps.specs.Parts.{until_end, Rest, walks_say, Allowed, AllNoted, Meets, in_use, used_in, Lowered, lowered, lower_from}
 use Rattle.sweeps.specs.Pages.{Ends, ends_at}
 use Rattle.sweeps.specs.Removing.{pages_whole}

@@ -1,10 +1,9 @@
 -- Laws of the check of a row: where none of its words is damaged, the walks of all its pages are checked with the first.
-use Rattle.std.specs.Prelude.{ℕ, zero, suc, ◌+◌, ◌-◌, ◌*◌, ◌/◌, ◌%◌, ◌≤◌, ◌<◌, ◌≡◌, refl, ◌≢◌, ◌⊎◌, Bool, true, false, cond, ◌||◌, ◌&&◌, not, ltb, leb, eqb, length, get_or}
-use Rattle.std.proofs.Common.{ap, sym, ◌∙◌, subst, inl, inr, ⊎_elim, true≢false, suc-mul, mul-le-mul_right, le-div_iff_mul-le, lt_of_mul-lt-mul_right, arith, le-leb}
-use Rattle.std.proofs.lemmas.Bool.{false≢true, not-true, not-false}
+use Rattle.std.specs.Prelude.{ℕ, zero, suc, ◌+◌, ◌-◌, ◌*◌, ◌/◌, ◌%◌, ◌≤◌, ◌<◌, ◌≡◌, refl, ◌≢◌, Bool, true, false, cond, ◌||◌, not, ltb, eqb, length, get_or}
+use Rattle.std.proofs.Common.{ap, sym, ◌∙◌, subst, true≢false, suc-mul, mul-le-mul_right, le-div_iff_mul-le, lt_of_mul-lt-mul_right, arith, le-leb}
+use Rattle.std.proofs.lemmas.Bool.{false≢true}
 use mathlib.Core.List.{List, [], ◌∷◌, ◌++◌, Memᴰ}
-use Rattle.std.proofs.Math.Decide.{ℕ_discrete, dec_lt}
-use Rattle.laws.specs.Lists.{part}
+use Rattle.std.proofs.Math.Decide.{ℕ_discrete}
 use Rattle.laws.specs.ListLaws.{get_d_part, length_part}
 use Rattle.path.specs.Geometry.{Granule, Sane, entries, page_size, size_at}
 use Rattle.path.specs.Areas.{Area, area_of, total}
@@ -19,17 +18,17 @@ use Rattle.model.specs.declared.Walked.{Walked}
 use Rattle.model.specs.Answers.{Pool}
 use Rattle.model.specs.Walk.{slot, at_height, stop}
 use Rattle.model.specs.Calls.{walk_to}
-use Rattle.model.specs.Ranges.{pages_from, Probe, page_walk, page_walks, is_damaged, on_ways, inside, cut_at, any_cut_by}
-use Rattle.model.specs.RangeLaws.{pages_from_lem}
-use Rattle.model.specs.RangeWalks.{walk_stopped, stopped_in}
-use Rattle.model.specs.RangeUnmapped.{few_levels}
+use Rattle.model.specs.Ranges.{pages_from, Probe, page_walk, page_walks, is_damaged, on_ways, cut_at, any_cut_by}
+use Rattle.model.proofs.RangeLaws.{pages_from_lem}
+use Rattle.model.proofs.RangeWalks.{walk_stopped, stopped_in}
+use Rattle.model.proofs.RangeUnmapLaws.{few_levels}
 use Rattle.marks.specs.Marks.{Noted, noted, note_way}
 use Rattle.marks.specs.MarkLaws.{Marked, Noting, agreed, clashes}
-use Rattle.model.specs.DescentLaws.{clash}
+use Rattle.model.proofs.DescentLaws.{clash}
 use Rattle.ranges.specs.Stretches.{stretch_at}
 use Rattle.ranges.specs.RowWalks.{same_table, row_here}
 use Rattle.sweeps.specs.Parts.{Rest, walks_say, Meets, cut_or, lesser, until_end, is_fine, misfits_in, row_of, Beyond}
-use Rattle.sweeps.specs.Pages.{pages_between, pages_some, ends_at}
+use Rattle.sweeps.specs.Pages.{pages_between, ends_at}
 use Rattle.sweeps.specs.Removing.{pages_whole}
 use Rattle.sweeps.specs.Checking.{Checked, Like, mem_map, cuts_alike, first_page, walk_spoils, checks_some, cut_or_lem, turn_sound, noting, turn_on}
 use Rattle.sweeps.specs.Clearing.{stretch_room, stretch_fits}

@@ -1,11 +1,10 @@
 -- Laws of a row, words of one table of the last level side by side: pages that are unmapped there one after the other are these words cleared, and give no table
 -- back, where none of them is in use or the word after them is.
-use Rattle.std.specs.Prelude.{ℕ, zero, suc, ◌+◌, ◌-◌, ◌*◌, ◌/◌, ◌%◌, ◌≤◌, ◌<◌, ◌≡◌, refl, ◌≢◌, ◌⊎◌, Bool, true, false, cond, List, [], ◌∷◌, eqb, length, get_or, set}
+use Rattle.std.specs.Prelude.{ℕ, zero, suc, ◌+◌, ◌-◌, ◌*◌, ◌/◌, ◌%◌, ◌≤◌, ◌<◌, ◌≡◌, refl, ◌≢◌, ◌⊎◌, true, false, cond, List, ◌∷◌, eqb, length, get_or, set}
 use Rattle.std.proofs.Math.Path.{ap}
 use Rattle.std.proofs.Common.{sym, ◌∙◌, subst, inl, inr, ⊎_elim, suc-mul, arith, length-set, get_or-set_same, get_or-set_other, ext_get_or, drop-cons, eq-eqb, ne_eqb}
-use Rattle.std.proofs.lemmas.Bool.{false≢true}
 use Rattle.std.proofs.Math.Nat.{add-mul-div_right}
-use Rattle.std.proofs.Math.Decide.{ℕ_discrete, dec_lt, dec_le}
+use Rattle.std.proofs.Math.Decide.{ℕ_discrete, dec_lt}
 use Rattle.std.proofs.Math.ListN.{take}
 use Rattle.laws.specs.Lists.{part, zeroed}
 use Rattle.laws.specs.ListLaws.{part_set_before, length_zeroed, get_d_zeroed, get_d_zeroed_before, get_d_zeroed_after}
@@ -13,28 +12,30 @@ use Rattle.path.specs.Geometry.{Granule, Sane, entries, page_size, size_at, spac
 use Rattle.path.specs.Areas.{Area, area_of, total}
 use Rattle.path.specs.Numbers.{with_free, good_setup}
 use Rattle.path.specs.Paths.{index_at, path_of}
-use Rattle.path.specs.PathLaws.{path_of_at, index_below}
+use Rattle.path.specs.PathLaws.{path_of_at}
 use Rattle.path.specs.RegionLaws.{region_above}
 use Rattle.path.specs.Laws.{good_setup_lem, untrue, page_pos, size_zero, table_ends}
 use Rattle.entry.specs.Words.{entry_at}
-use Rattle.entry.specs.Laws.{entry_zero, empty_only}
+use Rattle.entry.proofs.Laws.{entry_zero, empty_only}
 use Rattle.entry.specs.declared.Entry.{Entry}
 use Rattle.entry.specs.declared.Entry.TheVariants.{Empty, Table, Frame, Damaged}
 use Rattle.model.specs.declared.Walked.{Walked}
-use Rattle.model.specs.Answers.{Answer, tables_in, Pool, pool, Done, done}
+use Rattle.model.specs.Answers.{Pool, pool, Done}
 use Rattle.model.specs.Walk.{slot, at_height, no_way, stop}
-use Rattle.model.specs.Writes.{memory, perform_all, only_entry, freed, prune_writes, unmap_writes}
+use Rattle.model.specs.Writes.{perform_all, only_entry, freed, prune_writes, unmap_writes}
 use Rattle.model.specs.Calls.{good_pool, walk_to, written, unmap_w}
-use Rattle.model.specs.DescentLaws.{clash}
-use Rattle.model.specs.RefusalLaws.{no_table_last}
-use Rattle.model.specs.RangeLaws.{page_next}
-use Rattle.model.specs.RangeWalks.{Stopped, walk_stopped, stopped_apart, stopped_in}
-use Rattle.model.specs.RangeUnmapped.{given_at, removed_at, few_levels, Full, Goes, gives, passes, fills, goes, walk_kept}
+use Rattle.model.proofs.DescentLaws.{clash}
+use Rattle.model.proofs.RefusalLaws.{no_table_last}
+use Rattle.model.proofs.RangeLaws.{page_next}
+use Rattle.model.proofs.RangeWalks.{walk_stopped, stopped_apart, stopped_in}
+use Rattle.model.specs.RangeWalks.{Stopped}
+use Rattle.model.proofs.RangeUnmapLaws.{few_levels, goes, walk_kept}
+use Rattle.model.proofs.RangeUnmapLaws.{given_at, removed_at, Goes, gives, passes, fills}
 use Rattle.ranges.specs.StretchLaws.{row_index}
 use Rattle.ranges.specs.RowWalks.{same_table, row_here}
 use Rattle.sweeps.specs.Parts.{Removes, in_use}
 use Rattle.sweeps.specs.Emptied.{only_zero}
-use Rattle.sweeps.specs.Removing.{removes_none, removes_more, one_removes}
+use Rattle.sweeps.specs.Removing.{removes_more, one_removes}
 
 -- ---- lists
 

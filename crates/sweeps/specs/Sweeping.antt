@@ -1,39 +1,41 @@
 -- Laws of a range that is unmapped by counts alone, its words read as they are: whether an unmap on the way would find no room in the free list.
 use Prim.Native.Nat.{ℕ, zero, suc, ◌+◌, ◌-◌, ◌*◌, ◌/◌, ◌%◌, ◌≤◌, ◌<◌}
-use Rattle.std.specs.Prelude.{◌≡◌, ◌≢◌, ◌⊎◌, Bool, true, false, cond, ◌||◌, not, ltb, eqb, length, get_or}
+use Rattle.std.specs.Prelude.{◌≡◌, ◌≢◌, ◌⊎◌, true, false, cond, ◌||◌, ltb, length, get_or}
 use Rattle.std.proofs.Math.Path.{refl, ap}
 use Rattle.std.proofs.Common.{sym, ◌∙◌, subst, inr, ⊎_elim, zero-add, suc-add, suc-mul, add-mul, le_of_mul-le-mul_right, arith}
 use Rattle.std.proofs.Math.Logic.{inl}
 use mathlib.Core.List.Memᴰ
 use mathlib.Core.List.Memᴰ.{head as here}
 use mathlib.Core.List.Memᴰ.{tail as there}
-use mathlib.Core.List.{List, [], ◌∷◌, ◌++◌, Memᴰ}
+use mathlib.Core.List.{List, ◌++◌, Memᴰ}
 use Rattle.std.proofs.Math.Nat.{mul-div_cancel}
-use Rattle.std.proofs.Math.Decide.{ℕ_discrete, dec_lt}
 use borrow.Author.Tests.{lt-ltb, le-ltb, eq-eqb}
-use Rattle.path.specs.Geometry.{Granule, Sane, entries, size_at, page_size, space_of, physical}
+use Rattle.path.specs.Geometry.{Granule, Sane, size_at, page_size, space_of}
 use Rattle.path.specs.Areas.{Area, area_of, total}
-use Rattle.path.specs.Paths.{path_of, base_at}
-use Rattle.path.specs.RegionLaws.{region_above, base_region, base_inside, base_aligned, base_le, base_end, aligned_base, region_base}
+use Rattle.path.specs.Paths.{base_at}
+use Rattle.path.specs.RegionLaws.{base_region, base_inside, base_aligned, base_le, base_end, aligned_base, region_base}
 use Rattle.path.specs.Laws.{good_setup_lem, page_pos}
-use Rattle.entry.specs.declared.Entry.{Entry}
-use Rattle.entry.specs.declared.Entry.TheVariants.{Empty, Table, Frame, Damaged}
+use Rattle.entry.specs.declared.Entry.TheVariants.{Empty, Frame}
 use Rattle.model.specs.declared.Walked.{Walked}
-use Rattle.model.specs.Answers.{Answer, gave, hole, refused, Pool, Done, done, refuse}
+use Rattle.model.specs.Answers.{gave, hole, Pool, Done, done, refuse}
 use Rattle.model.specs.Walk.{at_height}
-use Rattle.model.specs.Calls.{good_pool, walk_to, unmap_tests, unmap_here, unmap_at, unmap_w}
-use Rattle.model.specs.DescentLaws.{clash}
-use Rattle.model.specs.LeftLaws.{Kept, leaves_kept}
-use Rattle.model.specs.LedgerLaws.{true_or}
-use Rattle.model.specs.Ranges.{pages_from, pages_of, page_walks, any_ends, is_damaged, on_ways, one_region_each, spoiled, any_cut_by, answers_of, left_by, refuses_with, any_refused}
-use Rattle.model.specs.RangeLaws.{FineUnmap, pages_from_lem, pages_has, page_next, false_or}
-use Rattle.model.specs.RangeWalks.{walk_region}
-use Rattle.model.specs.RangeUnmapped.{given_at, Full, few_levels, removed_at, Goes, gives, passes, fills, goes, unmap_tests_lem, Ok, Next, removes, holes, full, next, start}
-use Rattle.model.specs.RangeSkips.{left_append, answers_append, any_append, pages_append, Passed, holes_pass}
-use Rattle.model.specs.RangeLeft.{left_leaves}
-use Rattle.model.specs.LeftLaws.{unmap_leaves}
-use Rattle.sweeps.specs.Parts.{Rest, used_in, Lowered, lower_from}
-use Rattle.sweeps.specs.Pages.{pages_between, pages_some, Ends, ends_at}
+use Rattle.model.specs.Calls.{walk_to, unmap_here, unmap_at, unmap_w}
+use Rattle.model.proofs.DescentLaws.{clash}
+use Rattle.model.proofs.LeftLaws.{leaves_kept}
+use Rattle.model.specs.LeftLaws.{Kept}
+use Rattle.model.proofs.LedgerLaws.{true_or}
+use Rattle.model.specs.Ranges.{pages_from, pages_of, answers_of, left_by, refuses_with, any_refused}
+use Rattle.model.proofs.RangeLaws.{pages_from_lem, pages_has, page_next, false_or}
+use Rattle.model.proofs.RangeWalks.{walk_region}
+use Rattle.model.proofs.RangeUnmapLaws.{goes, unmap_tests_lem, next}
+use Rattle.model.specs.RangeUnmapped.{Ok}
+use Rattle.model.proofs.RangeUnmapLaws.{given_at, removed_at, Goes, gives, passes, fills, Next, removes, holes, full}
+use Rattle.model.proofs.RangeSkips.{left_append, answers_append, any_append, pages_append, holes_pass}
+use Rattle.model.specs.RangeSkips.{Passed}
+use Rattle.model.proofs.RangeLeft.{left_leaves}
+use Rattle.model.proofs.LeftLaws.{unmap_leaves}
+use Rattle.sweeps.specs.Parts.{used_in, Lowered, lower_from}
+use Rattle.sweeps.specs.Pages.{pages_between, pages_some, Ends}
 use Rattle.sweeps.specs.Counting.{live}
 use Rattle.sweeps.specs.Emptied.{frees, frees_live, counts_on, counts_long, own_empty, page_goes_on}
 

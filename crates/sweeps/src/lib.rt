@@ -1,1 +1,2 @@
 // Laws of unmapping a range mapping by mapping; no code.
+#![tactic(auto)]

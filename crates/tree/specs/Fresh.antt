@@ -4,7 +4,7 @@ use Rattle.std.proofs.Common.{ap, sym, ◌∙◌, arith}
 use mathlib.Core.List.Memᴰ
 use Rattle.std.proofs.Math.Decide.{ℕ_discrete}
 use Rattle.tree.specs.Region.{Same, same?, upd, upd_at, upd_other}
-use Rattle.tree.specs.Tree.{Ent, empty, frame, table, table≢empty, table≢frame, empty≢frame, Geo, Rendered, Unused}
+use Rattle.tree.specs.Tree.{Ent, empty, frame, table, table≢empty, table≢frame, empty≢frame, Geo, Unused}
 use Rattle.tree.specs.Inv.{Inv}
 
 module _ (G : Geo) (k : ℕ) (top : suc k ≡ G.top) (some : zero < G.n) where

@@ -1,9 +1,9 @@
 -- More tables for the same tree: m numbers come after those of the pool, their words are zero, and they stand at the end of the free list, highest first.
 -- The pool then holds the same tree and the same ledger.
-use Rattle.std.specs.Prelude.{◌≡◌, refl, ◌≢◌, List, ℕ, zero, suc, ◌+◌, ◌-◌, ◌/◌, ◌%◌, ◌≤◌, ◌<◌}
-use Rattle.std.proofs.Common.{ap, sym, ◌∙◌, mod-lt, arith}
+use Rattle.std.specs.Prelude.{◌≡◌, List, ℕ, suc, ◌+◌, ◌-◌, ◌/◌, ◌%◌, ◌≤◌, ◌<◌}
+use Rattle.std.proofs.Common.{sym, ◌∙◌, mod-lt, arith}
 use Rattle.std.proofs.Math.Decide.{dec_lt}
-use Rattle.tree.specs.Tree.{Ent, empty, table, Geo, Unused, Rendered, Zeros}
+use Rattle.tree.specs.Tree.{Ent, table, Geo, Unused, Rendered}
 use Rattle.tree.specs.Inv.{Mapping, Free, InvIf}
 
 -- a geometry with m tables more: the same numbers but that of the tables, and the same words for what was there

@@ -23,9 +23,9 @@ use Rattle.entry.specs.declared.Entry.TheVariants.{Frame}
 use Rattle.model.specs.declared.Walked.{Walked}
 use Rattle.model.specs.Answers.{gave, Pool, pool, Done, done, refuse}
 use Rattle.model.specs.Walk.{slot, at_height, no_way, stop}
-use Rattle.model.specs.Writes.{Write, memory, perform_all, only_entry, freed, prune_writes, unmap_writes}
+use Rattle.model.specs.Writes.{memory, perform_all, only_entry, freed, prune_writes, unmap_writes}
 use Rattle.model.specs.Calls.{good_pool, walk_to, unmap_tests, unmap_here, unmap_at, unmap_w}
-use Rattle.model.specs.Refusing.{passed}
+use Rattle.model.proofs.Refusing.{passed}
 use Rattle.lookup.specs.WalkLaws.{walk_within}
 use Rattle.lookup.specs.Reaches.{Came, came_again, came_word}
 use Rattle.unmaps.proofs.Frees.{freed_stop, freed_more, freed_end}

@@ -1,4 +1,6 @@
 // Unmap. It makes every test first, then its single writes, one after the other.
+#![tactic(auto)]
+
 ghost use Rattle.std.specs.Prelude.{◌≡◌, true, not, ◌||◌, ◌++◌, ℕ, ◌+◌, ◌-◌, ◌*◌, ◌/◌, ◌%◌, ◌^◌, ◌≤◌, ◌<◌, leb, length};
 ghost use Rattle.path.specs.Geometry.{granule_of, entries, size_at};
 ghost use Rattle.path.specs.Paths.{base_at, path_of};

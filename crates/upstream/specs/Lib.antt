@@ -16,23 +16,13 @@
 --   ValueMappings, ValueRefusals, ValueWalks   its mappings are those found in the words; refusals 6, 9 and 10 are failures of insert and remove; a walk
 --           is a visit
 pub mod State
-pub mod Facts
+pub mod Values
+pub mod ValueTrees
 pub mod Calls
-pub mod Trait
-pub mod Visit
-pub mod Tree
+pub mod Memory
 pub mod Node
 pub mod Remove
-pub mod Memory
-pub mod Values
+pub mod Trait
+pub mod Tree
 pub mod ValueVisits
-pub mod ValueInserts
-pub mod ValueRemoves
-pub mod ValuePrunes
-pub mod ValueCells
-pub mod ValueTrees
-pub mod ValueMaps
-pub mod ValueUnmaps
-pub mod ValueMappings
-pub mod ValueRefusals
-pub mod ValueWalks
+pub mod Visit

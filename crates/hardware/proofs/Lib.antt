@@ -1,0 +1,12 @@
+pub mod Fields
+pub mod Isolated
+pub mod Links
+pub mod MapSeen
+pub mod Mixed
+pub mod Plans
+pub mod RangeSeen
+pub mod Theorem
+pub mod Trees
+pub mod UnmapSeen
+pub mod Views
+pub mod Watch

@@ -1,0 +1,20 @@
+-- `pagetable::list` is `lists::list`, whose promise gives the ledger's. Assumes nothing.
+use mathlib.Core.Path.{ap}
+use mathlib.Core.List.{◌++◌}
+use lib.ListN.{length}
+use Rattle.path.specs.Geometry.{granule_of}
+use Rattle.path.specs.Laws.{granule_sane}
+use Rattle.model.specs.Answers.{pool, Listed}
+use Rattle.demand.specs.Demand3 as question
+use Rattle.demand.specs.ClauseLaws.{asked_by_ledger}
+use Rattle.pagetable.proofs.list.Goals as goal
+
+pub returns : goal.returns
+returns c =
+    let e = c.list.ensures in
+    let a = c.args in
+    let p = pool a.s (a.words.now ++ a.second.now) (length a.words.now) a.list.now in
+    record {
+      whole = e;
+      ledger = asked_by_ledger (granule_of a.s.granule) (granule_sane a.s.granule) p (question.list_from a.start (length a.places.now) (length a.entries.now)) _ (ap (λ (l : Listed). l.answer) e);
+    }
