@@ -1,7 +1,10 @@
 // Pools that break one rule of the audit each, and sound ones: a line for each, with what the audit answers.
-use libc::STDOUT_FILENO;
+#![tactic(auto)]
+
 use model::AuditAnswer;
 use path::Setup;
+use std::io;
+use std::io::Write;
 
 const LEVELS: u64 = 3;
 
@@ -31,12 +34,27 @@ const SECOND: usize = 1024;
 const THIRD: usize = 1536;
 
 // The name of a pool, and what the audit answers.
-fn report(name: &[u8], levels: u64, free: u64, words: &[u64], list: &[u32]) {
-    report_of(name, levels, free, path::KIB4, words, list);
+fn report(
+    rt: &impl Print,
+    name: &[u8],
+    levels: u64,
+    free: u64,
+    words: &[u64],
+    list: &[u32],
+) -> io::Result<()> {
+    report_of(rt, name, levels, free, path::KIB4, words, list)
 }
 
 // The same with a granule.
-fn report_of(name: &[u8], levels: u64, free: u64, granule: u64, words: &[u64], list: &[u32]) {
+fn report_of(
+    rt: &impl Print,
+    name: &[u8],
+    levels: u64,
+    free: u64,
+    granule: u64,
+    words: &[u64],
+    list: &[u32],
+) -> io::Result<()> {
     let s = Setup {
         levels,
         base: BASE,
@@ -46,21 +64,21 @@ fn report_of(name: &[u8], levels: u64, free: u64, granule: u64, words: &[u64], l
         tables2: 0,
         granule,
     };
-    io::write_all(STDOUT_FILENO, name);
+    io::writer(rt).write_all(name)?;
     let answer = audit::audit(s, words, &NO_WORDS, list);
     match answer {
         AuditAnswer::Sound { tables, mappings } => {
-            io::write_all(STDOUT_FILENO, b": sound, tables ");
-            io::print_decimal(STDOUT_FILENO, tables);
-            io::write_all(STDOUT_FILENO, b", mappings ");
-            io::print_decimal(STDOUT_FILENO, mappings);
+            io::writer(rt).write_all(b": sound, tables ")?;
+            print!(rt; "{tables}")?;
+            io::writer(rt).write_all(b", mappings ")?;
+            print!(rt; "{mappings}")?;
         }
         AuditAnswer::Refused(k) => {
-            io::write_all(STDOUT_FILENO, b": refused ");
-            io::print_decimal(STDOUT_FILENO, k);
+            io::writer(rt).write_all(b": refused ")?;
+            print!(rt; "{k}")?;
         }
     }
-    io::write_all(STDOUT_FILENO, b"\n");
+    io::writer(rt).write_all(b"\n")
 }
 
 // A word becomes another.
@@ -116,147 +134,186 @@ fn four_levels(words: &mut Words) {
 }
 
 // Three tables, but for one word.
-fn with_word(name: &[u8], free: u64, i: usize, w: u64, words: &mut Words, list: &mut List) {
+fn with_word(
+    rt: &impl Print,
+    name: &[u8],
+    free: u64,
+    i: usize,
+    w: u64,
+    words: &mut Words,
+    list: &mut List,
+) -> io::Result<()> {
     three_tables(words, list);
     put(words, i, w);
-    report(name, LEVELS, free, words, list);
+    report(rt, name, LEVELS, free, words, list)
 }
 
 // Three tables, but for one entry, which names table c.
-fn with_table(name: &[u8], free: u64, i: usize, c: u32, words: &mut Words, list: &mut List) {
-    with_word(name, free, i, table_word(c), words, list);
+fn with_table(
+    rt: &impl Print,
+    name: &[u8],
+    free: u64,
+    i: usize,
+    c: u32,
+    words: &mut Words,
+    list: &mut List,
+) -> io::Result<()> {
+    with_word(rt, name, free, i, table_word(c), words, list)
 }
 
-fn sound(words: &mut Words, list: &mut List) {
+fn sound(rt: &impl Print, words: &mut Words, list: &mut List) -> io::Result<()> {
     one_table(words, list);
-    report(b"root alone", LEVELS, 3, words, list);
+    report(rt, b"root alone", LEVELS, 3, words, list)?;
     two_tables(words, list);
-    report(b"two tables", LEVELS, 2, words, list);
+    report(rt, b"two tables", LEVELS, 2, words, list)?;
     three_tables(words, list);
-    report(b"three tables", LEVELS, 1, words, list);
+    report(rt, b"three tables", LEVELS, 1, words, list)?;
     four_levels(words);
-    report(b"four levels", 4, 0, words, list);
+    report(rt, b"four levels", 4, 0, words, list)
 }
 
-fn bad_numbers(words: &mut Words, list: &mut List) {
+fn bad_numbers(rt: &impl Print, words: &mut Words, list: &mut List) -> io::Result<()> {
     three_tables(words, list);
-    report(b"two levels", 2, 1, words, list);
-    report(b"all tables free", LEVELS, TABLES, words, list);
+    report(rt, b"two levels", 2, 1, words, list)?;
+    report(rt, b"all tables free", LEVELS, TABLES, words, list)
 }
 
-fn bad_entries(words: &mut Words, list: &mut List) {
-    with_word(b"no such word", 1, SECOND + 1, 5, words, list);
-    with_word(b"not aligned", 1, FIRST + 2, NOT_ALIGNED, words, list);
-    with_table(b"below the last level", 1, SECOND + 1, 3, words, list);
-    with_table(b"past the pool", 1, FIRST + 2, 4, words, list);
+fn bad_entries(rt: &impl Print, words: &mut Words, list: &mut List) -> io::Result<()> {
+    with_word(rt, b"no such word", 1, SECOND + 1, 5, words, list)?;
+    with_word(rt, b"not aligned", 1, FIRST + 2, NOT_ALIGNED, words, list)?;
+    with_table(rt, b"below the last level", 1, SECOND + 1, 3, words, list)?;
+    with_table(rt, b"past the pool", 1, FIRST + 2, 4, words, list)
 }
 
 // Three tables, and one more entry: a frame of this size.
-fn with_frame(name: &[u8], i: usize, base: u64, size: u64, words: &mut Words, list: &mut List) {
-    with_word(name, 1, i, host::frame_word(base, size, 3), words, list);
+fn with_frame(
+    rt: &impl Print,
+    name: &[u8],
+    i: usize,
+    base: u64,
+    size: u64,
+    words: &mut Words,
+    list: &mut List,
+) -> io::Result<()> {
+    with_word(rt, name, 1, i, host::frame_word(base, size, 3), words, list)
 }
 
 // Pages in the pool, and beside it.
-fn pages_at_the_pool(words: &mut Words, list: &mut List) {
+fn pages_at_the_pool(rt: &impl Print, words: &mut Words, list: &mut List) -> io::Result<()> {
     with_frame(
+        rt,
         b"page of the root",
         SECOND + 1,
         BASE,
         path::KIB4,
         words,
         list,
-    );
+    )?;
     with_frame(
+        rt,
         b"page of the last table",
         SECOND + 1,
         0x4000_3000,
         path::KIB4,
         words,
         list,
-    );
+    )?;
     with_frame(
+        rt,
         b"page past the pool",
         SECOND + 1,
         0x4000_4000,
         path::KIB4,
         words,
         list,
-    );
+    )?;
     with_frame(
+        rt,
         b"page before the pool",
         SECOND + 1,
         0x3FFF_F000,
         path::KIB4,
         words,
         list,
-    );
+    )
 }
 
 // Blocks around the pool, and beside it.
-fn blocks_at_the_pool(words: &mut Words, list: &mut List) {
+fn blocks_at_the_pool(rt: &impl Print, words: &mut Words, list: &mut List) -> io::Result<()> {
     with_frame(
+        rt,
         b"2 MiB around the pool",
         FIRST + 2,
         BASE,
         path::MIB2,
         words,
         list,
-    );
+    )?;
     with_frame(
+        rt,
         b"2 MiB before the pool",
         FIRST + 2,
         0x3FE0_0000,
         path::MIB2,
         words,
         list,
-    );
+    )?;
     with_frame(
+        rt,
         b"1 GiB around the pool",
         ROOT + 1,
         BASE,
         path::GIB,
         words,
         list,
-    );
+    )
 }
 
 // The second, a cycle, breaks more than one rule.
-fn bad_tables(words: &mut Words, list: &mut List) {
-    with_table(b"reached twice", 0, FIRST + 2, 2, words, list);
-    with_table(b"names itself", 1, FIRST, 1, words, list);
-    with_word(b"empty table", 1, SECOND, 0, words, list);
+fn bad_tables(rt: &impl Print, words: &mut Words, list: &mut List) -> io::Result<()> {
+    with_table(rt, b"reached twice", 0, FIRST + 2, 2, words, list)?;
+    with_table(rt, b"names itself", 1, FIRST, 1, words, list)?;
+    with_word(rt, b"empty table", 1, SECOND, 0, words, list)?;
     three_tables(words, list);
-    report(b"neither reached nor free", LEVELS, 0, words, list);
+    report(rt, b"neither reached nor free", LEVELS, 0, words, list)
 }
 
-fn bad_list(words: &mut Words, list: &mut List) {
+fn bad_list(rt: &impl Print, words: &mut Words, list: &mut List) -> io::Result<()> {
     three_tables(words, list);
     pool::give(list, 0, 4);
-    report(b"free number out of range", LEVELS, 1, words, list);
+    report(rt, b"free number out of range", LEVELS, 1, words, list)?;
     two_tables(words, list);
     pool::give(list, 1, 3);
-    report(b"free number twice", LEVELS, 2, words, list);
+    report(rt, b"free number twice", LEVELS, 2, words, list)?;
     one_table(words, list);
     pool::give(list, 2, 0);
-    report(b"free number reached", LEVELS, 3, words, list);
-    with_word(b"free table not zero", 1, THIRD + 511, 1, words, list);
+    report(rt, b"free number reached", LEVELS, 3, words, list)?;
+    with_word(rt, b"free table not zero", 1, THIRD + 511, 1, words, list)
 }
 
-fn bad_granule(words: &mut Words, list: &mut List) {
+fn bad_granule(rt: &impl Print, words: &mut Words, list: &mut List) -> io::Result<()> {
     three_tables(words, list);
-    report_of(b"the other granule", LEVELS, 1, path::KIB16, words, list);
-    report_of(b"no such granule", LEVELS, 1, 8192, words, list);
+    report_of(
+        rt,
+        b"the other granule",
+        LEVELS,
+        1,
+        path::KIB16,
+        words,
+        list,
+    )?;
+    report_of(rt, b"no such granule", LEVELS, 1, 8192, words, list)
 }
 
-fn main() {
+fn main(rt: HostRuntime) -> io::Result<()> {
     let mut words = [0u64; 2048];
     let mut list = [0u32; 4];
-    sound(&mut words, &mut list);
-    bad_numbers(&mut words, &mut list);
-    bad_entries(&mut words, &mut list);
-    pages_at_the_pool(&mut words, &mut list);
-    blocks_at_the_pool(&mut words, &mut list);
-    bad_tables(&mut words, &mut list);
-    bad_list(&mut words, &mut list);
-    bad_granule(&mut words, &mut list);
+    sound(&rt, &mut words, &mut list)?;
+    bad_numbers(&rt, &mut words, &mut list)?;
+    bad_entries(&rt, &mut words, &mut list)?;
+    pages_at_the_pool(&rt, &mut words, &mut list)?;
+    blocks_at_the_pool(&rt, &mut words, &mut list)?;
+    bad_tables(&rt, &mut words, &mut list)?;
+    bad_list(&rt, &mut words, &mut list)?;
+    bad_granule(&rt, &mut words, &mut list)
 }

@@ -1,19 +1,27 @@
 // Runs the calls that its file stdin has, a line each, of two sorts. A case is said: what the line says, what the call answers, and what became of
 // the lent memory. A call that the second program made, in Rust and without proofs, comes with its answer, which is compared; nothing is said of it
 // where it agrees. read.rt says how a line is written.
+#![tactic(auto)]
+
+ghost use Rattle.std.specs.Prelude.{◌≤◌, length, IfOk};
+
+use std::io;
+
 mod calls;
 mod memory;
 mod read;
 mod say;
 mod view;
 
-use libc::STDIN_FILENO;
 use memory::{More, Places, Words};
 use read::{Line, State};
+use std::io::Read;
 use view::{BLANK, ROOM};
 
 // All bytes that are read.
 const TEXT: usize = 524288;
+
+type Text = [u8; TEXT];
 
 // Lends so many words of both runs and so many places, each sort alike. All other words are 0.
 fn lend(line: &mut Line, words: &mut Words, more: &mut More, list: &mut Places) {
@@ -61,13 +69,21 @@ fn lay(call: u8, line: &mut Line, words: &mut Words, more: &mut More, list: &mut
 }
 
 // A call, its answer, and what became of the memory. The setup that it hands back is the next call's.
-fn say_call(call: u8, line: &mut Line, words: &mut Words, more: &mut More, list: &mut Places) {
+fn say_call(
+    rt: &impl Print,
+    call: u8,
+    line: &mut Line,
+    words: &mut Words,
+    more: &mut More,
+    list: &mut Places,
+) -> io::Result<()> {
     let old = *words;
     let old_more = *more;
     let places = *list;
     let told = calls::lent(call, line, words, more, list);
-    say::answer(call, told);
+    say::answer(rt, call, told)?;
     say::changes(
+        rt,
         line[1],
         words,
         more,
@@ -75,17 +91,24 @@ fn say_call(call: u8, line: &mut Line, words: &mut Words, more: &mut More, list:
         &calls::before(call, told, old),
         &calls::more_before(call, told, old_more),
         &places,
-    );
+    )?;
     calls::hand_back(told, line);
+    Ok(())
 }
 
 // A list, its answer, and what it wrote.
-fn say_view<'a>(line: &Line, words: &'a Words, more: &'a More, list: &Places) {
+fn say_view<'a>(
+    rt: &impl Print,
+    line: &Line,
+    words: &'a Words,
+    more: &'a More,
+    list: &Places,
+) -> io::Result<()> {
     let mut places = [BLANK; ROOM];
     let mut entries = [BLANK; ROOM];
     let told = view::lent(line, words, more, list, &mut places, &mut entries);
-    say::answer(b'v', told);
-    say::runs(&places, &entries);
+    say::answer(rt, b'v', told)?;
+    say::runs(rt, &places, &entries)
 }
 
 // Whether a call answers what its line says, and leaves memory of that sum.
@@ -112,14 +135,22 @@ fn host_agrees(call: u8, line: &Line) -> bool {
 }
 
 // A line that is said: what it says, and what follows from it.
-fn said(call: u8, line: &mut Line, words: &mut Words, more: &mut More, list: &mut Places) {
+fn said(
+    rt: &impl Print,
+    call: u8,
+    line: &mut Line,
+    words: &mut Words,
+    more: &mut More,
+    list: &mut Places,
+) -> io::Result<()> {
     match call {
         b'f' | b'g' | b'm' | b'u' | b'r' | b'c' | b'q' | b'a' => say_call(
-            call, line, words, more, list,
-        ),
-        b'v' => say_view(line, words, more, list),
+            rt, call, line, words, more, list,
+        )?,
+        b'v' => say_view(rt, line, words, more, list)?,
         _ => lay(call, line, words, more, list),
     }
+    Ok(())
 }
 
 // A line that is compared: whether it agrees.
@@ -145,6 +176,7 @@ fn compared(
 
 // The line that ends at i.
 fn line_end(
+    rt: &impl Print,
     s: State,
     text: &[u8],
     i: usize,
@@ -152,20 +184,26 @@ fn line_end(
     words: &mut Words,
     more: &mut More,
     list: &mut Places,
-) -> State {
+) -> io::Result<State> {
     let call = s.call;
     if read::is_compared(call) {
         let same = compared(call, line, words, more, list);
-        say::differs(same, text, s.start, i);
-        return read::counted(s, same);
+        say::differs(rt, same, text, s.start, i)?;
+        return Ok(read::counted(s, same));
     }
-    say::part(text, s.start, i);
-    said(call, line, words, more, list);
-    say::end(call, s.agreed);
-    s
+    say::part(rt, text, s.start, i)?;
+    said(rt, call, line, words, more, list)?;
+    say::end(rt, call, s.agreed)?;
+    Ok(s)
 }
 
-fn run(text: &[u8], words: &mut Words, more: &mut More, list: &mut Places) {
+fn run(
+    rt: &impl Print,
+    text: &[u8],
+    words: &mut Words,
+    more: &mut More,
+    list: &mut Places,
+) -> io::Result<()> {
     let mut line = [0u64; read::LINE];
     let mut s = read::start();
     let mut i = 0;
@@ -173,20 +211,37 @@ fn run(text: &[u8], words: &mut Words, more: &mut More, list: &mut Places) {
         let b = text[i];
         if b == b'\n' {
             s = read::last(s, &mut line);
-            s = line_end(s, text, i, &mut line, words, more, list);
+            s = line_end(rt, s, text, i, &mut line, words, more, list)?;
             s = read::next_line(s, i);
         } else {
             s = read::byte(s, b, &mut line);
         }
         i += 1;
     }
+    Ok(())
 }
 
-fn main() {
+// Fills the text from the standard input, up to its end or the text's.
+fn read_all(rt: &impl Input, text: &mut Text) -> io::Result<usize>
+    ensures { IfOk result (λ n. n ≤ TEXT) }
+{
+    let mut input = rt.reader();
+    let mut at = 0;
+    for _ in 0..u64::MAX {
+        let n = input.read(&mut text[at..])?;
+        if n == 0 {
+            break;
+        }
+        at += n;
+    }
+    Ok(at)
+}
+
+fn main(rt: HostRuntime) -> io::Result<()> {
     let mut text = [0u8; TEXT];
-    let n = io::read_full(STDIN_FILENO, &mut text);
+    let n = read_all(&rt, &mut text)?;
     let mut words = [0u64; memory::WORDS];
     let mut more = [0u64; memory::MORE];
     let mut list = [0u32; memory::PLACES];
-    run(&text[..n], &mut words, &mut more, &mut list);
+    run(&rt, &text[..n], &mut words, &mut more, &mut list)
 }

@@ -21,7 +21,7 @@ pub(crate) const LINE: usize = 28;
 // and 27 the sum of the memory after it, or of the two runs of a list. What a line may name and does not is 0, and a granule 4096; what stands before that stays as it was.
 pub(crate) type Line = [u64; LINE];
 
-#[derive(Drop)]
+#[derive(Clone, Copy)]
 pub(crate) struct State {
     // where the line begins, where in it the next byte stands, the first letter of its call, and the place of its next number
     pub(crate) start: usize,

@@ -1,8 +1,11 @@
 // A demonstration. A guest is given memory until its pool has too few free tables; what is refused then leaves no trace, and what is taken away
 // gives every table back.
-use libc::STDOUT_FILENO;
+#![tactic(auto)]
+
 use model::{AuditAnswer, FormatAnswer, ListAnswer, MapAnswer, QueryAnswer, UnmapAnswer};
 use path::{GIB, GIB512, KIB4, MIB2, Setup};
+use std::io;
+use std::io::Write;
 use std::num::{wrapping_add_u64, wrapping_sub_u64};
 
 const BASE: u64 = 0x4000_0000;
@@ -25,71 +28,73 @@ const NO_WORDS: [u64; 0] = [0; 0];
 
 // What is written.
 
-fn text(t: &[u8]) {
-    io::write_all(STDOUT_FILENO, t);
+fn text(rt: &impl Print, t: &[u8]) -> io::Result<()> {
+    io::writer(rt).write_all(t)
 }
 
-fn number(before: &[u8], n: u64) {
-    text(before);
-    io::print_decimal(STDOUT_FILENO, n);
+fn number(rt: &impl Print, before: &[u8], n: u64) -> io::Result<()> {
+    text(rt, before)?;
+    print!(rt; "{n}")
 }
 
-fn address(before: &[u8], n: u64) {
-    text(before);
-    text(b"0x");
-    io::print_hex(STDOUT_FILENO, n, 1);
+fn address(rt: &impl Print, before: &[u8], n: u64) -> io::Result<()> {
+    text(rt, before)?;
+    text(rt, b"0x")?;
+    print!(rt; "{n:x}")
 }
 
-fn size(n: u64) {
+fn size(rt: &impl Print, n: u64) -> io::Result<()> {
     if n == KIB4 {
-        text(b"a page of 4 KiB");
+        text(rt, b"a page of 4 KiB")?;
     } else if n == MIB2 {
-        text(b"a frame of 2 MiB");
+        text(rt, b"a frame of 2 MiB")?;
     } else {
-        text(b"a frame of 1 GiB");
+        text(rt, b"a frame of 1 GiB")?;
     }
+    Ok(())
 }
 
-fn right(has: bool, letter: &[u8]) {
+fn right(rt: &impl Print, has: bool, letter: &[u8]) -> io::Result<()> {
     if has {
-        text(letter);
+        text(rt, letter)?;
     } else {
-        text(b"-");
+        text(rt, b"-")?;
     }
+    Ok(())
 }
 
-fn letters(attributes: u64) {
-    right(attributes % 2 == 1, b"r");
-    right(attributes / 2 % 2 == 1, b"w");
-    right(attributes / 4 % 2 == 1, b"x");
+fn letters(rt: &impl Print, attributes: u64) -> io::Result<()> {
+    right(rt, attributes % 2 == 1, b"r")?;
+    right(rt, attributes / 2 % 2 == 1, b"w")?;
+    right(rt, attributes / 4 % 2 == 1, b"x")
 }
 
-fn rights(attributes: u64) {
-    text(b", rights ");
-    letters(attributes);
-    text(b".\n");
+fn rights(rt: &impl Print, attributes: u64) -> io::Result<()> {
+    text(rt, b", rights ")?;
+    letters(rt, attributes)?;
+    text(rt, b".\n")
 }
 
-fn refused(k: u64) {
-    number(b"  Refused with ", k);
+fn refused(rt: &impl Print, k: u64) -> io::Result<()> {
+    number(rt, b"  Refused with ", k)?;
     if k == 7 {
-        text(b": too few tables are free");
+        text(rt, b": too few tables are free")?;
     }
     if k == 10 {
-        text(b": no mapping starts there");
+        text(rt, b": no mapping starts there")?;
     }
     if k == 11 {
-        text(b": the frame shares a byte with the pool");
+        text(rt, b": the frame shares a byte with the pool")?;
     }
-    text(b".\n");
+    text(rt, b".\n")
 }
 
 // Refusal 9, with the hole.
-fn nothing(base: u64, bytes: u64) {
-    text(b"  Refused with 9: nothing is mapped there, and ");
-    size(bytes);
-    address(b" at ", base);
-    text(b" would fit.\n");
+fn nothing(rt: &impl Print, base: u64, bytes: u64) -> io::Result<()> {
+    text(rt, b"  Refused with 9: nothing is mapped there, and ")?;
+    size(rt, bytes)?;
+    address(rt, b" at ", base)?;
+    text(rt, b" would fit.\n")
 }
 
 // Whether the memory and the setup are as they were.
@@ -119,49 +124,59 @@ fn same_setup(s: Setup, t: Setup) -> bool {
         && s.granule == t.granule
 }
 
-fn compared(same: bool) {
+fn compared(rt: &impl Print, same: bool) -> io::Result<()> {
     if same {
-        text(b"  All 2048 words, 4 places of the free list and 7 setup numbers are as before.\n");
+        text(
+            rt,
+            b"  All 2048 words, 4 places of the free list and 7 setup numbers are as before.\n",
+        )?;
     } else {
-        text(b"  SOMETHING CHANGED.\n");
+        text(rt, b"  SOMETHING CHANGED.\n")?;
     }
+    Ok(())
 }
 
 // The calls, each with its lines.
 
-fn audit(s: Setup, words: &Words, list: &List) {
+fn audit(rt: &impl Print, s: Setup, words: &Words, list: &List) -> io::Result<()> {
     let answer = pagetable::audit(s, words, &NO_WORDS, list);
     match answer {
         AuditAnswer::Sound { tables, mappings } => {
-            number(b"  The audit finds the pool sound: tables in use ", tables);
-            number(b", free ", s.free);
-            number(b", mappings ", mappings);
-            text(b".\n");
+            number(
+                rt,
+                b"  The audit finds the pool sound: tables in use ",
+                tables,
+            )?;
+            number(rt, b", free ", s.free)?;
+            number(rt, b", mappings ", mappings)?;
+            text(rt, b".\n")?;
         }
         AuditAnswer::Refused(k) => {
-            number(b"  THE AUDIT REFUSES WITH ", k);
-            text(b".\n");
+            number(rt, b"  THE AUDIT REFUSES WITH ", k)?;
+            text(rt, b".\n")?;
         }
     }
+    Ok(())
 }
 
-fn format(words: &mut Words, list: &mut List) -> Setup {
-    number(b"Format a pool of ", TABLES);
-    address(b" tables at ", BASE);
-    address(b", for addresses below ", GIB512);
-    text(b".\n");
+fn format(rt: &impl Print, words: &mut Words, list: &mut List) -> io::Result<Setup> {
+    number(rt, b"Format a pool of ", TABLES)?;
+    address(rt, b" tables at ", BASE)?;
+    address(rt, b", for addresses below ", GIB512)?;
+    text(rt, b".\n")?;
     let mut second = NO_WORDS;
     let r = pagetable::format(3, BASE, TABLES, 0, 0, KIB4, words, &mut second, list);
     let answer = r.answer;
     let back = r.setup;
     match answer {
-        FormatAnswer::Done => audit(back, words, list),
-        FormatAnswer::Refused(k) => refused(k),
+        FormatAnswer::Done => audit(rt, back, words, list)?,
+        FormatAnswer::Refused(k) => refused(rt, k)?,
     }
-    back
+    Ok(back)
 }
 
 fn map(
+    rt: &impl Print,
     s: Setup,
     words: &mut Words,
     list: &List,
@@ -169,37 +184,46 @@ fn map(
     frame: u64,
     bytes: u64,
     attributes: u64,
-) -> Setup {
+) -> io::Result<Setup> {
     let old = *words;
     let places = *list;
-    text(b"Map ");
-    size(bytes);
-    address(b" at ", at);
-    address(b" to memory ", frame);
-    rights(attributes);
+    text(rt, b"Map ")?;
+    size(rt, bytes)?;
+    address(rt, b" at ", at)?;
+    address(rt, b" to memory ", frame)?;
+    rights(rt, attributes)?;
     let mut second = NO_WORDS;
     let r = pagetable::map(s, words, &mut second, list, at, frame, bytes, attributes);
     let answer = r.answer;
     let back = r.setup;
     match answer {
         MapAnswer::Taken(n) => {
-            number(b"  Done: tables taken ", n);
-            text(b".\n");
+            number(rt, b"  Done: tables taken ", n)?;
+            text(rt, b".\n")?;
         }
         MapAnswer::Refused(k) => {
-            refused(k);
-            compared(same_setup(s, back) && same_words(words, &old) && same_list(list, &places));
+            refused(rt, k)?;
+            compared(
+                rt,
+                same_setup(s, back) && same_words(words, &old) && same_list(list, &places),
+            )?;
         }
     }
-    audit(back, words, list);
-    back
+    audit(rt, back, words, list)?;
+    Ok(back)
 }
 
-fn unmap(s: Setup, words: &mut Words, list: &mut List, at: u64) -> Setup {
+fn unmap(
+    rt: &impl Print,
+    s: Setup,
+    words: &mut Words,
+    list: &mut List,
+    at: u64,
+) -> io::Result<Setup> {
     let old = *words;
     let places = *list;
-    address(b"Unmap at ", at);
-    text(b".\n");
+    address(rt, b"Unmap at ", at)?;
+    text(rt, b".\n")?;
     let mut second = NO_WORDS;
     let r = pagetable::unmap(s, words, &mut second, list, at);
     let answer = r.answer;
@@ -211,28 +235,34 @@ fn unmap(s: Setup, words: &mut Words, list: &mut List, at: u64) -> Setup {
             attributes: _,
             tables,
         } => {
-            text(b"  Done: ");
-            size(bytes);
-            address(b" of memory ", frame);
-            number(b" is the host's again; tables given back ", tables);
-            text(b".\n");
+            text(rt, b"  Done: ")?;
+            size(rt, bytes)?;
+            address(rt, b" of memory ", frame)?;
+            number(rt, b" is the host's again; tables given back ", tables)?;
+            text(rt, b".\n")?;
         }
         UnmapAnswer::Hole { base, size } => {
-            nothing(base, size);
-            compared(same_setup(s, back) && same_words(words, &old) && same_list(list, &places));
+            nothing(rt, base, size)?;
+            compared(
+                rt,
+                same_setup(s, back) && same_words(words, &old) && same_list(list, &places),
+            )?;
         }
         UnmapAnswer::Refused(k) => {
-            refused(k);
-            compared(same_setup(s, back) && same_words(words, &old) && same_list(list, &places));
+            refused(rt, k)?;
+            compared(
+                rt,
+                same_setup(s, back) && same_words(words, &old) && same_list(list, &places),
+            )?;
         }
     }
-    audit(back, words, list);
-    back
+    audit(rt, back, words, list)?;
+    Ok(back)
 }
 
-fn query(s: Setup, words: &Words, list: &List, at: u64) {
-    address(b"Query ", at);
-    text(b".\n");
+fn query(rt: &impl Print, s: Setup, words: &Words, list: &List, at: u64) -> io::Result<()> {
+    address(rt, b"Query ", at)?;
+    text(rt, b".\n")?;
     let answer = pagetable::query(s, words, &NO_WORDS, list, at);
     match answer {
         QueryAnswer::Found {
@@ -241,143 +271,194 @@ fn query(s: Setup, words: &Words, list: &List, at: u64) {
             size,
             attributes,
         } => {
-            found(base, frame, size, attributes);
-            leads_to(wrapping_add_u64(frame, wrapping_sub_u64(at, base)));
+            found(rt, base, frame, size, attributes)?;
+            leads_to(rt, wrapping_add_u64(frame, wrapping_sub_u64(at, base)))?;
         }
-        QueryAnswer::Hole { base, size } => nothing(base, size),
-        QueryAnswer::Refused(k) => refused(k),
+        QueryAnswer::Hole { base, size } => nothing(rt, base, size)?,
+        QueryAnswer::Refused(k) => refused(rt, k)?,
     }
+    Ok(())
 }
 
-fn leads_to(memory: u64) {
-    address(b"  So it is memory ", memory);
-    text(b".\n");
+fn leads_to(rt: &impl Print, memory: u64) -> io::Result<()> {
+    address(rt, b"  So it is memory ", memory)?;
+    text(rt, b".\n")
 }
 
-fn found(base: u64, frame: u64, bytes: u64, attributes: u64) {
-    text(b"  It lies in ");
-    size(bytes);
-    address(b" at ", base);
-    address(b", mapped to memory ", frame);
-    rights(attributes);
+fn found(rt: &impl Print, base: u64, frame: u64, bytes: u64, attributes: u64) -> io::Result<()> {
+    text(rt, b"  It lies in ")?;
+    size(rt, bytes)?;
+    address(rt, b" at ", base)?;
+    address(rt, b", mapped to memory ", frame)?;
+    rights(rt, attributes)
 }
 
 // What a guest sees: a line for each mapping that a list wrote.
 
-fn wide(n: u64) {
-    text(b"0x");
-    io::print_hex(STDOUT_FILENO, n, 8);
+fn wide(rt: &impl Print, n: u64) -> io::Result<()> {
+    text(rt, b"0x")?;
+    print!(rt; "{n:08x}")
 }
 
 // The two numbers of a mapping: address plus power of two of the size, and entry word.
-fn seen(place: u64, word: u64) {
+fn seen(rt: &impl Print, place: u64, word: u64) -> io::Result<()> {
     let power = place % 4096;
-    text(b"  ");
-    wide(wrapping_sub_u64(place, power));
+    text(rt, b"  ")?;
+    wide(rt, wrapping_sub_u64(place, power))?;
     match power {
-        12 => seen_at(b"  4 KiB  -> ", host::word_meaning(word, KIB4)),
-        21 => seen_at(b"  2 MiB  -> ", host::word_meaning(word, MIB2)),
-        _ => seen_at(b"  1 GiB  -> ", host::word_meaning(word, GIB)),
+        12 => seen_at(rt, b"  4 KiB  -> ", host::word_meaning(word, KIB4))?,
+        21 => seen_at(rt, b"  2 MiB  -> ", host::word_meaning(word, MIB2))?,
+        _ => seen_at(rt, b"  1 GiB  -> ", host::word_meaning(word, GIB))?,
     }
+    Ok(())
 }
 
 // A meaning is base + 16 + attributes.
-fn seen_at(size: &[u8], meaning: u64) {
+fn seen_at(rt: &impl Print, size: &[u8], meaning: u64) -> io::Result<()> {
     let attributes = meaning % 16;
-    text(size);
-    wide(wrapping_sub_u64(wrapping_sub_u64(meaning, attributes), 16));
-    text(b"  ");
-    letters(attributes);
-    text(b"  ");
+    text(rt, size)?;
+    wide(
+        rt,
+        wrapping_sub_u64(wrapping_sub_u64(meaning, attributes), 16),
+    )?;
+    text(rt, b"  ")?;
+    letters(rt, attributes)?;
+    text(rt, b"  ")?;
     if attributes < 8 {
-        text(b"normal\n");
+        text(rt, b"normal\n")?;
     } else {
-        text(b"device\n");
+        text(rt, b"device\n")?;
     }
+    Ok(())
 }
 
-fn lines(places: &Run, entries: &Run, written: u64) {
+fn lines(rt: &impl Print, places: &Run, entries: &Run, written: u64) -> io::Result<()> {
     let mut i = 0;
     while i < ROOM {
         if (i as u64) < written {
-            seen(places[i], entries[i]);
+            seen(rt, places[i], entries[i])?;
         }
         i += 1;
     }
-    number(b"  Mappings listed: ", written);
-    text(b".\n");
+    number(rt, b"  Mappings listed: ", written)?;
+    text(rt, b".\n")
 }
 
-fn view(s: Setup, words: &Words, list: &List) {
-    text(b"\nWhat the scan guest can see.\n");
+fn view(rt: &impl Print, s: Setup, words: &Words, list: &List) -> io::Result<()> {
+    text(rt, b"\nWhat the scan guest can see.\n")?;
     let mut places = [0u64; ROOM];
     let mut entries = [0u64; ROOM];
     let answer = pagetable::list(s, words, &NO_WORDS, list, 0, &mut places, &mut entries);
     match answer {
-        ListAnswer::All(n) => lines(&places, &entries, n),
-        ListAnswer::Some { written, next: _ } => lines(&places, &entries, written),
-        ListAnswer::Refused(k) => refused(k),
+        ListAnswer::All(n) => lines(rt, &places, &entries, n)?,
+        ListAnswer::Some { written, next: _ } => lines(rt, &places, &entries, written)?,
+        ListAnswer::Refused(k) => refused(rt, k)?,
     }
+    Ok(())
 }
 
 // The story.
 
-fn scan_starts(s: Setup, words: &mut Words, list: &mut List) -> Setup {
-    text(b"\nThe scan guest gets its program and a buffer for pictures.\n");
-    let s = map(s, words, list, 0x1000, 0x8000_1000, KIB4, 5);
-    let s = map(s, words, list, 0x20_0000, 0x8020_0000, MIB2, 3);
-    query(s, words, list, 0x20_1234);
-    text(b"\nHow large a frame fits where nothing is mapped? Query says it.\n");
-    query(s, words, list, 0x40_1234);
-    query(s, words, list, 0x2345);
-    s
-}
-
-fn scan_asks_for_too_much(s: Setup, words: &mut Words, list: &mut List) -> Setup {
+fn scan_starts(rt: &impl Print, s: Setup, words: &mut Words, list: &mut List) -> io::Result<Setup> {
     text(
+        rt,
+        b"\nThe scan guest gets its program and a buffer for pictures.\n",
+    )?;
+    let s = map(rt, s, words, list, 0x1000, 0x8000_1000, KIB4, 5)?;
+    let s = map(rt, s, words, list, 0x20_0000, 0x8020_0000, MIB2, 3)?;
+    query(rt, s, words, list, 0x20_1234)?;
+    text(
+        rt,
+        b"\nHow large a frame fits where nothing is mapped? Query says it.\n",
+    )?;
+    query(rt, s, words, list, 0x40_1234)?;
+    query(rt, s, words, list, 0x2345)?;
+    Ok(s)
+}
+
+fn scan_asks_for_too_much(
+    rt: &impl Print,
+    s: Setup,
+    words: &mut Words,
+    list: &mut List,
+) -> io::Result<Setup> {
+    text(
+        rt,
         b"\nThe scan guest asks for a page far away. It needs two tables more, and one is free.\n",
-    );
-    map(s, words, list, 0x4000_0000, 0x8040_0000, KIB4, 3)
+    )?;
+    map(rt, s, words, list, 0x4000_0000, 0x8040_0000, KIB4, 3)
 }
 
-fn no_table_is_left(s: Setup, words: &mut Words, list: &mut List) -> Setup {
-    text(b"\nNo empty table is left there: even 1 GiB fits at the same address.\n");
-    let s = map(s, words, list, 0x4000_0000, 0x1_0000_0000, GIB, 3);
-    let s = unmap(s, words, list, 0x4000_0000);
-    text(b"\nOr 2 MiB, which need one table and find it.\n");
-    let s = map(s, words, list, 0x4000_0000, 0x8040_0000, MIB2, 3);
-    view(s, words, list);
-    text(b"\nNothing is rounded: an unmap in the middle of the 2 MiB is refused.\n");
-    unmap(s, words, list, 0x4000_1000)
+fn no_table_is_left(
+    rt: &impl Print,
+    s: Setup,
+    words: &mut Words,
+    list: &mut List,
+) -> io::Result<Setup> {
+    text(
+        rt,
+        b"\nNo empty table is left there: even 1 GiB fits at the same address.\n",
+    )?;
+    let s = map(rt, s, words, list, 0x4000_0000, 0x1_0000_0000, GIB, 3)?;
+    let s = unmap(rt, s, words, list, 0x4000_0000)?;
+    text(rt, b"\nOr 2 MiB, which need one table and find it.\n")?;
+    let s = map(rt, s, words, list, 0x4000_0000, 0x8040_0000, MIB2, 3)?;
+    view(rt, s, words, list)?;
+    text(
+        rt,
+        b"\nNothing is rounded: an unmap in the middle of the 2 MiB is refused.\n",
+    )?;
+    unmap(rt, s, words, list, 0x4000_1000)
 }
 
-fn scan_asks_for_its_tables(s: Setup, words: &mut Words, list: &mut List) -> Setup {
-    text(b"\nNo guest is given its own tables: the page of table 1 is refused.\n");
-    map(s, words, list, 0x2000, 0x4000_1000, KIB4, 3)
+fn scan_asks_for_its_tables(
+    rt: &impl Print,
+    s: Setup,
+    words: &mut Words,
+    list: &mut List,
+) -> io::Result<Setup> {
+    text(
+        rt,
+        b"\nNo guest is given its own tables: the page of table 1 is refused.\n",
+    )?;
+    map(rt, s, words, list, 0x2000, 0x4000_1000, KIB4, 3)
 }
 
-fn scan_gives_back(s: Setup, words: &mut Words, list: &mut List) -> Setup {
-    text(b"\nThe scan guest gives up all that it has, and every table comes back.\n");
-    let s = unmap(s, words, list, 0x4000_0000);
-    let s = unmap(s, words, list, 0x20_0000);
-    unmap(s, words, list, 0x1000)
+fn scan_gives_back(
+    rt: &impl Print,
+    s: Setup,
+    words: &mut Words,
+    list: &mut List,
+) -> io::Result<Setup> {
+    text(
+        rt,
+        b"\nThe scan guest gives up all that it has, and every table comes back.\n",
+    )?;
+    let s = unmap(rt, s, words, list, 0x4000_0000)?;
+    let s = unmap(rt, s, words, list, 0x20_0000)?;
+    unmap(rt, s, words, list, 0x1000)
 }
 
-fn scan_asks_again(s: Setup, words: &mut Words, list: &mut List) {
-    text(b"\nThe map that was refused is done now.\n");
-    query(s, words, list, 0x4000_0000);
-    let s = map(s, words, list, 0x4000_0000, 0x8040_0000, KIB4, 3);
-    query(s, words, list, 0x4000_0FFF);
+fn scan_asks_again(
+    rt: &impl Print,
+    s: Setup,
+    words: &mut Words,
+    list: &mut List,
+) -> io::Result<()> {
+    text(rt, b"\nThe map that was refused is done now.\n")?;
+    query(rt, s, words, list, 0x4000_0000)?;
+    let s = map(rt, s, words, list, 0x4000_0000, 0x8040_0000, KIB4, 3)?;
+    query(rt, s, words, list, 0x4000_0FFF)
 }
 
-fn main() {
+fn main(rt: HostRuntime) -> io::Result<()> {
     let mut words = [0u64; POOL_WORDS];
     let mut list = [0u32; 4];
-    let s = format(&mut words, &mut list);
-    let s = scan_starts(s, &mut words, &mut list);
-    let s = scan_asks_for_too_much(s, &mut words, &mut list);
-    let s = no_table_is_left(s, &mut words, &mut list);
-    let s = scan_asks_for_its_tables(s, &mut words, &mut list);
-    let s = scan_gives_back(s, &mut words, &mut list);
-    scan_asks_again(s, &mut words, &mut list);
+    let s = format(&rt, &mut words, &mut list)?;
+    let s = scan_starts(&rt, s, &mut words, &mut list)?;
+    let s = scan_asks_for_too_much(&rt, s, &mut words, &mut list)?;
+    let s = no_table_is_left(&rt, s, &mut words, &mut list)?;
+    let s = scan_asks_for_its_tables(&rt, s, &mut words, &mut list)?;
+    let s = scan_gives_back(&rt, s, &mut words, &mut list)?;
+    scan_asks_again(&rt, s, &mut words, &mut list)
 }

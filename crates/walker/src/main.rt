@@ -1,4 +1,8 @@
 // The hardware's walk, run: pools are made by the page table's calls, and a line for each address says what the walk translates it to.
+#![tactic(auto)]
+
+use std::io;
+
 mod show;
 
 use armwalk::Seen;
@@ -74,14 +78,22 @@ fn walk(granule: u64, words: &[u64], levels: u64, address: u64) -> Seen {
 }
 
 // What each address of a list is translated to.
-fn lines(title: &[u8], addresses: &[u64], granule: u64, words: &[u64], levels: u64) {
-    show::title(title);
+fn lines(
+    rt: &impl Print,
+    title: &[u8],
+    addresses: &[u64],
+    granule: u64,
+    words: &[u64],
+    levels: u64,
+) -> io::Result<()> {
+    show::title(rt, title)?;
     let mut i = 0;
     while i < addresses.len() {
         let a = addresses[i];
-        show::line(a, walk(granule, words, levels, a));
+        show::line(rt, a, walk(granule, words, levels, a))?;
         i += 1;
     }
+    Ok(())
 }
 
 // A map, of which the setup goes on.
@@ -123,7 +135,7 @@ fn fresh(granule: u64, words: &mut [u64], list: &mut List, levels: u64) -> Setup
 
 // The numbers of document 01's cases with one granule: where the second page stands and to which frame it goes, where a device page, a block and its frame, and the last
 // page of the space.
-#[derive(Drop)]
+#[derive(Clone, Copy)]
 struct Numbers {
     granule: u64,
     second: u64,
@@ -156,62 +168,105 @@ const LARGE: Numbers = Numbers {
 };
 
 // Cases 10 and 11.
-fn last_page(n: Numbers, addresses: &[u64], s: Setup, words: &mut [u64], list: &mut List) {
+fn last_page(
+    rt: &impl Print,
+    n: Numbers,
+    addresses: &[u64],
+    s: Setup,
+    words: &mut [u64],
+    list: &mut List,
+) -> io::Result<()> {
     let s = unmap(s, words, list, n.block);
     map(s, words, list, n.last, FRAME, n.granule, 3);
     let title = b"case 11, the last page of the space:";
-    lines(title, addresses, n.granule, words, 3);
+    lines(rt, title, addresses, n.granule, words, 3)
 }
 
 // Case 9, after which the device page goes too.
-fn pages_go(n: Numbers, addresses: &[u64], s: Setup, words: &mut [u64], list: &mut List) {
+fn pages_go(
+    rt: &impl Print,
+    n: Numbers,
+    addresses: &[u64],
+    s: Setup,
+    words: &mut [u64],
+    list: &mut List,
+) -> io::Result<()> {
     let s = unmap(s, words, list, 0);
     let s = unmap(s, words, list, n.second);
     let s = unmap(s, words, list, n.device);
     let title = b"case 9, the block alone:";
-    lines(title, addresses, n.granule, words, 3);
-    last_page(n, addresses, s, words, list);
+    lines(rt, title, addresses, n.granule, words, 3)?;
+    last_page(rt, n, addresses, s, words, list)
 }
 
 // Case 4, and a device page.
-fn block(n: Numbers, addresses: &[u64], s: Setup, words: &mut [u64], list: &mut List) {
+fn block(
+    rt: &impl Print,
+    n: Numbers,
+    addresses: &[u64],
+    s: Setup,
+    words: &mut [u64],
+    list: &mut List,
+) -> io::Result<()> {
     let s = map(s, words, list, n.block, n.block_frame, n.block, 3);
     let s = map(s, words, list, n.device, 0x900_0000, n.granule, 11);
     let title = b"case 4, two pages and a block, with a device page:";
-    lines(title, addresses, n.granule, words, 3);
-    pages_go(n, addresses, s, words, list);
+    lines(rt, title, addresses, n.granule, words, 3)?;
+    pages_go(rt, n, addresses, s, words, list)
 }
 
 // Cases 2 and 3.
-fn two_pages(n: Numbers, addresses: &[u64], s: Setup, words: &mut [u64], list: &mut List) {
+fn two_pages(
+    rt: &impl Print,
+    n: Numbers,
+    addresses: &[u64],
+    s: Setup,
+    words: &mut [u64],
+    list: &mut List,
+) -> io::Result<()> {
     let s = map(s, words, list, 0, FRAME, n.granule, 3);
     let s = map(s, words, list, n.second, n.second_frame, n.granule, 5);
-    block(n, addresses, s, words, list);
+    block(rt, n, addresses, s, words, list)
 }
 
 // Case 1, and those after it.
-fn cases(n: Numbers, addresses: &[u64], words: &mut [u64], list: &mut List) {
+fn cases(
+    rt: &impl Print,
+    n: Numbers,
+    addresses: &[u64],
+    words: &mut [u64],
+    list: &mut List,
+) -> io::Result<()> {
     let s = fresh(n.granule, words, list, 3);
-    lines(b"case 1, a fresh format:", addresses, n.granule, words, 3);
-    two_pages(n, addresses, s, words, list);
+    lines(
+        rt,
+        b"case 1, a fresh format:",
+        addresses,
+        n.granule,
+        words,
+        3,
+    )?;
+    two_pages(rt, n, addresses, s, words, list)
 }
 
 // Four levels with a block of 1 GiB, and with the last block of 2 MiB.
-fn four_levels(words: &mut [u64], list: &mut List) {
+fn four_levels(rt: &impl Print, words: &mut [u64], list: &mut List) -> io::Result<()> {
     let s = fresh(KIB4, words, list, 4);
     let s = map(s, words, list, GIB, FRAME, GIB, 7);
     map(s, words, list, 0xFFFF_FFE0_0000, FRAME, MIB2, 1);
     lines(
+        rt,
         b"four levels, a block of 1 GiB and the last of 2 MiB:",
         &FOUR,
         KIB4,
         words,
         4,
-    );
+    )
 }
 
 // With one word that the page table never writes.
 fn strange(
+    rt: &impl Print,
     title: &[u8],
     addresses: &[u64],
     granule: u64,
@@ -219,25 +274,25 @@ fn strange(
     levels: u64,
     i: usize,
     w: u64,
-) {
+) -> io::Result<()> {
     let mut second = NO_WORDS;
     pool::put(words, &mut second, i, w);
-    lines(title, addresses, granule, words, levels);
+    lines(rt, title, addresses, granule, words, levels)
 }
 
-fn main() {
+fn main(rt: HostRuntime) -> io::Result<()> {
     let mut words = [0u64; 2048];
     let mut large = [0u64; 8192];
     let mut list = [0u32; 4];
-    cases(SMALL, &THREE, &mut words, &mut list);
-    four_levels(&mut words, &mut list);
+    cases(&rt, SMALL, &THREE, &mut words, &mut list)?;
+    four_levels(&rt, &mut words, &mut list)?;
     let flag = b"the first without its access flag:";
     let word = BLOCK - ACCESS_FLAG;
-    strange(flag, &FOUR, KIB4, &mut words, 4, 513, word);
-    show::title(b"with pages of 16 KiB:");
-    cases(LARGE, &SIXTEEN, &mut large, &mut list);
+    strange(&rt, flag, &FOUR, KIB4, &mut words, 4, 513, word)?;
+    show::title(&rt, b"with pages of 16 KiB:")?;
+    cases(&rt, LARGE, &SIXTEEN, &mut large, &mut list)?;
     let small_root = b"a block of 512 GiB, which there is not:";
-    strange(small_root, &FOUR, KIB4, &mut words, 4, 0, BLOCK);
+    strange(&rt, small_root, &FOUR, KIB4, &mut words, 4, 0, BLOCK)?;
     let large_root = b"a block of 64 GiB, which there is not:";
-    strange(large_root, &SIXTEEN, KIB16, &mut large, 3, 1, BLOCK);
+    strange(&rt, large_root, &SIXTEEN, KIB16, &mut large, 3, 1, BLOCK)
 }

@@ -1,96 +1,101 @@
 // What an address is translated to, as a line of text.
 use armwalk::Seen;
-use libc::STDOUT_FILENO;
+use std::io;
+use std::io::Write;
 
-fn text(s: &[u8]) {
-    io::write_all(STDOUT_FILENO, s);
+fn text(rt: &impl Print, s: &[u8]) -> io::Result<()> {
+    io::writer(rt).write_all(s)
 }
 
 // A letter for what is allowed.
-fn allowed(yes: bool, letter: &[u8]) {
+fn allowed(rt: &impl Print, yes: bool, letter: &[u8]) -> io::Result<()> {
     if yes {
-        text(letter);
+        text(rt, letter)?;
     } else {
-        text(b"-");
+        text(rt, b"-")?;
     }
+    Ok(())
 }
 
 // Device memory, by MemAttr[1:0].
-fn device(low: u64) {
+fn device(rt: &impl Print, low: u64) -> io::Result<()> {
     match low {
-        0 => text(b" Device-nGnRnE"),
-        1 => text(b" Device-nGnRE"),
-        2 => text(b" Device-nGRE"),
-        _ => text(b" Device-GRE"),
+        0 => text(rt, b" Device-nGnRnE")?,
+        1 => text(rt, b" Device-nGnRE")?,
+        2 => text(rt, b" Device-nGRE")?,
+        _ => text(rt, b" Device-GRE")?,
     }
+    Ok(())
 }
 
 // Normal memory in one kind of caches.
-fn cached(n: u64) {
+fn cached(rt: &impl Print, n: u64) -> io::Result<()> {
     match n {
-        0 => text(b" reserved"),
-        1 => text(b" non-cacheable"),
-        2 => text(b" write-through"),
-        _ => text(b" write-back"),
+        0 => text(rt, b" reserved")?,
+        1 => text(rt, b" non-cacheable")?,
+        2 => text(rt, b" write-through")?,
+        _ => text(rt, b" write-back")?,
     }
+    Ok(())
 }
 
 // SH of Normal memory.
-fn share(n: u64) {
+fn share(rt: &impl Print, n: u64) -> io::Result<()> {
     match n {
-        0 => text(b" non-shareable"),
-        1 => text(b" unpredictable"),
-        2 => text(b" outer shareable"),
-        _ => text(b" inner shareable"),
+        0 => text(rt, b" non-shareable")?,
+        1 => text(rt, b" unpredictable")?,
+        2 => text(rt, b" outer shareable")?,
+        _ => text(rt, b" inner shareable")?,
     }
+    Ok(())
 }
 
 // Whether it may be read, written, run at EL1, run at EL0.
-fn rights(w: u64) {
+fn rights(rt: &impl Print, w: u64) -> io::Result<()> {
     let high = w / 0x40_0000_0000_0000 % 2;
-    allowed(w / 64 % 2 == 1, b"r");
-    allowed(w / 128 % 2 == 1, b"w");
-    allowed(w / 0x20_0000_0000_0000 % 2 == high, b"x");
-    allowed(high == 0, b"x");
+    allowed(rt, w / 64 % 2 == 1, b"r")?;
+    allowed(rt, w / 128 % 2 == 1, b"w")?;
+    allowed(rt, w / 0x20_0000_0000_0000 % 2 == high, b"x")?;
+    allowed(rt, high == 0, b"x")
 }
 
 // The kind of memory, and its shareability. Device memory is outer shareable whatever SH says, and so is Normal memory that no cache keeps.
-fn memory(w: u64) {
+fn memory(rt: &impl Print, w: u64) -> io::Result<()> {
     if w / 16 % 4 == 0 {
-        device(w / 4 % 4);
-        share(2);
-        return;
+        device(rt, w / 4 % 4)?;
+        share(rt, 2)?;
+        return Ok(());
     }
-    text(b" Normal");
+    text(rt, b" Normal")?;
     let kinds = w / 4 % 16;
-    cached(kinds / 4);
-    cached(kinds % 4);
+    cached(rt, kinds / 4)?;
+    cached(rt, kinds % 4)?;
     if kinds == 5 {
-        share(2);
-        return;
+        share(rt, 2)?;
+        return Ok(());
     }
-    share(w / 256 % 4);
+    share(rt, w / 256 % 4)
 }
 
 // The line of an address.
-pub(crate) fn line(address: u64, seen: Seen) {
-    text(b"  ");
-    io::print_hex(STDOUT_FILENO, address, 1);
+pub(crate) fn line(rt: &impl Print, address: u64, seen: Seen) -> io::Result<()> {
+    text(rt, b"  ")?;
+    print!(rt; "{address:x}")?;
     match seen {
-        Seen::Fault => text(b": fault"),
+        Seen::Fault => text(rt, b": fault")?,
         Seen::Hit { address: a, word } => {
-            text(b": ");
-            io::print_hex(STDOUT_FILENO, a, 1);
-            text(b" ");
-            rights(word);
-            memory(word);
+            text(rt, b": ")?;
+            print!(rt; "{a:x}")?;
+            text(rt, b" ")?;
+            rights(rt, word)?;
+            memory(rt, word)?;
         }
     }
-    text(b"\n");
+    text(rt, b"\n")
 }
 
 // The line before those of a pool.
-pub(crate) fn title(s: &[u8]) {
-    text(s);
-    text(b"\n");
+pub(crate) fn title(rt: &impl Print, s: &[u8]) -> io::Result<()> {
+    text(rt, s)?;
+    text(rt, b"\n")
 }
