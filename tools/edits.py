@@ -1,14 +1,19 @@
-"""Reads edits, wrong versions of a crate, and the logs of those that were tried, for the checks beside this file and ./mutants."""
+"""Reads edits, wrong versions of a crate, and what rt says of those that were tried, for the checks beside this file and ./mutants."""
 import re
 
+# what the first error says where the text does not fit the proof files any more, and no fact is at stake
 SHAPES = (
-    'has no `Need-',                                            # a need of another name
+    'has no field',                                             # a step or a clause of another name
     'can be named from here',                                   # any other name that the proof file cites and that is gone
+    'is not in scope',
+    'was not admitted',                                         # what leans on such a file
     'has no function',                                          # a proof file of a function that is gone
     'no occurrence',                                            # a rewrite that finds nothing to rewrite
-    'this pattern needs a function (or path) type to bind',     # an invariant over fewer locals
-    'expected type `tie.Need-',                                 # the needs in another order or number
+    'this pattern needs a function (or path) type to bind',     # an answer over fewer steps
 )
+# a line of rt on one edit; what it says of one that is refused, for which reason, and the first error
+TOLD = re.compile(r'^rt: must-fail ([^\s/]+)/(\S+)\.edit: (.*)$', re.M)
+REFUSED = re.compile(r'refused, as it must be(?: \((only [^()]*)\))?(?:: (.*))?')
 
 
 def edited_files(path):
@@ -46,26 +51,23 @@ def edited_texts(path, crate):
     return texts, '' if pairs else 'it has no pair of old and new'
 
 
-def first_error(log):
-    """The first error of a log with the indented lines below it; where Rattle made the proof, the first note of a place."""
-    for start in (r'^[^ \n]*: error.*$', r'^note: [^ \n]*:\d+:\d+:.*$'):
-        m = re.search(start + r'(?:\n  .*)*', log, re.M)
-        if m:
-            return m.group()
-    return ''
+def told_by(said):
+    """What rt says of each edit, by its crate and its label, in what `rt ci` or `rt must-fail` wrote."""
+    return {(m[1], m[2]): m[3] for m in TOLD.finditer(said)}
 
 
-def outcome(root, crate, label):
-    """The first error of an edit that was tried below root, and why its log shows nothing, or ''. An edit shows something only where a
-    fact no longer holds, and nothing where the proof file does not fit the code any more (SHAPES)."""
-    at = root / 'target' / 'must-fail' / crate
-    log, result = at / label / '.log', at / (label + '.res')
-    if not log.is_file() or not result.is_file():
+def outcome(told, crate, label):
+    """The first error of an edit that was tried, as far as rt writes it, and why it shows nothing, or ''. An edit shows something only where a
+    fact no longer holds, and nothing where the proof file does not fit the code any more (rt says so, or SHAPES) or the prover met a limit of its own."""
+    if (crate, label) not in told:
         return '', 'it was not tried'
-    error = first_error(log.read_text(encoding='utf-8', errors='replace'))
-    if result.read_text(encoding='utf-8').strip() != 'refused':
-        return error, 'it did not count as refused'
+    m = REFUSED.fullmatch(told[crate, label])
+    if not m:
+        return '', f'it did not count as refused: {told[crate, label]}'
+    only, error = m[1], m[2] or ''
+    if only:
+        return error, f'it was refused, but {only}'
     if not error:
-        return '', 'its log has no error'
+        return '', 'no error is said'
     shape = next((s for s in SHAPES if s in error), '')
     return error, f'it was refused for the shape of the proof file and not for a fact: its first error says "{shape}"' if shape else ''

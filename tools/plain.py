@@ -51,6 +51,8 @@ def items(r, read, module, closes=''):
         while r.peek() == '#':
             r.until('[')
             r.group()
+        if r.peek() == closes:
+            break   # what stood last is said of the whole file
         if r.next_is('pub'):
             r.word()
             if r.peek() == '(':
@@ -107,7 +109,7 @@ def function(r):
         if r.next_is(*CLAUSES):
             signature += r.text[start:r.at]
             r.word()
-            r.word()    # a clause may have a name
+            r.clause_name()
             r.peek()
             r.clause()
             start = r.at

@@ -11,11 +11,11 @@ class Unreadable(Exception):
 # ---- crates.txt
 
 def crate_lines(root):
-    """What each line of crates.txt lists: a name, and those that it leans on."""
+    """What each line of crates.txt lists: a name, and those that it leans on. Words behind the name, as `staticlib`, say how rt builds it."""
     for line in (Path(root) / 'crates.txt').read_text(encoding='utf-8').splitlines():
         name, _, rest = line.split('#')[0].partition(':')
         if name.strip():
-            yield name.strip(), rest.split()
+            yield name.split()[0], rest.split()
 
 
 def listed_crates(root):
@@ -31,7 +31,7 @@ class Function:
     module: tuple       # the modules from the crate's root down, as ('inner', 'deep')
     owner: str          # the type of its `impl` block, or ''
     open: bool          # whether it says `pub` with nothing in parentheses after it
-    exported: bool      # whether it is marked #[no_mangle]
+    exported: bool      # whether it is marked #[unsafe(no_mangle)]
     requires: int       # how many clauses of each kind it has
     ensures: int
     path: Path
@@ -169,6 +169,12 @@ class Reader:
                 depth += {'{': 1, '}': -1}.get(c, 0)
                 self.at += 1
 
+    def clause_name(self):
+        """Past what may stand between the word of a clause and its braces: the star of one that speaks of memory, and a name."""
+        if self.peek() == '*':
+            self.at += 1
+        self.word()
+
     def until(self, *ends):
         """Past code up to one of these characters outside brackets; the character is left."""
         while self.peek() not in ends:
@@ -188,6 +194,8 @@ def read_items(r, module, src, found, owner='', closes=''):
             r.until('[')
             r.group()
             exported = exported or 'no_mangle' in r.text[start:r.at]
+        if r.peek() == closes:
+            break   # what stood last is said of the whole file, as `#![tactic(auto)]`
         is_open = False
         if r.next_is('pub'):
             r.word()
@@ -258,7 +266,7 @@ def read_function(r, module, owner, is_open, exported, line):
             r.one()
             continue
         kind = r.word()
-        r.word()    # a clause may have a name
+        r.clause_name()
         if r.peek() != '{':
             r.fail(f'fn {name}: a clause without braces')
         r.clause()
@@ -356,7 +364,7 @@ def pass_on(found, types):
 def crate_functions(root, name):
     """The functions of a crate, each with `public` set: those that say `pub` and that another crate or a C program can
     call. That is a function of a module that `pub mod` lines lead to from the root, one that a `pub use` line of such a
-    module names, a method of a type that is public in one of these ways, and one marked #[no_mangle]."""
+    module names, a method of a type that is public in one of these ways, and one marked #[unsafe(no_mangle)]."""
     src = Path(root) / 'crates' / name / 'src'
     found = []
     for file in ('lib.rt', 'main.rt'):

@@ -22,13 +22,13 @@ def faults_of(check, files, words=()):
     return faults
 
 
-def run_cases(check, cases):
-    """Each case is what it tests, the words that each fault has, in order, and the files; then words for the command line."""
-    failed = 0
+def run_cases(check, cases, passed=0, failed=0):
+    """Each case is what it tests, the words that each fault has, in order, and the files; then words for the command line. Two counts of others are added."""
+    others = passed + failed
     for what, wanted, files, *words in cases:
         got = faults_of(check, files, words)
         if len(got) != len(wanted) or not all(w in g for w, g in zip(wanted, got)):
             failed += 1
             print(f'fault: {check}: {what}: wanted {wanted}, got {got}')
-    print(f'{len(cases) - failed} passed, {failed} failed')
+    print(f'{others + len(cases) - failed} passed, {failed} failed')
     sys.exit(1 if failed else 0)
