@@ -78,7 +78,10 @@ def item(r, read, module):
     if kind == 'impl':
         r.until('{')
         head, r.at = r.text[start:r.at], r.at + 1
-        return head + '{\n' + '\n'.join(items(r, read, module, '}')) + '\n}'
+        inside = '\n'.join(items(r, read, module, '}'))
+        if re.search(r'\bfor\b', head):   # of a trait, whose functions are as open as it is
+            inside = re.sub(r'^pub fn', 'fn', inside, flags=re.M)
+        return head + '{\n' + inside + '\n}'
     if kind in ('struct', 'enum'):
         r.until('{', ';')
         r.one()

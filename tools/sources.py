@@ -29,7 +29,7 @@ def listed_crates(root):
 class Function:
     name: str
     module: tuple       # the modules from the crate's root down, as ('inner', 'deep')
-    owner: str          # the type of its `impl` block, or ''
+    owner: str          # the type of its `impl` block, `Array` for that of an array, or ''
     open: bool          # whether it says `pub` with nothing in parentheses after it
     exported: bool      # whether it is marked #[unsafe(no_mangle)]
     requires: int       # how many clauses of each kind it has
@@ -229,7 +229,8 @@ def read_item(r, module, src, found, owner, is_open, exported):
         r.until('{')
         words = re.sub(r'<[^>]*>', ' ', r.text[start:r.at])
         r.at += 1
-        read_items(r, module, src, found, re.findall(r'\w+', words)[-1], '}')
+        owner = 'Array' if re.search(r'\bfor\s*\[', words) else re.findall(r'\w+', words)[-1]
+        read_items(r, module, src, found, owner, '}')
     elif kind in ('struct', 'enum'):
         module.types[r.word()] = is_open
         r.until('{', ';')

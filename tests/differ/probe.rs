@@ -31,6 +31,17 @@ macro_rules! ask {
     };
 }
 
+// The same of a method of a tree.
+macro_rules! tree {
+    ($tree:expr, $name:ident, $($argument:expr),*) => {
+        line(&format!("{:?}.{}{:?} = {}", $tree, stringify!($name), ($($argument,)*), tried(|| $tree.$name($($argument),*))))
+    };
+}
+
+fn tree(granule: u64, base: u64, tables: u16, base2: u64, tables2: u16) -> links::Tree {
+    links::Tree { granule, base, tables, base2, tables2 }
+}
+
 fn mixed(hash: u64, value: u64) -> u64 {
     let h = (hash ^ value).wrapping_mul(0x9E37_79B9_7F4A_7C15);
     h ^ (h >> 29)
@@ -196,12 +207,12 @@ fn words_to_read() -> Vec<u64> {
     }
     for attributes in 0..17 {
         for (base, size) in [(0, PAGE), (PAGE * 5, PAGE), (KIB16 * 5, KIB16), (MIB2, MIB2), (MIB32, MIB32), (GIB, GIB), (TOP - PAGE, PAGE), (TOP - GIB, GIB)] {
-            all.push(host::frame_word(base, size, attributes));
+            all.push(oakabut::oak_frame_word(base, size, attributes));
         }
     }
     for (size, attributes) in [(PAGE, 0), (PAGE, 7), (KIB16, 5), (MIB2, 9), (MIB32, 3), (GIB, 14)] {
         for bit in 0..64 {
-            all.push(host::frame_word(GIB, size, attributes) ^ (1 << bit));
+            all.push(oakabut::oak_frame_word(GIB, size, attributes) ^ (1 << bit));
         }
     }
     all
@@ -213,7 +224,7 @@ fn entries() {
         for c in [0, 1, 2, 63, 64, u32::MAX] {
             for tables in [1, 2, 64, 512] {
                 for granule in [PAGE, KIB16] {
-                    ask!(links::table_word, granule, n, tables, MORE, c);
+                    tree!(tree(granule, n, tables, MORE, 0), table_word, c);
                 }
             }
         }
@@ -245,15 +256,15 @@ fn entries() {
         }
         for granule in [PAGE, KIB16] {
             for (base, tables) in [(BASE, 4), (0, 64), (BASE, 1), (TOP + PAGE, 8)] {
-                ask!(links::child_in, granule, w, base, tables, 0, 0);
-                ask!(links::child_in, granule, w, MORE, 3, base, tables);
-                ask!(links::child_in, granule, w, base, tables, base.wrapping_add(granule * tables as u64), 2);
+                tree!(tree(granule, base, tables, 0, 0), child_in, w);
+                tree!(tree(granule, MORE, 3, base, tables), child_in, w);
+                tree!(tree(granule, base, tables, base.wrapping_add(granule * tables as u64), 2), child_in, w);
             }
             for height in [0, 1, 2, 3, 4] {
                 ask!(entry::frame_at, granule, w, height);
                 for (base, tables) in [(BASE, 1), (BASE, 3), (BASE, 64), (0, 2), (TOP - PAGE, 4), (u64::MAX, u16::MAX)] {
-                    ask!(links::read_word, granule, w, height, base, tables, 0, 0);
-                    ask!(links::read_word, granule, w, height, MORE, 2, base, tables);
+                    tree!(tree(granule, base, tables, 0, 0), read_word, w, height);
+                    tree!(tree(granule, MORE, 2, base, tables), read_word, w, height);
                 }
             }
         }

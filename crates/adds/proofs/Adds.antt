@@ -2,10 +2,10 @@
 use Prim.Native.Nat.{ℕ, ◌+◌, ◌*◌, ◌<◌}
 use mathlib.Core.Path.{◌≡◌, refl, sym, ap, ◌∙◌}
 use mathlib.Core.Bool.{true, and-eq-true_iff}
-use mathlib.Core.List.{List, ◌++◌}
+use mathlib.Core.List.{List, [], ◌++◌}
 use native.Mathlib.Nat.{mul-add}
 use native.Mathlib.Omega.{arith}
-use borrow.Author.Tests.{eqb-true}
+use borrow.Author.Tests.{eqb-true, eqb-false}
 use lib.Dec.{eqb}
 use lib.ListN.{length, replicate, take, length-append}
 use Rattle.laws.specs.ListLaws.{take_first}
@@ -13,23 +13,33 @@ use Rattle.path.specs.Geometry.{Granule, granule_of, page_size, entries}
 use Rattle.path.specs.Areas.{area_of}
 use Rattle.path.specs.Numbers.{setup, GoodAdding}
 use Rattle.path.specs.declared.Setup.{Setup}
-use Rattle.model.specs.Answers.{added, Pool, pool, done, refuse}
+use Rattle.model.specs.declared.Refusal.{Refusal}
+use Rattle.model.specs.Answers.{Answer, answered, added, says_refusal, tested, Pool, pool, done}
 use Rattle.model.specs.Adds.{good_add, appended, add_tests, add_w}
 use Rattle.model.proofs.AddLaws.{tests_refuse, tests_pass, may_add}
+use Rattle.model.proofs.TestedLaws.{tested_none, tested_err, tested_refused}
 
-module _ (s : Setup) (ws us list : List ℕ) (q m : ℕ) {no : ℕ} (e : no ≡ add_tests (granule_of s.granule) (pool s (ws ++ us) (length ws) list) q m) where
+module _ (s : Setup) (ws us list : List ℕ) (q m : ℕ) where
   abbrev G : Granule
   G = granule_of s.granule
 
   abbrev at : Pool
   at = pool s (ws ++ us) (length ws) list
 
-  pub add_refuses : (no ≡ 0 → ⊥) → refuse no at ≡ add_w (granule_of s.granule) at q m
-  add_refuses n = tests_refuse G at q m e n
+  abbrev number : ℕ
+  number = add_tests G at q m
 
-  module _ (n : no ≡ 0) where
+  pub add_refuses : (r : Refusal) → says_refusal r ≡ tested number → done (says_refusal r) at ≡ add_w (granule_of s.granule) at q m
+  add_refuses r e =
+      ap (λ (a : Answer). done a at) (tested_refused number r e)
+      ∙ tests_refuse G at q m refl (eqb-false number 0 (tested_err number r e))
+
+  module _ (e : answered [] ≡ tested number) where
+    none : number ≡ 0
+    none = tested_none number e
+
     good : good_add G at q m ≡ true
-    good = (tests_pass G at q m e n).0
+    good = (tests_pass G at q m refl none).0
 
     pub may : GoodAdding (granule_of s.granule) s.levels (area_of s) q m (length ws) (length (ws ++ us)) (length list)
     may = (may_add G at q m good).0
@@ -48,7 +58,7 @@ module _ (s : Setup) (ws us list : List ℕ) (q m : ℕ) {no : ℕ} (e : no ≡ 
         → done added (pool (setup s.levels s.base s.tables (s.free + m) q m s.granule) (ws ++ u) (length ws) l) ≡ add_w (granule_of s.granule) at q m
     add_done {u} {l} a b =
         (λ j. done added (pool (setup s.levels s.base s.tables (s.free + m) q m (page j)) (both j) (length ws) (b j)))
-        ∙ (tests_pass G at q m e n).1
+        ∙ (tests_pass G at q m refl none).1
       where
         both : ws ++ u ≡ take (length ws) (ws ++ us) ++ replicate (entries G * m) 0
         both =

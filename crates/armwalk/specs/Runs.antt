@@ -1,13 +1,13 @@
 -- What the walk of the code answers: the hardware's translation, over a memory that holds a pool's two runs of words and is 0 elsewhere.
-use Rattle.std.specs.Prelude.{ℕ, ◌-◌, ◌/◌, Bool, cond, ◌&&◌, List, ltb, leb, eqb, length, get_or}
+use Rattle.std.specs.Prelude.{ℕ, ◌-◌, ◌/◌, Bool, cond, ◌&&◌, List, ltb, leb, eqb, length, get_or, Some, None}
+use Rattle.std.specs.Prelude as code
 use Rattle.std.proofs.Math.Option.{Option, some, none}
 use Rattle.path.specs.Geometry.{Granule, physical, good_levels}
 use Rattle.hardware.specs.Machine.{Translation, read_bit, write_bit, never_high, never_low, kind_of, mem_high, mem_low, shared_of, share_bits, stage2}
 use Rattle.hardware.specs.Machine as machine
 use Rattle.armwalk.specs.declared.Step.{Step}
 use Rattle.armwalk.specs.declared.Step.TheVariants as S
-use Rattle.armwalk.specs.declared.Seen.{Seen}
-use Rattle.armwalk.specs.declared.Seen.TheVariants as W
+use Rattle.armwalk.specs.declared.Hit.{Hit}
 
 -- whether an address is that of one of so many words from a base on
 unfoldable pub within : ℕ → ℕ → ℕ → Bool
@@ -32,14 +32,14 @@ by_word a w = record {
 }
 
 -- the code's answers
-abbrev pub says_step : Step → machine.Step
-says_step S.Fault = machine.fault
-says_step (S.Hit a w) = machine.hit (by_word a w)
-says_step (S.Next t) = machine.next t
+abbrev pub says_step : code.Option Step → machine.Step
+says_step None = machine.fault
+says_step (Some (S.Leaf h)) = machine.hit (by_word h.address h.word)
+says_step (Some (S.Next t)) = machine.next t
 
-abbrev pub says_seen : Seen → Option Translation
-says_seen W.Fault = none
-says_seen (W.Hit a w) = some (by_word a w)
+abbrev pub says_seen : code.Option Hit → Option Translation
+says_seen None = none
+says_seen (Some h) = some (by_word h.address h.word)
 
 -- the translation, for levels that a tree may have and a root that stands below 2^48
 abbrev pub stage2_of : Granule → List ℕ → List ℕ → ℕ → ℕ → ℕ → ℕ → Option Translation

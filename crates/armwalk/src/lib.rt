@@ -1,5 +1,6 @@
 // The stage 2 walk of the Arm hardware over a pool's words, from the bit fields of the manual; memory outside the pool's regions reads as 0.
 // A granule is a number: 16384 is that of 16 KiB pages, and every other number is read as that of 4 KiB pages.
+// The walk takes no size and no index from the crates whose words it reads, since it is there to judge them.
 #![tactic(auto)]
 
 ghost use Rattle.std.specs.Prelude.{◌≡◌, ◌+◌, ◌*◌, ◌/◌, ◌^◌, ◌≤◌, leb};
@@ -13,19 +14,18 @@ const KIB16: u64 = 16384;
 // Output addresses are below this.
 const PHYSICAL: u64 = 0x1_0000_0000_0000;
 
-// What a word makes of a walk. A page or block gives an address, and its word says the rest.
-#[derive(Clone, Copy)]
-enum Step {
-    Fault,
-    Hit { address: u64, word: u64 },
-    Next(u64),
+// What an address is translated to: the output address, and the word of the page or block, which says the rest.
+#[derive(Clone, Copy, PartialEq, Eq, Debug)]
+pub struct Hit {
+    pub address: u64,
+    pub word: u64,
 }
 
-// What an address is translated to.
+// What a word makes of a walk, where it is no fault: a page or block, or the address of the next table.
 #[derive(Clone, Copy)]
-pub enum Seen {
-    Fault,
-    Hit { address: u64, word: u64 },
+enum Step {
+    Leaf(Hit),
+    Next(u64),
 }
 
 // The bytes that a word of a height stands for.
@@ -33,28 +33,23 @@ fn size_at(granule: u64, height: u64) -> u64
     requires { height ≤ 3 }
     ensures { result ≡ 2 ^ shift (granule_of granule) height }
 {
-    if granule == KIB16 {
-        if height == 0 {
-            return 0x4000;
-        }
-        if height == 1 {
-            return 0x200_0000;
-        }
-        if height == 2 {
-            return 0x10_0000_0000;
-        }
-        return 0x8000_0000_0000;
+    match (granule, height) {
+        (KIB16, 0) => 0x4000,
+        (KIB16, 1) => 0x200_0000,
+        (KIB16, 2) => 0x10_0000_0000,
+        (KIB16, _) => 0x8000_0000_0000,
+        (_, 0) => 0x1000,
+        (_, 1) => 0x20_0000,
+        (_, 2) => 0x4000_0000,
+        _ => 0x80_0000_0000,
     }
-    if height == 0 {
-        return 0x1000;
-    }
-    if height == 1 {
-        return 0x20_0000;
-    }
-    if height == 2 {
-        return 0x4000_0000;
-    }
-    0x80_0000_0000
+}
+
+// The words of a table.
+fn words_in(granule: u64) -> u64
+    ensures { result ≡ entries (granule_of granule) }
+{
+    if granule == KIB16 { 2048 } else { 512 }
 }
 
 // The index of an address among the words of a height: eleven bits with 16 KiB, and nine with 4 KiB.
@@ -62,11 +57,7 @@ fn index_at(granule: u64, address: u64, height: u64) -> u64
     requires { height ≤ 3 }
     ensures { result ≡ index_bits (granule_of granule) address height }
 {
-    let place = address / size_at(granule, height);
-    if granule == KIB16 {
-        return place % 2048;
-    }
-    place % 512
+    address / size_at(granule, height) % words_in(granule)
 }
 
 // Whether an address is past what a root stands for, whose words have this height.
@@ -74,11 +65,7 @@ fn is_past(granule: u64, address: u64, height: u64) -> bool
     requires { height ≤ 3 }
     ensures { result ≡ leb (entries (granule_of granule)) (address / 2 ^ shift (granule_of granule) height) }
 {
-    let place = address / size_at(granule, height);
-    if granule == KIB16 {
-        return place >= 2048;
-    }
-    place >= 512
+    address / size_at(granule, height) >= words_in(granule)
 }
 
 // The most levels of a tree.
@@ -120,40 +107,40 @@ fn word_at(words: &[u64], second: &[u64], base: u64, base2: u64, at: u64) -> u64
 }
 
 // A page or a block.
-fn leaf_step(granule: u64, address: u64, height: u64, w: u64) -> Step
+fn leaf_step(granule: u64, address: u64, height: u64, w: u64) -> Option<Step>
     requires { height ≤ 3 }
     ensures { says_step result ≡ leaf (granule_of granule) address height w }
 {
     if w / 1024 % 2 != 1 {
-        return Step::Fault;
+        return None;
     }
     let size = size_at(granule, height);
     let frame = w % PHYSICAL - w % size;
-    Step::Hit {
+    Some(Step::Leaf(Hit {
         address: frame + address % size,
         word: w,
-    }
+    }))
 }
 
 // Any word.
-fn step_by(granule: u64, address: u64, height: u64, w: u64) -> Step
+fn step_by(granule: u64, address: u64, height: u64, w: u64) -> Option<Step>
     requires { height ≤ 3 }
     ensures { says_step result ≡ step_by (granule_of granule) address height w }
 {
     if w % 2 != 1 {
-        return Step::Fault;
+        return None;
     }
     if height == 0 {
         if w / 2 % 2 != 1 {
-            return Step::Fault;
+            return None;
         }
         return leaf_step(granule, address, height, w);
     }
     if w / 2 % 2 == 1 {
-        return Step::Next(w % PHYSICAL - w % size_at(granule, 0));
+        return Some(Step::Next(w % PHYSICAL - w % size_at(granule, 0)));
     }
     if height > largest_block(granule) {
-        return Step::Fault;
+        return None;
     }
     leaf_step(granule, address, height, w)
 }
@@ -168,19 +155,17 @@ fn descend(
     address: u64,
     height: u64,
     table: u64,
-) -> Seen
+) -> Option<Hit>
     requires { (height ≤ 3) × (table ≤ 2 ^ 48) }
     ensures { says_seen result ≡ walk (granule_of granule) (λ _. memory_of base words.now base2 second.now) address height table }
 {
     let index = index_at(granule, address, height);
     let w = word_at(words, second, base, base2, table + 8 * index);
-    let s = step_by(granule, address, height, w);
-    match s {
-        Step::Fault => Seen::Fault,
-        Step::Hit { address: a, word } => Seen::Hit { address: a, word },
+    match step_by(granule, address, height, w)? {
+        Step::Leaf(hit) => Some(hit),
         Step::Next(t) => {
             if height == 0 {
-                return Seen::Fault;
+                return None;
             }
             descend(granule, words, second, base, base2, address, height - 1, t)
         }
@@ -196,21 +181,21 @@ pub fn stage2(
     base2: u64,
     levels: u64,
     address: u64,
-) -> Seen
+) -> Option<Hit>
     ensures { says_seen result ≡ stage2_of (granule_of granule) words.now second.now base base2 levels address }
 {
     if levels < 3 {
-        return Seen::Fault;
+        return None;
     }
     if levels > most_levels(granule) {
-        return Seen::Fault;
+        return None;
     }
     if base > PHYSICAL {
-        return Seen::Fault;
+        return None;
     }
     let height = levels - 1;
     if is_past(granule, address, height) {
-        return Seen::Fault;
+        return None;
     }
     descend(granule, words, second, base, base2, address, height, base)
 }

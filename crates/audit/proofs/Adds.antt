@@ -1,7 +1,6 @@
 -- The test of a tree, and the tests of an add, by what the checks of the tree found.
-use Rattle.std.proofs.Common.{◌≡◌, ℕ, ◌+◌, ◌*◌, ◌≤◌, Bool, true, false, not, ◌&&◌, eqb, ltb, List, [], ◌∷◌, ◌++◌, length, replicate, sym, refl, ap, ◌∙◌, inr, ⊎_elim, arith, length-append}
+use Rattle.std.proofs.Common.{◌≡◌, ℕ, ◌+◌, ◌*◌, ◌≤◌, Bool, true, false, ◌&&◌, eqb, ltb, List, [], ◌∷◌, ◌++◌, length, replicate, sym, refl, ap, ◌∙◌, inr, ⊎_elim, arith, length-append}
 use native.Mathlib.Nat.{zero-mod}
-use borrow.Author.Tests.{not-true, not-false}
 use lib.ListN.{length-replicate}
 use Rattle.path.specs.Geometry.{Granule, granule_of, page_size, entries}
 use Rattle.path.specs.Areas.{area_of, one_region, total, GoodArea}
@@ -36,12 +35,12 @@ tree_alone G o d = d ∙ rw (none_in_none G o.mappings)
 
 -- the test of the tree, for a free list of so many places
 module _ (s : Setup) (ws us : List ℕ) (places : ℕ) {r : Bool} (e : r ≡ good_setup (granule_of s.granule) s (length ws) (length ws + length us) places) where
-  pub sound_bad : not r ≡ true → (b : Bool) → false ≡ (good_setup (granule_of s.granule) s (length ws) (length ws + length us) places && b)
-  sound_bad n b = rw (sym e ∙ not-true _ n)
+  pub sound_bad : r ≡ false → (b : Bool) → false ≡ (good_setup (granule_of s.granule) s (length ws) (length ws + length us) places && b)
+  sound_bad n b = rw (sym e ∙ n)
 
-  module _ (n : not r ≡ false) where
+  module _ (n : r ≡ true) where
     yes_good : good_setup (granule_of s.granule) s (length ws) (length ws + length us) places ≡ true
-    yes_good = sym e ∙ not-false _ n
+    yes_good = sym e ∙ n
 
     pub sound_rooted : Rooted s (length ws) (length us)
     sound_rooted =
@@ -59,13 +58,13 @@ module _ (s : Setup) (ws us : List ℕ) (q m places : ℕ) {r : Bool}
   tests : (list : List ℕ) → length list ≡ places → r ≡ good_add (granule_of s.granule) (pool s (ws ++ us) (length ws) list) q m
   tests list l = rw (length-append ws us, l) e
 
-  pub add_bad : not r ≡ true → (list : List ℕ) → length list ≡ places → 1 ≡ add_tests (granule_of s.granule) (pool s (ws ++ us) (length ws) list) q m
+  pub add_bad : r ≡ false → (list : List ℕ) → length list ≡ places → 1 ≡ add_tests (granule_of s.granule) (pool s (ws ++ us) (length ws) list) q m
   unfolding add_tests
-  add_bad n list l = rw (sym (tests list l) ∙ not-true _ n)
+  add_bad n list l = rw (sym (tests list l) ∙ n)
 
-  module _ (n : not r ≡ false) where
+  module _ (n : r ≡ true) where
     yes_add : (list : List ℕ) → length list ≡ places → good_add (granule_of s.granule) (pool s (ws ++ us) (length ws) list) q m ≡ true
-    yes_add list l = sym (tests list l) ∙ not-false _ n
+    yes_add list l = sym (tests list l) ∙ n
 
     may : GoodAdding (granule_of s.granule) s.levels (area_of s) q m (length ws) (length (ws ++ us)) (length (zeros places))
     may = (may_add (granule_of s.granule) (pool s (ws ++ us) (length ws) (zeros places)) q m (yes_add (zeros places) (length-replicate {A = ℕ} places 0))).0
@@ -95,13 +94,13 @@ module _ (s : Setup) (ws us : List ℕ) (q m places : ℕ) {r : Bool}
       tree : x ≡ sound_tree (tree_of s (ws ++ us))
       tree = tree_alone (granule_of s.granule) (tree_of s (ws ++ us)) d
 
-      pub add_unsound : not x ≡ true → (list : List ℕ) → length list ≡ places → 8 ≡ add_tests (granule_of s.granule) (pool s (ws ++ us) (length ws) list) q m
+      pub add_unsound : x ≡ false → (list : List ℕ) → length list ≡ places → 8 ≡ add_tests (granule_of s.granule) (pool s (ws ++ us) (length ws) list) q m
       unfolding add_tests
-      add_unsound k list l = rw (yes_add list l, sym tree ∙ not-true _ k)
+      add_unsound k list l = rw (yes_add list l, sym tree ∙ k)
 
-      module _ (k : not x ≡ false) {y : Bool} (f : y ≡ (none_inside (granule_of s.granule) (one_region q m) (tree_of s (ws ++ us)).mappings && sound_tree (tree_of s (ws ++ us)))) where
+      module _ (k : x ≡ true) {y : Bool} (f : y ≡ (none_inside (granule_of s.granule) (one_region q m) (tree_of s (ws ++ us)).mappings && sound_tree (tree_of s (ws ++ us)))) where
         sound : sound_tree (tree_of s (ws ++ us)) ≡ true
-        sound = sym tree ∙ not-false _ k
+        sound = sym tree ∙ k
 
         apart : y ≡ none_inside (granule_of s.granule) (one_region q m) (tree_of s (ws ++ us)).mappings
         apart = f ∙ ap (λ (b : Bool). none_inside (granule_of s.granule) (one_region q m) (tree_of s (ws ++ us)).mappings && b) sound ∙ and_yes _
@@ -110,10 +109,10 @@ module _ (s : Setup) (ws us : List ℕ) (q m places : ℕ) {r : Bool}
             and_yes true = refl
             and_yes false = refl
 
-        pub add_inside : not y ≡ true → (list : List ℕ) → length list ≡ places → 11 ≡ add_tests (granule_of s.granule) (pool s (ws ++ us) (length ws) list) q m
+        pub add_inside : y ≡ false → (list : List ℕ) → length list ≡ places → 11 ≡ add_tests (granule_of s.granule) (pool s (ws ++ us) (length ws) list) q m
         unfolding add_tests
-        add_inside i list l = rw (yes_add list l, sound, sym apart ∙ not-true _ i)
+        add_inside i list l = rw (yes_add list l, sound, sym apart ∙ i)
 
-        pub add_passes : not y ≡ false → (list : List ℕ) → length list ≡ places → 0 ≡ add_tests (granule_of s.granule) (pool s (ws ++ us) (length ws) list) q m
+        pub add_passes : y ≡ true → (list : List ℕ) → length list ≡ places → 0 ≡ add_tests (granule_of s.granule) (pool s (ws ++ us) (length ws) list) q m
         unfolding add_tests
-        add_passes i list l = rw (yes_add list l, sound, sym apart ∙ not-false _ i)
+        add_passes i list l = rw (yes_add list l, sound, sym apart ∙ i)

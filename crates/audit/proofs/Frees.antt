@@ -1,62 +1,48 @@
 -- The free list's check, number by number.
-use Rattle.std.proofs.Common.{◌≡◌, ℕ, suc, ◌+◌, ◌-◌, ◌<◌, ◌≤◌, true, false, List, ◌∷◌, length, get_or, take, drop, set, sym, refl, ap, ◌∙◌, add-one, arith, length-set, drop-cons, le-ltb, lt-ltb, eq-eqb, ne_eqb}
+use Rattle.std.proofs.Common.{◌≡◌, ℕ, ◌+◌, ◌<◌, ◌≤◌, Bool, true, false, List, ◌∷◌, length, get_or, drop, set, sym, refl, ◌∙◌, add-one, length-set, drop-cons, drop_of_length-le, le-ltb, lt-ltb}
 use Rattle.laws.specs.Lists.{all_zero}
 use Rattle.path.specs.Geometry.{Granule}
 use Rattle.model.specs.Audit.{table_words}
 use Rattle.audit.specs.Checks.{free_pass}
 
--- the numbers from place i on
-abbrev from : List ℕ → ℕ → ℕ → List ℕ
-from L f i = take (f - i) (drop i L)
-
-from_next : (L : List ℕ) (f i : ℕ) → i < f → f ≤ length L → from L f i ≡ get_or L i 0 ∷ from L f (i + 1)
-from_next L f i l m =
-    let e : f - i ≡ suc (f - (i + 1)) = omega arith in
-    let b : i < length L = omega arith in
-    rw (e, drop-cons L i 0 b, add-one i)
-
--- what is left of the list answers for all of it
-pub record Run (G : Granule) (ws : List ℕ) (n : ℕ) (M₀ L : List ℕ) (f : ℕ) (M : List ℕ) (i : ℕ) : Type 0 where
-  pub few : i ≤ f
+-- before place i of the free numbers: what is left of them answers for all
+pub record Run (G : Granule) (ws : List ℕ) (n : ℕ) (M₀ : List Bool) (L : List ℕ) (M : List Bool) (i : ℕ) : Type 0 where
   pub long : length M ≡ length M₀
-  pub same : free_pass G ws n M₀ (take f L) ≡ free_pass G ws n M (from L f i)
+  pub same : free_pass G ws n M₀ L ≡ free_pass G ws n M (drop i L)
 
-pub run_starts : (G : Granule) (ws : List ℕ) (n : ℕ) (M L : List ℕ) (f : ℕ) → Run G ws n M L f M 0
-run_starts G ws n M L f =
-    let e : f ≡ f - 0 = omega arith in
-    record { few = omega arith; long = refl; same = ap (λ (k : ℕ). free_pass G ws n M (take k L)) e }
+pub run_starts : (G : Granule) (ws : List ℕ) (n : ℕ) (M : List Bool) (L : List ℕ) → Run G ws n M L M 0
+run_starts G ws n M L = record { long = refl; same = refl }
 
-module _ {G : Granule} {ws : List ℕ} {n : ℕ} {M₀ L : List ℕ} {f : ℕ} {M : List ℕ} {i : ℕ} (k : Run G ws n M₀ L f M i) where
-  pub run_ends : f ≤ i → true ≡ free_pass G ws n M₀ (take f L)
+module _ {G : Granule} {ws : List ℕ} {n : ℕ} {M₀ : List Bool} {L : List ℕ} {M : List Bool} {i : ℕ} (k : Run G ws n M₀ L M i) where
+  pub run_ends : length L ≤ i → true ≡ free_pass G ws n M₀ L
   unfolding free_pass
-  run_ends l = let e : f - i ≡ 0 = omega arith in sym (k.same ∙ rw e)
+  run_ends l = sym (k.same ∙ rw (drop_of_length-le L {i = i} l))
 
-  module _ (l : i < f) (m : f ≤ length L) where
+  module _ (l : i < length L) where
     abbrev t : ℕ
     t = get_or L i 0
 
-    step : free_pass G ws n M₀ (take f L) ≡ free_pass G ws n M (t ∷ from L f (i + 1))
-    step = k.same ∙ ap (free_pass G ws n M) (from_next L f i l m)
+    step : free_pass G ws n M₀ L ≡ free_pass G ws n M (t ∷ drop (i + 1) L)
+    step = k.same ∙ rw (drop-cons L i 0 l, add-one i)
 
-    pub run_out : n ≤ t → false ≡ free_pass G ws n M₀ (take f L)
+    pub run_out : n ≤ t → false ≡ free_pass G ws n M₀ L
     unfolding free_pass
     run_out h = sym (step ∙ rw (le-ltb t n h))
 
     module _ (h : t < n) where
-      pub run_marked : (get_or M t 0 ≡ 0 → ⊥) → false ≡ free_pass G ws n M₀ (take f L)
+      pub run_marked : get_or M t false ≡ true → false ≡ free_pass G ws n M₀ L
       unfolding free_pass
-      run_marked u = sym (step ∙ rw (lt-ltb t n h, ne_eqb (get_or M t 0) 0 u))
+      run_marked u = sym (step ∙ rw (lt-ltb t n h, u))
 
-      module _ (u : get_or M t 0 ≡ 0) where
-        pub run_full : all_zero (table_words G ws t) ≡ false → false ≡ free_pass G ws n M₀ (take f L)
+      module _ (u : get_or M t false ≡ false) where
+        pub run_full : all_zero (table_words G ws t) ≡ false → false ≡ free_pass G ws n M₀ L
         unfolding free_pass
-        run_full z = sym (step ∙ rw (lt-ltb t n h, eq-eqb (get_or M t 0) 0 u, z))
+        run_full z = sym (step ∙ rw (lt-ltb t n h, u, z))
 
-        pub run_more : all_zero (table_words G ws t) ≡ true → Run G ws n M₀ L f (set M t 1) (i + 1)
+        pub run_more : all_zero (table_words G ws t) ≡ true → Run G ws n M₀ L (set M t true) (i + 1)
         unfolding free_pass
         run_more z =
             record {
-              few = omega arith;
-              long = length-set M t 1 ∙ k.long;
-              same = step ∙ rw (lt-ltb t n h, eq-eqb (get_or M t 0) 0 u, z);
+              long = length-set M t true ∙ k.long;
+              same = step ∙ rw (lt-ltb t n h, u, z);
             }

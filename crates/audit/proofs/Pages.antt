@@ -1,5 +1,5 @@
 -- A table of the last level: each of its words is empty, a page or damaged, and is counted once or, where it is damaged, not at all.
-use Rattle.std.proofs.Common.{◌≡◌, ℕ, ◌+◌, ◌-◌, ◌*◌, ◌%◌, ◌^◌, ◌<◌, ◌≤◌, Bool, true, false, not, ◌&&◌, eqb, ltb, List, sym, refl, ap, ◌∙◌, subst, arith, ltb-true, lt-ltb, eq-eqb, ne_eqb, eqb-true}
+use Rattle.std.proofs.Common.{◌≡◌, ℕ, ◌+◌, ◌*◌, ◌%◌, ◌^◌, ◌<◌, ◌≤◌, Bool, true, false, not, ◌&&◌, eqb, ltb, List, Option, None, sym, refl, ap, ◌∙◌, subst, arith, ltb-true, lt-ltb, eq-eqb, ne_eqb, eqb-true}
 use mathlib.Core.Bool.{and-true, and-false, false≢true}
 use native.Mathlib.Decide.{dec_lt}
 use mir.Val.{bool_byte}
@@ -12,10 +12,9 @@ use Rattle.entry.specs.Words.{base_in, attrs_in, frame_word, entry_at}
 use Rattle.entry.proofs.Laws.{frame_word_ge, frame_at_own, frame_at_not, entry_zero, entry_frame as frame-reads}
 use Rattle.entry.specs.declared.Entry.TheVariants.{Frame, Damaged}
 use Rattle.model.specs.Sound.{word_at}
-use Rattle.audit.specs.Checks.{granule_in, area_in, kept_in, Answers, at_word, at_entry, is_page, PageFit}
+use Rattle.audit.specs.Checks.{granule_in, area_in, kept_in, counted, Answers, at_word, at_entry, is_page, PageFit}
 use Rattle.audit.specs.declared.Look.{Look}
-use Rattle.audit.specs.declared.Tally.{Tally}
-use Rattle.audit.specs.declared.Tally.TheVariants.{Counts, Damaged}
+use Rattle.model.specs.declared.Counts.{Counts}
 use Rattle.audit.proofs.Parts.{Goes}
 use Rattle.audit.proofs.Tables.{at_rest, Loop, loop_bad, loop_more, loop_end, table_starts, entry_empty, entry_frame, entry_inside, entry_damaged}
 
@@ -53,16 +52,16 @@ page_apart G {base} {n} {b} {off} g wide e =
     near x y z i j (no l) = omega (arith, g.low, g.fits)
 
 module _ (w : ℕ) (look : Look) (g : GoodArea (granule_in look) (kept_in look)) (a : base_in w % page_size (granule_in look) ≡ 0) where
-  pub first_fit : PageFit (granule_in look) (base_in w) look.kept look.many
+  pub first_fit : PageFit (granule_in look) (base_in w) look.kept.base look.kept.tables
   first_fit = record { paged = a; low = omega arith; aligned = g.aligned; fits = g.fits }
 
-  pub second_fit : PageFit (granule_in look) (base_in w) look.kept2 look.many2
+  pub second_fit : PageFit (granule_in look) (base_in w) look.kept.base2 look.kept.tables2
   second_fit = record { paged = a; low = omega arith; aligned = g.aligned₂; fits = g.fits₂ }
 
 -- a word whose base is no multiple of a page is none
 module _ (w : ℕ) (look : Look) {b r : ℕ} (e : b ≡ base_in w) (p : r ≡ at_level (granule_in look) 0 (b % size_at (granule_in look) 0)) where
   rest_is : r ≡ base_in w % page_size (granule_in look)
-  rest_is = p ∙ level_page (granule_in look) (granule_sane look.granule) b ∙ ap (λ (x : ℕ). x % page_size (granule_in look)) e
+  rest_is = p ∙ level_page (granule_in look) (granule_sane look.tree.granule) b ∙ ap (λ (x : ℕ). x % page_size (granule_in look)) e
 
   pub page_askew : (r ≡ 0 → ⊥) → false ≡ is_page (granule_in look) (kept_in look) w
   page_askew d = sym (rw (ne_eqb (base_in w % page_size (granule_in look)) 0 (λ a. d (rest_is ∙ a)), and-false (own w)))
@@ -72,20 +71,20 @@ module _ (w : ℕ) (look : Look) {b r : ℕ} (e : b ≡ base_in w) (p : r ≡ at
 
 -- a page in one region or the other counts for none, and any other word for what it is
 module _ (w : ℕ) (look : Look) (a : base_in w % page_size (granule_in look) ≡ 0) {b : ℕ} (e : b ≡ base_in w)
-    {x : Bool} (p : x ≡ meets_region (granule_in look) look.kept look.many b (page_size (granule_in look))) where
+    {x : Bool} (p : x ≡ meets_region (granule_in look) look.kept.base look.kept.tables b (page_size (granule_in look))) where
   abbrev plain : Bool
   plain = own w && eqb (base_in w % page_size (granule_in look)) 0
 
-  first : x ≡ meets_region (granule_in look) look.kept look.many (base_in w) (page_size (granule_in look))
-  first = p ∙ ap (λ (y : ℕ). meets_region (granule_in look) look.kept look.many y (page_size (granule_in look))) e
+  first : x ≡ meets_region (granule_in look) look.kept.base look.kept.tables (base_in w) (page_size (granule_in look))
+  first = p ∙ ap (λ (y : ℕ). meets_region (granule_in look) look.kept.base look.kept.tables y (page_size (granule_in look))) e
 
   pub page_first : x ≡ true → false ≡ is_page (granule_in look) (kept_in look) w
   unfolding meets_area
   page_first q = sym (rw (sym first ∙ q) (and-false plain))
 
-  module _ (q : x ≡ false) {y : Bool} (u : y ≡ meets_region (granule_in look) look.kept2 look.many2 b (page_size (granule_in look))) where
-    next : y ≡ meets_region (granule_in look) look.kept2 look.many2 (base_in w) (page_size (granule_in look))
-    next = u ∙ ap (λ (y : ℕ). meets_region (granule_in look) look.kept2 look.many2 y (page_size (granule_in look))) e
+  module _ (q : x ≡ false) {y : Bool} (u : y ≡ meets_region (granule_in look) look.kept.base2 look.kept.tables2 b (page_size (granule_in look))) where
+    next : y ≡ meets_region (granule_in look) look.kept.base2 look.kept.tables2 (base_in w) (page_size (granule_in look))
+    next = u ∙ ap (λ (y : ℕ). meets_region (granule_in look) look.kept.base2 look.kept.tables2 y (page_size (granule_in look))) e
 
     pub page_second : y ≡ true → false ≡ is_page (granule_in look) (kept_in look) w
     unfolding meets_area
@@ -99,59 +98,55 @@ module _ (w : ℕ) (look : Look) (a : base_in w % page_size (granule_in look) �
 
 -- ---- the loop over the words
 
--- as many were counted as were passed, and what is left answers for all; or fewer, and the table is damaged
-pub record Pages (ws : List ℕ) (look : Look) (t : ℕ) (M : List ℕ) (empty pages left : ℕ) : Type 0 where
-  pub few_left : left ≤ entries (granule_in look)
-  pub few : empty + pages + left ≤ entries (granule_in look)
-  pub sound : empty + pages + left ≡ entries (granule_in look) → Loop ws look 0 t M 1 0 M 1 pages left
-  pub unsound : empty + pages + left < entries (granule_in look) → Goes (at_rest (granule_in look) ws look 0 t (entries (granule_in look))) M 1 0 Damaged M
+-- before word i: as many were counted as were passed, and what is left answers for all; or fewer, and the table is damaged
+pub record Pages (ws : List ℕ) (look : Look) (t : ℕ) (M : List Bool) (empty pages i : ℕ) : Type 0 where
+  pub few : empty + pages ≤ i
+  pub sound : empty + pages ≡ i → Loop ws look 0 t M 1 0 M 1 pages i
+  pub unsound : empty + pages < i → Goes (at_rest (granule_in look) ws look 0 t 0) M 1 0 None M
 
-pub pages_start : (ws : List ℕ) (look : Look) (t : ℕ) (M : List ℕ) → Pages ws look t M 0 0 (entries (granule_in look))
+pub pages_start : (ws : List ℕ) (look : Look) (t : ℕ) (M : List Bool) → Pages ws look t M 0 0 0
 pages_start ws look t M =
     record {
-      few_left = omega arith;
       few = omega arith;
-      sound = λ e. table_starts ws look 0 t M (omega (arith, granule_sane look.granule));
+      sound = λ e. table_starts ws look 0 t M (omega (arith, granule_sane look.tree.granule));
       unsound = λ l. absurd (omega arith);
     }
 
-module _ {ws : List ℕ} {look : Look} {t : ℕ} {M : List ℕ} {empty pages left : ℕ} (k : Pages ws look t M empty pages left) where
-  pub pages_good : left ≤ 0 → entries (granule_in look) ≤ empty + pages → Goes (at_rest (granule_in look) ws look 0 t (entries (granule_in look))) M 1 0 (Counts 1 pages) M
-  pages_good l m = loop_end (k.sound (omega (arith, k.few))) l
+module _ {ws : List ℕ} {look : Look} {t : ℕ} {M : List Bool} {empty pages i : ℕ} (k : Pages ws look t M empty pages i) where
+  pub pages_good : i ≤ entries (granule_in look) → entries (granule_in look) ≤ empty + pages → Goes (at_rest (granule_in look) ws look 0 t 0) M 1 0 (counted 1 pages) M
+  pages_good l m = loop_end (k.sound (omega (arith, k.few))) (omega (arith, k.few))
 
-  pub pages_bad : left ≤ 0 → empty + pages < entries (granule_in look) → Goes (at_rest (granule_in look) ws look 0 t (entries (granule_in look))) M 1 0 Damaged M
+  pub pages_bad : entries (granule_in look) ≤ i → empty + pages < entries (granule_in look) → Goes (at_rest (granule_in look) ws look 0 t 0) M 1 0 None M
   pages_bad l m = k.unsound (omega arith)
 
-  module _ (l : 0 < left) where
+  module _ (l : i < entries (granule_in look)) where
     -- a word that is counted
-    counted : (x y : ℕ) → x + y ≡ 1 → Answers (at_entry (granule_in look) ws look 0 t (entries (granule_in look) - left)) M (Counts 0 y) M
-        → Pages ws look t M (empty + x) (pages + y) (left - 1)
-    counted x y e g =
+    once : (x y : ℕ) → x + y ≡ 1 → Answers (at_entry (granule_in look) ws look 0 t i) M (counted 0 y) M
+        → Pages ws look t M (empty + x) (pages + y) (i + 1)
+    once x y e g =
         record {
-          few_left = omega (arith, k.few_left);
           few = omega (arith, k.few);
           sound = λ q. loop_more (k.sound (omega arith)) l 0 y M g refl;
           unsound = λ q. k.unsound (omega arith);
         }
 
-    missed : Answers (at_entry (granule_in look) ws look 0 t (entries (granule_in look) - left)) M Damaged M → Pages ws look t M (empty + 0) (pages + 0) (left - 1)
+    missed : Answers (at_entry (granule_in look) ws look 0 t i) M None M → Pages ws look t M (empty + 0) (pages + 0) (i + 1)
     missed g =
         record {
-          few_left = omega (arith, k.few_left);
           few = omega (arith, k.few);
           sound = λ q. absurd (omega (arith, k.few));
-          unsound = λ q. go (dec_lt (empty + pages + left) (entries (granule_in look)));
+          unsound = λ q. go (dec_lt (empty + pages) i);
         }
       where
-        go : Dec (empty + pages + left < entries (granule_in look)) → Goes (at_rest (granule_in look) ws look 0 t (entries (granule_in look))) M 1 0 Damaged M
+        go : Dec (empty + pages < i) → Goes (at_rest (granule_in look) ws look 0 t 0) M 1 0 None M
         go (yes m) = k.unsound m
         go (no m) = loop_bad (k.sound (omega (arith, k.few))) l M M g
 
-    pub pages_more : (w : ℕ) → w ≡ word_at (granule_in look) ws t (entries (granule_in look) - left) → (p : Bool) → p ≡ is_page (granule_in look) (kept_in look) w
-        → Pages ws look t M (empty + bool_byte (eqb w 0)) (pages + bool_byte p) (left - 1)
+    pub pages_more : (w : ℕ) → w ≡ word_at (granule_in look) ws t i → (p : Bool) → p ≡ is_page (granule_in look) (kept_in look) w
+        → Pages ws look t M (empty + bool_byte (eqb w 0)) (pages + bool_byte p) (i + 1)
     pages_more w at p e = rw e (go (eqb w 0) (own w) (eqb (base_in w % page_size (granule_in look)) 0) (meets_area (granule_in look) (kept_in look) (base_in w) (page_size (granule_in look))) refl refl refl refl)
       where
-        here : (r : Tally) → Answers (at_word (granule_in look) ws look 0 w) M r M → Answers (at_entry (granule_in look) ws look 0 t (entries (granule_in look) - left)) M r M
+        here : (r : Option Counts) → Answers (at_word (granule_in look) ws look 0 w) M r M → Answers (at_entry (granule_in look) ws look 0 t i) M r M
         here r g = subst (λ (x : ℕ). Answers (at_word (granule_in look) ws look 0 x) M r M) at g
 
         -- a page's size, as the word's height has it
@@ -159,15 +154,15 @@ module _ {ws : List ℕ} {look : Look} {t : ℕ} {M : List ℕ} {empty pages lef
         sized q = ap (meets_area (granule_in look) (kept_in look) (base_in w)) (size_zero (granule_in look)) ∙ q
 
         go : (x o a m : Bool) → eqb w 0 ≡ x → own w ≡ o → eqb (base_in w % page_size (granule_in look)) 0 ≡ a → meets_area (granule_in look) (kept_in look) (base_in w) (page_size (granule_in look)) ≡ m
-            → Pages ws look t M (empty + bool_byte x) (pages + bool_byte ((o && a) && not m)) (left - 1)
+            → Pages ws look t M (empty + bool_byte x) (pages + bool_byte ((o && a) && not m)) (i + 1)
         go true true a m z y v q = absurd (empty_no_page w (eqb-true w 0 z) y)
         go true false a m z y v q =
-            counted 1 0 refl (here (Counts 0 0) (entry_empty ws M look 0 w (Counts 0 0) M (ap (entry_at (granule_in look) (area_in look) 0) (eqb-true w 0 z) ∙ entry_zero (granule_in look) (area_in look) 0) refl refl))
+            once 1 0 refl (here (counted 0 0) (entry_empty ws M look 0 w (counted 0 0) M (ap (entry_at (granule_in look) (area_in look) 0) (eqb-true w 0 z) ∙ entry_zero (granule_in look) (area_in look) 0) refl refl))
         go false true true false z y v q =
-            counted 0 1 refl (here (Counts 0 1) (entry_frame ws M look 0 w (Counts 0 1) M (base_in w) (attrs_in w) (page_reads (granule_in look) (area_in look) w (eqb-false w 0 z) y (eqb-true _ 0 v)) (sized q) refl refl))
+            once 0 1 refl (here (counted 0 1) (entry_frame ws M look 0 w (counted 0 1) M (base_in w) (attrs_in w) (page_reads (granule_in look) (area_in look) w (eqb-false w 0 z) y (eqb-true _ 0 v)) (sized q) refl refl))
         go false true true true z y v q =
-            missed (here Damaged (entry_inside ws M look 0 w Damaged M (base_in w) (attrs_in w) (page_reads (granule_in look) (area_in look) w (eqb-false w 0 z) y (eqb-true _ 0 v)) (sized q) refl))
+            missed (here None (entry_inside ws M look 0 w None M (base_in w) (attrs_in w) (page_reads (granule_in look) (area_in look) w (eqb-false w 0 z) y (eqb-true _ 0 v)) (sized q) refl))
         go false true false m z y v q =
-            missed (here Damaged (entry_damaged ws M look 0 w Damaged M (else_damaged (granule_in look) (area_in look) w (eqb-false w 0 z) (λ o a. eqb-false _ 0 v a)) refl))
+            missed (here None (entry_damaged ws M look 0 w None M (else_damaged (granule_in look) (area_in look) w (eqb-false w 0 z) (λ o a. eqb-false _ 0 v a)) refl))
         go false false a m z y v q =
-            missed (here Damaged (entry_damaged ws M look 0 w Damaged M (else_damaged (granule_in look) (area_in look) w (eqb-false w 0 z) (λ o b. false≢true (sym y ∙ o))) refl))
+            missed (here None (entry_damaged ws M look 0 w None M (else_damaged (granule_in look) (area_in look) w (eqb-false w 0 z) (λ o b. false≢true (sym y ∙ o))) refl))

@@ -1,14 +1,13 @@
 -- A check of parts of the tree, one after the other.
-use Rattle.std.proofs.Common.{◌≡◌, ℕ, ◌+◌, ◌^◌, ◌<◌, Bool, true, false, cond, not, ◌&&◌, ◌||◌, eqb, List, [], ◌∷◌, ◌++◌, length, get_or, set, sym, refl, ap, ◌∙◌, ap₂, arith, length-append}
+use Rattle.std.proofs.Common.{◌≡◌, ℕ, ◌+◌, ◌^◌, ◌<◌, Bool, true, false, cond, not, ◌&&◌, ◌||◌, List, [], ◌∷◌, ◌++◌, length, get_or, set, Option, None, sym, refl, ap, ◌∙◌, ap₂, arith, length-append}
 use mathlib.Core.Bool.{and_assoc}
 use Rattle.path.specs.Geometry.{Granule}
 use Rattle.path.specs.Areas.{Area, meets_area}
 use Rattle.model.specs.Answers.{Mapping}
 use Rattle.model.specs.Audit.{Found, ◌⊕◌, none_inside}
-use Rattle.audit.specs.Checks.{kept_in, Seen, seen, Marked, clash, marks, mark, walked, Ends, Answers}
+use Rattle.audit.specs.Checks.{kept_in, Seen, seen, Marked, clash, marks, mark, walked, counted, Ends, Answers}
 use Rattle.audit.specs.declared.Look.{Look}
-use Rattle.audit.specs.declared.Tally.{Tally}
-use Rattle.audit.specs.declared.Tally.TheVariants.{Counts, Damaged}
+use Rattle.model.specs.declared.Counts.{Counts}
 
 -- ---- two parts together
 
@@ -55,21 +54,21 @@ seen-⊕ G look F H =
 
 -- ---- marks
 
-abbrev pub then : Marked → (List ℕ → Marked) → Marked
+abbrev pub then : Marked → (List Bool → Marked) → Marked
 then clash f = clash
 then (marks M) f = f M
 
-pub mark_append : (M a b : List ℕ) → mark M (a ++ b) ≡ then (mark M a) (λ N. mark N b)
+pub mark_append : (M : List Bool) (a b : List ℕ) → mark M (a ++ b) ≡ then (mark M a) (λ N. mark N b)
 unfolding mark
 mark_append M [] b = refl
-mark_append M (t ∷ a) b = go (eqb (get_or M t 0) 0) (mark_append (set M t 1) a b)
+mark_append M (t ∷ a) b = go (not (get_or M t false)) (mark_append (set M t true) a b)
   where
-    go : (q : Bool) → mark (set M t 1) (a ++ b) ≡ then (mark (set M t 1) a) (λ N. mark N b)
-        → cond q (mark (set M t 1) (a ++ b)) clash ≡ then (cond q (mark (set M t 1) a) clash) (λ N. mark N b)
+    go : (q : Bool) → mark (set M t true) (a ++ b) ≡ then (mark (set M t true) a) (λ N. mark N b)
+        → cond q (mark (set M t true) (a ++ b)) clash ≡ then (cond q (mark (set M t true) a) clash) (λ N. mark N b)
     go true h = h
     go false h = refl
 
-pub walked-⊞ : (F G : Seen) (M : List ℕ) → walked (F ⊞ G) M ≡ then (walked F M) (walked G)
+pub walked-⊞ : (F G : Seen) (M : List Bool) → walked (F ⊞ G) M ≡ then (walked F M) (walked G)
 walked-⊞ F G M = go F.ok G.ok
   where
     stop : (m : Marked) → clash ≡ then m (λ N. clash)
@@ -84,34 +83,36 @@ walked-⊞ F G M = go F.ok G.ok
 -- ---- answers
 
 -- a check of a part, after a tables and b mappings were counted
-unfoldable pub Goes : Seen → List ℕ → ℕ → ℕ → Tally → List ℕ → Type 0
+unfoldable pub Goes : Seen → List Bool → ℕ → ℕ → Option Counts → List Bool → Type 0
 Goes F M a b r N = Ends (walked F M) (a + length F.reached) (b + F.count) r N
 
 -- where a check ended
-pub ended : (F : Seen) (M N : List ℕ) (x y : ℕ) → Answers F M (Counts x y) N → (walked F M ≡ marks N) × (x ≡ length F.reached) × (y ≡ F.count)
+pub ended : (F : Seen) (M N : List Bool) (x y : ℕ) → Answers F M (counted x y) N → (walked F M ≡ marks N) × (x ≡ length F.reached) × (y ≡ F.count)
 unfolding Answers
 ended F M N x y h = go (walked F M) refl h
   where
-    go : (m : Marked) → walked F M ≡ m → Ends m (length F.reached) F.count (Counts x y) N → (walked F M ≡ marks N) × (x ≡ length F.reached) × (y ≡ F.count)
+    go : (m : Marked) → walked F M ≡ m → Ends m (length F.reached) F.count (counted x y) N → (walked F M ≡ marks N) × (x ≡ length F.reached) × (y ≡ F.count)
     go clash e h = absurd (let z : ◌≡◌ {A = ℕ} 0 1 = cc in omega arith)
-    go (marks K) e h = (e ∙ ap marks (sym h.1), cc h.0, cc h.0)
+    go (marks K) e h =
+        let same : ◌≡◌ {A = Counts} (record { tables = x; mappings = y }) (record { tables = length F.reached; mappings = F.count }) = cc h.0 in
+        (e ∙ ap marks (sym h.1), ap (λ (c : Counts). c.tables) same, ap (λ (c : Counts). c.mappings) same)
 
-pub clashed : (F : Seen) (M N : List ℕ) → Answers F M Damaged N → walked F M ≡ clash
+pub clashed : (F : Seen) (M N : List Bool) → Answers F M None N → walked F M ≡ clash
 unfolding Answers
 clashed F M N h = go (walked F M) refl h
   where
-    go : (m : Marked) → walked F M ≡ m → Ends m (length F.reached) F.count Damaged N → walked F M ≡ clash
+    go : (m : Marked) → walked F M ≡ m → Ends m (length F.reached) F.count None N → walked F M ≡ clash
     go clash e h = e
     go (marks K) e h = absurd (let z : ◌≡◌ {A = ℕ} 0 1 = cc h.0 in omega arith)
 
-module _ (F G : Seen) (M : List ℕ) (a b : ℕ) where
+module _ (F G : Seen) (M : List Bool) (a b : ℕ) where
   -- the first part is damaged, and so is the whole
-  pub goes_bad : (N K : List ℕ) → Answers F M Damaged N → Goes (F ⊞ G) M a b Damaged K
+  pub goes_bad : (N K : List Bool) → Answers F M None N → Goes (F ⊞ G) M a b None K
   unfolding Goes
   goes_bad N K h = rw (walked-⊞ F G M, clashed F M N h)
 
   -- the first part is sound, and the second goes on from there
-  pub goes_good : (x y : ℕ) (N : List ℕ) → Answers F M (Counts x y) N → (r : Tally) (K : List ℕ) → Goes G N (a + x) (b + y) r K → Goes (F ⊞ G) M a b r K
+  pub goes_good : (x y : ℕ) (N : List Bool) → Answers F M (counted x y) N → (r : Option Counts) (K : List Bool) → Goes G N (a + x) (b + y) r K → Goes (F ⊞ G) M a b r K
   unfolding Goes
   goes_good x y N h r K k =
       let (e, p, q) = ended F M N x y h in
@@ -119,11 +120,11 @@ module _ (F G : Seen) (M : List ℕ) (a b : ℕ) where
       let j : b + y + G.count ≡ b + (F.count + G.count) = omega arith in
       rw (walked-⊞ F G M, e, ← i, ← j) k
 
-pub goes_end : (M : List ℕ) (a b : ℕ) → Goes unseen M a b (Counts a b) M
+pub goes_end : (M : List Bool) (a b : ℕ) → Goes unseen M a b (counted a b) M
 unfolding Goes mark
-goes_end M a b = (ap₂ Counts (omega arith) (omega arith), refl)
+goes_end M a b = (ap₂ counted (omega arith) (omega arith), refl)
 
-pub goes_answers : (F : Seen) (M : List ℕ) (r : Tally) (N : List ℕ) → Goes F M 0 0 r N → Answers F M r N
+pub goes_answers : (F : Seen) (M : List Bool) (r : Option Counts) (N : List Bool) → Goes F M 0 0 r N → Answers F M r N
 unfolding Goes Answers
 goes_answers F M r N h =
     let i : 0 + length F.reached ≡ length F.reached = omega arith in
@@ -137,23 +138,23 @@ pub record Room (F : Seen) (a b : ℕ) : Type 0 where
   pub few : a + length F.reached < 2 ^ 64
   pub some_more : b + F.count < 2 ^ 64
 
-pub record Carried (all : Seen) (M₀ : List ℕ) (a₀ b₀ : ℕ) (rest : Seen) (M : List ℕ) (a b : ℕ) : Type 0 where
+pub record Carried (all : Seen) (M₀ : List Bool) (a₀ b₀ : ℕ) (rest : Seen) (M : List Bool) (a b : ℕ) : Type 0 where
   pub long : length M ≡ length M₀
   pub room : Room rest a b
-  pub back : (r : Tally) (N : List ℕ) → Goes rest M a b r N → Goes all M₀ a₀ b₀ r N
+  pub back : (r : Option Counts) (N : List Bool) → Goes rest M a b r N → Goes all M₀ a₀ b₀ r N
 
-pub carried_start : (all : Seen) (M : List ℕ) (a b : ℕ) → Room all a b → Carried all M a b all M a b
+pub carried_start : (all : Seen) (M : List Bool) (a b : ℕ) → Room all a b → Carried all M a b all M a b
 carried_start all M a b m = record { long = refl; room = m; back = λ r N h. h }
 
-module _ {all : Seen} {M₀ : List ℕ} {a₀ b₀ : ℕ} {rest : Seen} {M : List ℕ} {a b : ℕ} (k : Carried all M₀ a₀ b₀ rest M a b)
+module _ {all : Seen} {M₀ : List Bool} {a₀ b₀ : ℕ} {rest : Seen} {M : List Bool} {a b : ℕ} (k : Carried all M₀ a₀ b₀ rest M a b)
     (F G : Seen) (e : rest ≡ F ⊞ G) where
   room_both : Room (F ⊞ G) a b
   room_both = rw e at k.room
 
-  pub carried_bad : (N K : List ℕ) → Answers F M Damaged N → Goes all M₀ a₀ b₀ Damaged K
-  carried_bad N K h = k.back Damaged K (rw e (goes_bad F G M a b N K h))
+  pub carried_bad : (N K : List Bool) → Answers F M None N → Goes all M₀ a₀ b₀ None K
+  carried_bad N K h = k.back None K (rw e (goes_bad F G M a b N K h))
 
-  module _ (x y : ℕ) (N : List ℕ) (h : Answers F M (Counts x y) N) where
+  module _ (x y : ℕ) (N : List Bool) (h : Answers F M (counted x y) N) where
     pub carried_few : (a + x < 2 ^ 64) × (b + y < 2 ^ 64)
     carried_few =
         let (_, p, q) = ended F M N x y h in
@@ -170,5 +171,5 @@ module _ {all : Seen} {M₀ : List ℕ} {a₀ b₀ : ℕ} {rest : Seen} {M : Lis
           back = λ r K g. k.back r K (rw e (goes_good F G M a b x y N h r K g));
         }
 
-pub carried_end : {all : Seen} {M₀ : List ℕ} {a₀ b₀ : ℕ} {rest : Seen} {M : List ℕ} {a b : ℕ} → Carried all M₀ a₀ b₀ rest M a b → rest ≡ unseen → Goes all M₀ a₀ b₀ (Counts a b) M
-carried_end {M = M} {a = a} {b = b} k e = k.back (Counts a b) M (rw e (goes_end M a b))
+pub carried_end : {all : Seen} {M₀ : List Bool} {a₀ b₀ : ℕ} {rest : Seen} {M : List Bool} {a b : ℕ} → Carried all M₀ a₀ b₀ rest M a b → rest ≡ unseen → Goes all M₀ a₀ b₀ (counted a b) M
+carried_end {M = M} {a = a} {b = b} k e = k.back (counted a b) M (rw e (goes_end M a b))

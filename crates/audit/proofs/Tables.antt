@@ -1,5 +1,5 @@
 -- What is seen at a table and at its entries, and how much of it there can be.
-use Rattle.std.proofs.Common.{◌≡◌, ℕ, zero, suc, ◌+◌, ◌-◌, ◌*◌, ◌^◌, ◌<◌, ◌≤◌, Bool, true, false, cond, not, ◌&&◌, ◌||◌, eqb, List, [], ◌∷◌, ◌++◌, length, get_or, drop, set, sym, refl, ap, ◌∙◌, subst, ap₂, true≢false, mul-le-mul_right, suc-mul, sub-one, arith, lit<, length-append, length-set, drop_of_length-le, take_all, drop-cons}
+use Rattle.std.proofs.Common.{◌≡◌, ℕ, zero, suc, ◌+◌, ◌-◌, ◌*◌, ◌^◌, ◌<◌, ◌≤◌, Bool, true, false, cond, not, ◌&&◌, ◌||◌, eqb, List, [], ◌∷◌, ◌++◌, length, get_or, drop, set, Option, None, sym, refl, ap, ◌∙◌, subst, ap₂, true≢false, mul-le-mul_right, suc-mul, sub-one, add-one, arith, lit<, length-append, length-set, drop_of_length-le, take_all, drop-cons}
 use mathlib.Core.Bool.{false≢true}
 use native.Mathlib.Nat.{pow-succ', one-le-pow, pow-le-pow_right}
 use native.Mathlib.Decide.{dec_lt}
@@ -16,10 +16,9 @@ use Rattle.entry.specs.declared.Entry.TheVariants.{Empty, Table, Frame, Damaged}
 use Rattle.model.specs.Walk.{slot}
 use Rattle.model.specs.Audit.{Found, nothing, ◌⊕◌, table_words, of_entry, of_entries, of_visit, of_table, none_inside}
 use Rattle.model.specs.Sound.{word_at}
-use Rattle.audit.specs.Checks.{granule_in, area_in, kept_in, Seen, seen, clash, marks, mark, Ends, Answers, below_of, at_table, at_word, at_entry, is_fresh, RunsFit, TableFit, EntryFit}
+use Rattle.audit.specs.Checks.{granule_in, area_in, kept_in, Seen, seen, clash, marks, mark, counted, Ends, Answers, below_of, at_table, at_word, at_entry, is_fresh, RunsFit, TableFit, EntryFit}
 use Rattle.audit.specs.declared.Look.{Look}
-use Rattle.audit.specs.declared.Tally.{Tally}
-use Rattle.audit.specs.declared.Tally.TheVariants.{Counts, Damaged}
+use Rattle.model.specs.declared.Counts.{Counts}
 use Rattle.audit.proofs.Parts.{◌⊞◌, unseen, unseen-⊞, seen-⊕, Room, Goes, goes_bad, goes_good, goes_answers, Carried, carried_start, carried_bad, carried_few, carried_more, carried_end}
 
 pub or-true : (x : Bool) → (x || true) ≡ true
@@ -76,24 +75,9 @@ below_table G ws look (suc h) c l = rw (sub-one (suc h))
 abbrev pub at_visit : Granule → List ℕ → Look → ℕ → Seen
 at_visit G ws look t = seen G look (of_visit (table_words G ws t) t)
 
--- of so many last entries, those are empty that come before the last j
-abbrev pub Skips : Granule → List ℕ → ℕ → ℕ → ℕ → Type 0
-Skips G ws t left j = (j ≤ left) × ((k : ℕ) → j < k → k ≤ left → word_at G ws t (entries G - k) ≡ 0)
-
--- the same of the words of a table
-abbrev pub Passes : List ℕ → ℕ → ℕ → Type 0
-Passes us left j = (j ≤ left) × ((k : ℕ) → j < k → k ≤ left → get_or us (length us - k) 0 ≡ 0)
-
-pub passes_more : (us : List ℕ) (left j : ℕ) → Passes us left j → get_or us (length us - j) 0 ≡ 0 → Passes us left (j - 1)
-passes_more us left j s e = (omega (arith, s.0), λ k a b. go k b (dec_lt j k) (omega arith))
-  where
-    go : (k : ℕ) → k ≤ left → Dec (j < k) → j ≤ k → get_or us (length us - k) 0 ≡ 0
-    go k b (yes i) m = s.1 k i b
-    go k b (no i) m = let q : k ≡ j = omega arith in rw q e
-
--- its last entries, so many of them
+-- its entries from entry i on
 abbrev pub at_rest : Granule → List ℕ → Look → ℕ → ℕ → ℕ → Seen
-at_rest G ws look h t left = seen G look (of_entries G (area_in look) h 0 (below_of G ws (area_in look) h) (drop (entries G - left) (table_words G ws t)))
+at_rest G ws look h t i = seen G look (of_entries G (area_in look) h 0 (below_of G ws (area_in look) h) (drop i (table_words G ws t)))
 
 module _ (G : Granule) (ws : List ℕ) (look : Look) (h t : ℕ) where
   entries_are : (h : ℕ) → of_table G ws (area_in look) h t 0 ≡ of_visit (table_words G ws t) t ⊕ of_entries G (area_in look) h 0 (below_of G ws (area_in look) h) (table_words G ws t)
@@ -101,36 +85,28 @@ module _ (G : Granule) (ws : List ℕ) (look : Look) (h t : ℕ) where
   entries_are zero = refl
   entries_are (suc h) = refl
 
-  pub table_parts : at_table G ws look h t ≡ at_visit G ws look t ⊞ at_rest G ws look h t (entries G)
+  pub table_parts : at_table G ws look h t ≡ at_visit G ws look t ⊞ at_rest G ws look h t 0
   table_parts =
-      let z : entries G - entries G ≡ 0 = omega arith in
       ap (seen G look) (entries_are h)
       ∙ seen-⊕ G look (of_visit (table_words G ws t) t) (of_entries G (area_in look) h 0 (below_of G ws (area_in look) h) (table_words G ws t))
-      ∙ rw z
 
-  pub rest_none : at_rest G ws look h t 0 ≡ unseen
+  pub rest_none : (i : ℕ) → entries G ≤ i → at_rest G ws look h t i ≡ unseen
   unfolding of_entries none_inside
-  rest_none = rw (drop_of_length-le (table_words G ws t) {i = entries G - 0} (omega (arith, length_part_le ws (slot G t 0) (entries G))))
+  rest_none i l = rw (drop_of_length-le (table_words G ws t) {i = i} (omega (arith, length_part_le ws (slot G t 0) (entries G))))
 
   -- word i of the table, past the end of the words too
   word_is : (i : ℕ) → i < entries G → get_or (table_words G ws t) i 0 ≡ word_at G ws t i
   word_is i l = get_d_part ws (slot G t 0) (entries G) i l ∙ ap (λ (j : ℕ). get_or ws j 0) (omega arith)
 
-  pub rest_parts : (left : ℕ) → 0 < left → left ≤ entries G → at_rest G ws look h t left ≡ at_entry G ws look h t (entries G - left) ⊞ at_rest G ws look h t (left - 1)
+  pub rest_parts : (i : ℕ) → i < entries G → at_rest G ws look h t i ≡ at_entry G ws look h t i ⊞ at_rest G ws look h t (i + 1)
   unfolding of_entries none_inside
-  rest_parts left l m = rw (next, ← word_is i (omega arith)) (go (dec_lt i (length words)))
+  rest_parts i l = rw (add-one i, ← word_is i l) (go (dec_lt i (length words)))
     where
-      i : ℕ
-      i = entries G - left
-
       words : List ℕ
       words = table_words G ws t
 
       below : ℕ → ℕ → Found
       below = below_of G ws (area_in look) h
-
-      next : entries G - (left - 1) ≡ suc i
-      next = omega arith
 
       of : ℕ → List ℕ → Seen
       of v k = seen G look (of_entries G (area_in look) h v below k)
@@ -144,21 +120,12 @@ module _ (G : Granule) (ws : List ℕ) (look : Look) (h t : ℕ) where
       go (no j) =
           rw (drop_of_length-le words {i = i} (omega arith), drop_of_length-le words {i = suc i} (omega arith), get_or-eq_default words 0 {n = i} (omega arith), entry_zero G (area_in look) h)
 
-  -- empty entries add nothing
-  pub rest_skip : (left j : ℕ) → left ≤ entries G → Skips G ws t left j → at_rest G ws look h t left ≡ at_rest G ws look h t j
+  -- an empty entry adds nothing
+  pub rest_skip : (i : ℕ) → i < entries G → word_at G ws t i ≡ 0 → at_rest G ws look h t i ≡ at_rest G ws look h t (i + 1)
   unfolding none_inside
-  rest_skip zero j l s = let z : j ≡ 0 = omega (arith, s.0) in rw z
-  rest_skip (suc left) j l s = go (dec_lt j (suc left)) (rest_skip left j (omega arith))
-    where
-      first : j < suc left → at_entry G ws look h t (entries G - suc left) ≡ unseen
-      first i = rw (s.1 (suc left) i (omega arith), entry_zero G (area_in look) h)
-
-      go : Dec (j < suc left) → (Skips G ws t left j → at_rest G ws look h t left ≡ at_rest G ws look h t j) → at_rest G ws look h t (suc left) ≡ at_rest G ws look h t j
-      go (yes i) ih =
-          rest_parts (suc left) (omega arith) l
-          ∙ ap₂ ◌⊞◌ (first i) (ap (at_rest G ws look h t) (sub-one (suc left)) ∙ ih (omega arith, λ k a b. s.1 k a (omega arith)))
-          ∙ unseen-⊞ (at_rest G ws look h t j)
-      go (no i) ih = let e : suc left ≡ j = omega (arith, s.0) in rw e
+  rest_skip i l z =
+      let empty : at_entry G ws look h t i ≡ unseen = rw (z, entry_zero G (area_in look) h) in
+      rest_parts i l ∙ ap (λ (s : Seen). s ⊞ at_rest G ws look h t (i + 1)) empty ∙ unseen-⊞ (at_rest G ws look h t (i + 1))
 
 -- ---- how much there can be
 
@@ -211,102 +178,99 @@ power_small number h =
 pub room_table : (ws : List ℕ) (look : Look) (h t : ℕ) → h < (granule_in look).most → Room (at_table (granule_in look) ws look h t) 0 0
 room_table ws look h t l =
     let s = small_table (granule_in look) ws look h t 0 in
-    let p = power_small look.granule h l in
+    let p = power_small look.tree.granule h l in
     record { few = omega (arith, s.few); some_more = omega (arith, s.some_more) }
 
 -- ---- a table
 
-module _ (G : Granule) (ws M : List ℕ) (look : Look) (t : ℕ) where
-  pub visit_fresh : is_fresh G ws M look.bare t ≡ true → Answers (at_visit G ws look t) M (Counts 1 0) (set M t 1)
+module _ (G : Granule) (ws : List ℕ) (M : List Bool) (look : Look) (t : ℕ) where
+  pub visit_fresh : is_fresh G ws M look.bare t ≡ true → Answers (at_visit G ws look t) M (counted 1 0) (set M t true)
   unfolding Answers mark none_inside
-  visit_fresh e = go (eqb (get_or M t 0) 0) ((eqb t 0 || not (all_zero (table_words G ws t))) || look.bare) e
+  visit_fresh e = go (not (get_or M t false)) ((eqb t 0 || not (all_zero (table_words G ws t))) || look.bare) e
     where
-      go : (p q : Bool) → (p && q) ≡ true → Ends (cond q (cond p (marks (set M t 1)) clash) clash) 1 0 (Counts 1 0) (set M t 1)
+      go : (p q : Bool) → (p && q) ≡ true → Ends (cond q (cond p (marks (set M t true)) clash) clash) 1 0 (counted 1 0) (set M t true)
       go true true e = (refl, refl)
       go true false e = absurd (false≢true e)
       go false q e = absurd (false≢true e)
 
-  pub visit_stale : is_fresh G ws M look.bare t ≡ false → (N : List ℕ) → Answers (at_visit G ws look t) M Damaged N
+  pub visit_stale : is_fresh G ws M look.bare t ≡ false → (N : List Bool) → Answers (at_visit G ws look t) M None N
   unfolding Answers mark none_inside
-  visit_stale e N = go (eqb (get_or M t 0) 0) ((eqb t 0 || not (all_zero (table_words G ws t))) || look.bare) e
+  visit_stale e N = go (not (get_or M t false)) ((eqb t 0 || not (all_zero (table_words G ws t))) || look.bare) e
     where
-      go : (p q : Bool) → (p && q) ≡ false → Ends (cond q (cond p (marks (set M t 1)) clash) clash) 1 0 Damaged N
+      go : (p q : Bool) → (p && q) ≡ false → Ends (cond q (cond p (marks (set M t true)) clash) clash) 1 0 None N
       go true true e = absurd (true≢false e)
       go true false e = refl
       go false true e = refl
       go false false e = refl
 
--- the loop over its entries: what is left of them answers for all
-pub record Loop (ws : List ℕ) (look : Look) (h t : ℕ) (M₀ : List ℕ) (a₀ b₀ : ℕ) (M : List ℕ) (a b left : ℕ) : Type 0 where
-  pub few_left : left ≤ entries (granule_in look)
-  pub carried : Carried (at_rest (granule_in look) ws look h t (entries (granule_in look))) M₀ a₀ b₀ (at_rest (granule_in look) ws look h t left) M a b
+-- the loop over its entries, before entry i: what is left of them answers for all
+pub record Loop (ws : List ℕ) (look : Look) (h t : ℕ) (M₀ : List Bool) (a₀ b₀ : ℕ) (M : List Bool) (a b i : ℕ) : Type 0 where
+  pub carried : Carried (at_rest (granule_in look) ws look h t 0) M₀ a₀ b₀ (at_rest (granule_in look) ws look h t i) M a b
 
-module _ {ws : List ℕ} {look : Look} {h t : ℕ} {M₀ : List ℕ} {a₀ b₀ : ℕ} {M : List ℕ} {a b left : ℕ} (k : Loop ws look h t M₀ a₀ b₀ M a b left) where
-  pub loop_end : left ≤ 0 → Goes (at_rest (granule_in look) ws look h t (entries (granule_in look))) M₀ a₀ b₀ (Counts a b) M
-  loop_end l = let z : left ≡ 0 = omega arith in carried_end k.carried (ap (at_rest (granule_in look) ws look h t) z ∙ rest_none (granule_in look) ws look h t)
+module _ {ws : List ℕ} {look : Look} {h t : ℕ} {M₀ : List Bool} {a₀ b₀ : ℕ} {M : List Bool} {a b i : ℕ} (k : Loop ws look h t M₀ a₀ b₀ M a b i) where
+  pub loop_end : entries (granule_in look) ≤ i → Goes (at_rest (granule_in look) ws look h t 0) M₀ a₀ b₀ (counted a b) M
+  loop_end l = carried_end k.carried (rest_none (granule_in look) ws look h t i l)
 
-  pub loop_skip : (j : ℕ) → Skips (granule_in look) ws t left j → Loop ws look h t M₀ a₀ b₀ M a b j
-  loop_skip j s =
-      record {
-        few_left = omega (arith, k.few_left, s.0);
-        carried =
-            subst (λ (r : Seen). Carried (at_rest (granule_in look) ws look h t (entries (granule_in look))) M₀ a₀ b₀ r M a b)
-            (rest_skip (granule_in look) ws look h t left j k.few_left s)
-            k.carried;
-      }
+  module _ (l : i < entries (granule_in look)) where
+    pub loop_skip : word_at (granule_in look) ws t i ≡ 0 → Loop ws look h t M₀ a₀ b₀ M a b (i + 1)
+    loop_skip z =
+        record {
+          carried =
+              subst (λ (r : Seen). Carried (at_rest (granule_in look) ws look h t 0) M₀ a₀ b₀ r M a b)
+              (rest_skip (granule_in look) ws look h t i l z)
+              k.carried;
+        }
 
-  module _ (l : 0 < left) where
     abbrev F : Seen
-    F = at_entry (granule_in look) ws look h t (entries (granule_in look) - left)
+    F = at_entry (granule_in look) ws look h t i
 
     abbrev G : Seen
-    G = at_rest (granule_in look) ws look h t (left - 1)
+    G = at_rest (granule_in look) ws look h t (i + 1)
 
-    next : at_rest (granule_in look) ws look h t left ≡ F ⊞ G
-    next = rest_parts (granule_in look) ws look h t left l k.few_left
+    next : at_rest (granule_in look) ws look h t i ≡ F ⊞ G
+    next = rest_parts (granule_in look) ws look h t i l
 
-    pub loop_bad : (N K : List ℕ) → Answers (at_entry (granule_in look) ws look h t (entries (granule_in look) - left)) M Damaged N → Goes (at_rest (granule_in look) ws look h t (entries (granule_in look))) M₀ a₀ b₀ Damaged K
+    pub loop_bad : (N K : List Bool) → Answers (at_entry (granule_in look) ws look h t i) M None N → Goes (at_rest (granule_in look) ws look h t 0) M₀ a₀ b₀ None K
     loop_bad N K g = carried_bad k.carried F G next N K g
 
-    module _ (x y : ℕ) (N : List ℕ) (g : Answers (at_entry (granule_in look) ws look h t (entries (granule_in look) - left)) M (Counts x y) N) where
+    module _ (x y : ℕ) (N : List Bool) (g : Answers (at_entry (granule_in look) ws look h t i) M (counted x y) N) where
       pub loop_few : (a + x < 2 ^ 64) × (b + y < 2 ^ 64)
       loop_few = carried_few k.carried F G next x y N g
 
-      pub loop_more : length N ≡ length M → Loop ws look h t M₀ a₀ b₀ N (a + x) (b + y) (left - 1)
-      loop_more i = record { few_left = omega (arith, k.few_left); carried = carried_more k.carried F G next x y N g i }
+      pub loop_more : length N ≡ length M → Loop ws look h t M₀ a₀ b₀ N (a + x) (b + y) (i + 1)
+      loop_more e = record { carried = carried_more k.carried F G next x y N g e }
 
-module _ (ws : List ℕ) (look : Look) (h t : ℕ) (M : List ℕ) where
+module _ (ws : List ℕ) (look : Look) (h t : ℕ) (M : List Bool) where
   abbrev all : Seen
-  all = at_rest (granule_in look) ws look h t (entries (granule_in look))
+  all = at_rest (granule_in look) ws look h t 0
 
   -- a table that was come to before, or is empty
-  pub table_stale : is_fresh (granule_in look) ws M look.bare t ≡ false → Answers (at_table (granule_in look) ws look h t) M Damaged M
+  pub table_stale : is_fresh (granule_in look) ws M look.bare t ≡ false → Answers (at_table (granule_in look) ws look h t) M None M
   table_stale e =
-      goes_answers (at_table (granule_in look) ws look h t) M Damaged M
+      goes_answers (at_table (granule_in look) ws look h t) M None M
       (rw (table_parts (granule_in look) ws look h t) (goes_bad (at_visit (granule_in look) ws look t) all M 0 0 M M (visit_stale (granule_in look) ws M look t e M)))
 
   -- else its entries decide
-  pub table_fresh : is_fresh (granule_in look) ws M look.bare t ≡ true → (r : Tally) (N : List ℕ) → Goes all (set M t 1) 1 0 r N → Answers (at_table (granule_in look) ws look h t) M r N
+  pub table_fresh : is_fresh (granule_in look) ws M look.bare t ≡ true → (r : Option Counts) (N : List Bool) → Goes all (set M t true) 1 0 r N → Answers (at_table (granule_in look) ws look h t) M r N
   table_fresh e r N g =
       goes_answers (at_table (granule_in look) ws look h t) M r N
-      (rw (table_parts (granule_in look) ws look h t) (goes_good (at_visit (granule_in look) ws look t) all M 0 0 1 0 (set M t 1) (visit_fresh (granule_in look) ws M look t e) r N g))
+      (rw (table_parts (granule_in look) ws look h t) (goes_good (at_visit (granule_in look) ws look t) all M 0 0 1 0 (set M t true) (visit_fresh (granule_in look) ws M look t e) r N g))
 
-  pub table_starts : h < (granule_in look).most → Loop ws look h t M 1 0 M 1 0 (entries (granule_in look))
+  pub table_starts : h < (granule_in look).most → Loop ws look h t M 1 0 M 1 0 0
   table_starts l =
       record {
-        few_left = omega arith;
         carried = carried_start all M 1 0 (rest (rw (table_parts (granule_in look) ws look h t) at (room_table ws look h t l)));
       }
     where
       rest : Room (at_visit (granule_in look) ws look t ⊞ all) 0 0 → Room all 1 0
       rest m = record { few = omega (arith, m.few); some_more = omega (arith, m.some_more) }
 
-pub table_entry : {ws : List ℕ} {look : Look} {M N : List ℕ} {t h a b left : ℕ} → TableFit M look t h → Loop ws look h t (set M t 1) 1 0 N a b left
+pub table_entry : {ws : List ℕ} {look : Look} {M N : List Bool} {t h a b i : ℕ} → TableFit M look t h → Loop ws look h t (set M t true) 1 0 N a b i
     → EntryFit N look h
-table_entry {M = M} {t = t} f k = record { placed = f.placed; marked = omega (arith, f.marked, k.carried.long, length-set M t 1); low = f.low }
+table_entry {M = M} {t = t} f k = record { placed = f.placed; marked = omega (arith, f.marked, k.carried.long, length-set M t true); low = f.low }
 
 -- a table of the tree is among the words
-pub part_long : (ws us : List ℕ) {M : List ℕ} {look : Look} {t h : ℕ} → TableFit M look t h → RunsFit look (length ws) (length us) → length (table_words (granule_in look) (ws ++ us) t) ≡ entries (granule_in look)
+pub part_long : (ws us : List ℕ) {M : List Bool} {look : Look} {t h : ℕ} → TableFit M look t h → RunsFit look (length ws) (length us) → length (table_words (granule_in look) (ws ++ us) t) ≡ entries (granule_in look)
 part_long ws us {look = look} {t = t} f r =
     length_part (ws ++ us) (slot (granule_in look) t 0) (entries (granule_in look)) (simp length-append (omega (arith, r.long, table_ends (entries (granule_in look)) f.inside)))
 
@@ -315,12 +279,8 @@ module _ (G : Granule) (ws us : List ℕ) (t : ℕ) (e : us ≡ table_words G ws
   pub part_word : (i : ℕ) → i < entries G → get_or us i 0 ≡ word_at G ws t i
   part_word i l = ap (λ (x : List ℕ). get_or x i 0) e ∙ get_d_part ws (slot G t 0) (entries G) i l ∙ ap (λ (j : ℕ). get_or ws j 0) (omega arith)
 
-  pub part_skips : length us ≡ entries G → (left j : ℕ) → left ≤ entries G → Passes us left j → Skips G ws t left j
-  part_skips n left j m s =
-      (s.0, λ k a b. sym (part_word (entries G - k) (omega arith)) ∙ ap (λ (x : ℕ). get_or us (x - k) 0) (sym n) ∙ s.1 k a b)
-
 -- what the word says, the entry says
-pub at_word_lem : (ws : List ℕ) (look : Look) (h t i : ℕ) {w : ℕ} (M : List ℕ) (r : Tally) (N : List ℕ) → w ≡ word_at (granule_in look) ws t i → Answers (at_word (granule_in look) ws look h w) M r N
+pub at_word_lem : (ws : List ℕ) (look : Look) (h t i : ℕ) {w : ℕ} (M : List Bool) (r : Option Counts) (N : List Bool) → w ≡ word_at (granule_in look) ws t i → Answers (at_word (granule_in look) ws look h w) M r N
     → Answers (at_entry (granule_in look) ws look h t i) M r N
 at_word_lem ws look h t i M r N e g = subst (λ (x : ℕ). Answers (at_word (granule_in look) ws look h x) M r N) e g
 
@@ -331,39 +291,39 @@ part_own G us e = let z : slot G 0 0 ≡ 0 = omega arith in sym (rw z (take_all 
 
 -- ---- an entry
 
-module _ (ws M : List ℕ) (look : Look) (h w : ℕ) (r : Tally) (N : List ℕ) where
+module _ (ws : List ℕ) (M : List Bool) (look : Look) (h w : ℕ) (r : Option Counts) (N : List Bool) where
   -- what the word says decides
   says : (e : Entry) → entry_at (granule_in look) (area_in look) h w ≡ e → Answers (seen (granule_in look) look (of_entry (granule_in look) h 0 (below_of (granule_in look) ws (area_in look) h) e)) M r N → Answers (at_word (granule_in look) ws look h w) M r N
   says e q g = subst (λ (e : Entry). Answers (seen (granule_in look) look (of_entry (granule_in look) h 0 (below_of (granule_in look) ws (area_in look) h) e)) M r N) (sym q) g
 
-  pub entry_empty : entry_at (granule_in look) (area_in look) h w ≡ Empty → r ≡ Counts 0 0 → N ≡ M → Answers (at_word (granule_in look) ws look h w) M r N
+  pub entry_empty : entry_at (granule_in look) (area_in look) h w ≡ Empty → r ≡ counted 0 0 → N ≡ M → Answers (at_word (granule_in look) ws look h w) M r N
   unfolding Answers mark none_inside
   entry_empty q a b = says Empty q (a, b)
 
   module _ (b k : ℕ) (q : entry_at (granule_in look) (area_in look) h w ≡ Frame b k) where
-    pub entry_frame : meets_area (granule_in look) (kept_in look) b (size_at (granule_in look) h) ≡ false → r ≡ Counts 0 1 → N ≡ M → Answers (at_word (granule_in look) ws look h w) M r N
+    pub entry_frame : meets_area (granule_in look) (kept_in look) b (size_at (granule_in look) h) ≡ false → r ≡ counted 0 1 → N ≡ M → Answers (at_word (granule_in look) ws look h w) M r N
     unfolding Answers mark none_inside
     entry_frame e a d = says (Frame b k) q (rw e (a, d))
 
     -- a frame that shares a byte with the tables
-    pub entry_inside : meets_area (granule_in look) (kept_in look) b (size_at (granule_in look) h) ≡ true → r ≡ Damaged → Answers (at_word (granule_in look) ws look h w) M r N
+    pub entry_inside : meets_area (granule_in look) (kept_in look) b (size_at (granule_in look) h) ≡ true → r ≡ None → Answers (at_word (granule_in look) ws look h w) M r N
     unfolding Answers none_inside
     entry_inside e a = says (Frame b k) q (rw e a)
 
-  pub entry_damaged : entry_at (granule_in look) (area_in look) h w ≡ Damaged → r ≡ Damaged → Answers (at_word (granule_in look) ws look h w) M r N
+  pub entry_damaged : entry_at (granule_in look) (area_in look) h w ≡ Damaged → r ≡ None → Answers (at_word (granule_in look) ws look h w) M r N
   unfolding Answers none_inside
   entry_damaged q a = says Damaged q a
 
   pub entry_child : (c : ℕ) → entry_at (granule_in look) (area_in look) h w ≡ Table c → Answers (at_table (granule_in look) ws look (h - 1) c) M r N → Answers (at_word (granule_in look) ws look h w) M r N
-  entry_child c q g = says (Table c) q (subst (λ (s : Seen). Answers s M r N) (sym (below_table (granule_in look) ws look h c (table_only (granule_sane look.granule) (area_in look) h w q).0)) g)
+  entry_child c q g = says (Table c) q (subst (λ (s : Seen). Answers s M r N) (sym (below_table (granule_in look) ws look h c (table_only (granule_sane look.tree.granule) (area_in look) h w q).0)) g)
 
 -- the size of a frame at a height, as the code has it
 pub met_by_size : (G : Granule) (area : Area) (b : ℕ) {s h : ℕ} {m x : Bool} → h < G.most → s ≡ at_level G h (size_at G h) → m ≡ meets_area G area b s → m ≡ x
     → meets_area G area b (size_at G h) ≡ x
 met_by_size G area b {s} {h} l e q t = ap (meets_area G area b) (sym (level_some G l (size_at G h)) ∙ sym e) ∙ sym q ∙ t
 
-pub entry_fit : {M : List ℕ} {look : Look} {h : ℕ} → EntryFit M look h → (w c : ℕ) → entry_at (granule_in look) (area_in look) h w ≡ Table c
+pub entry_fit : {M : List Bool} {look : Look} {h : ℕ} → EntryFit M look h → (w c : ℕ) → entry_at (granule_in look) (area_in look) h w ≡ Table c
     → (0 < h) × TableFit M look c (h - 1)
 entry_fit {look = look} f w c q =
-    let (a, b, d, _) = table_only (granule_sane look.granule) (area_in look) _ w q in
+    let (a, b, d, _) = table_only (granule_sane look.tree.granule) (area_in look) _ w q in
     (a, record { placed = f.placed; marked = f.marked; inside = d; low = omega (arith, f.low) })

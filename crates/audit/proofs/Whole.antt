@@ -1,12 +1,12 @@
 -- The audit's answer, from what its checks answer: marking without a clash is the same as distinctness.
-use Rattle.std.proofs.Common.{◌≡◌, ℕ, ◌+◌, ◌-◌, ◌*◌, ◌<◌, ◌≤◌, Bool, true, false, cond, not, ◌&&◌, ◌||◌, eqb, ltb, List, [], ◌∷◌, ◌++◌, length, get_or, set, replicate, sym, refl, ap, ◌∙◌, ap₂, true≢false, arith, length-set, get_or-set_other, get_or-set_same, eq-eqb, ne_eqb}
+use Rattle.std.proofs.Common.{◌≡◌, ℕ, ◌+◌, ◌-◌, ◌*◌, ◌<◌, ◌≤◌, Bool, true, false, cond, not, ◌&&◌, ◌||◌, eqb, ltb, zero, suc, List, [], ◌∷◌, ◌++◌, length, get_or, set, replicate, Option, Some, None, sym, refl, ap, ◌∙◌, ap₂, true≢false, arith, length-set, get_or-set_other, get_or-set_same, eq-eqb, ne_eqb}
 use mathlib.Core.Bool.{false≢true, and-true, and-false, and_assoc}
 use mathlib.Core.List.Memᴰ.{head as here}
 use mathlib.Core.List.Memᴰ.{tail as there}
 use native.Mathlib.Decide.{ℕ_discrete}
 use lib.ListN.{length-replicate}
 use Rattle.laws.specs.Lists.{all_zero, among, distinct}
-use Rattle.laws.specs.ListLaws.{all_zero_at, all_zero_replicate, distinct_left}
+use Rattle.laws.specs.ListLaws.{distinct_left}
 use Rattle.path.specs.Geometry.{Granule, granule_of, entries}
 use Rattle.path.specs.Areas.{Area, area_of, total, GoodArea}
 use Rattle.path.specs.Numbers.{most_tables, GoodSetup}
@@ -18,9 +18,10 @@ use Rattle.model.specs.Audit.{Found, table_words, of_table, of_pool, free_of, fr
 use Rattle.model.specs.Adds.{sound_tree}
 use Rattle.model.specs.Sound.{Each, reached_of, mappings_of}
 use Rattle.model.proofs.AuditLaws.{each_append, reached_low, free_back}
-use Rattle.audit.specs.Checks.{granule_in, area_in, kept_in, strictly, Seen, seen, Marked, clash, marks, mark, walked, Answers, at_table, tree_of, free_pass, RunsFit, TableFit, Rooted}
+use Rattle.audit.specs.Checks.{granule_in, area_in, kept_in, tables_of, strictly, Seen, seen, Marked, clash, marks, mark, walked, counted, Answers, at_table, tree_of, free_pass, RunsFit, TableFit, Rooted}
 use Rattle.audit.specs.declared.Look.{Look}
-use Rattle.audit.specs.declared.Tally.TheVariants.{Counts, Damaged}
+use Rattle.model.specs.declared.Counts.{Counts}
+use Rattle.std.specs.Prelude.{is_some}
 use Rattle.audit.proofs.Parts.{mark_append, ended, clashed}
 use Rattle.audit.proofs.Tables.{or-false}
 
@@ -31,12 +32,12 @@ passed clash = false
 passed (marks M) = true
 
 -- none of these is marked
-unfoldable unmarked : List ℕ → List ℕ → Bool
+unfoldable unmarked : List Bool → List ℕ → Bool
 unmarked M [] = true
-unmarked M (t ∷ ts) = eqb (get_or M t 0) 0 && unmarked M ts
+unmarked M (t ∷ ts) = not (get_or M t false) && unmarked M ts
 
 -- once t is marked
-unmarked_set : (M : List ℕ) (t : ℕ) → t < length M → (ts : List ℕ) → unmarked (set M t 1) ts ≡ (not (among t ts) && unmarked M ts)
+unmarked_set : (M : List Bool) (t : ℕ) → t < length M → (ts : List ℕ) → unmarked (set M t true) ts ≡ (not (among t ts) && unmarked M ts)
 unfolding unmarked among
 unmarked_set M t l [] = refl
 unmarked_set M t l (u ∷ ts) = go (ℕ_discrete u t) (unmarked_set M t l ts)
@@ -46,18 +47,18 @@ unmarked_set M t l (u ∷ ts) = go (ℕ_discrete u t) (unmarked_set M t l ts)
     swap false true c = refl
     swap false false c = refl
 
-    go : Dec (u ≡ t) → unmarked (set M t 1) ts ≡ (not (among t ts) && unmarked M ts)
-        → (eqb (get_or (set M t 1) u 0) 0 && unmarked (set M t 1) ts) ≡ (not (eqb u t || among t ts) && (eqb (get_or M u 0) 0 && unmarked M ts))
-    go (yes e) ih = rw (e, get_or-set_same M t 1 0 l, eq-eqb t t refl)
-    go (no d) ih = rw (get_or-set_other M t u 1 0 d, ne_eqb u t d, ih) (swap (eqb (get_or M u 0) 0) (not (among t ts)) (unmarked M ts))
+    go : Dec (u ≡ t) → unmarked (set M t true) ts ≡ (not (among t ts) && unmarked M ts)
+        → (not (get_or (set M t true) u false) && unmarked (set M t true) ts) ≡ (not (eqb u t || among t ts) && (not (get_or M u false) && unmarked M ts))
+    go (yes e) ih = rw (e, get_or-set_same M t true false l, eq-eqb t t refl)
+    go (no d) ih = rw (get_or-set_other M t u true false d, ne_eqb u t d, ih) (swap (not (get_or M u false)) (not (among t ts)) (unmarked M ts))
 
 -- marking without a clash is distinctness, and none marked before
-mark_distinct : (M ts : List ℕ) → Each (λ t. t < length M) ts → passed (mark M ts) ≡ (distinct ts && unmarked M ts)
+mark_distinct : (M : List Bool) (ts : List ℕ) → Each (λ t. t < length M) ts → passed (mark M ts) ≡ (distinct ts && unmarked M ts)
 unfolding mark distinct unmarked
 mark_distinct M [] r = refl
 mark_distinct M (t ∷ ts) r =
-    go (eqb (get_or M t 0) 0)
-    (mark_distinct (set M t 1) ts (λ u m. rw (length-set M t 1) (r u (there m)))
+    go (not (get_or M t false))
+    (mark_distinct (set M t true) ts (λ u m. rw (length-set M t true) (r u (there m)))
     ∙ ap (λ (b : Bool). distinct ts && b) (unmarked_set M t (r t (here refl)) ts))
   where
     turn : (a d u : Bool) → (d && (a && u)) ≡ ((a && d) && u)
@@ -66,23 +67,28 @@ mark_distinct M (t ∷ ts) r =
     turn false true u = refl
     turn false false u = refl
 
-    go : (q : Bool) → passed (mark (set M t 1) ts) ≡ (distinct ts && (not (among t ts) && unmarked M ts))
-        → passed (cond q (mark (set M t 1) ts) clash) ≡ ((not (among t ts) && distinct ts) && (q && unmarked M ts))
+    go : (q : Bool) → passed (mark (set M t true) ts) ≡ (distinct ts && (not (among t ts) && unmarked M ts))
+        → passed (cond q (mark (set M t true) ts) clash) ≡ ((not (among t ts) && distinct ts) && (q && unmarked M ts))
     go true h = h ∙ turn (not (among t ts)) (distinct ts) (unmarked M ts)
     go false h = sym (and-false (not (among t ts) && distinct ts))
 
 -- no mark at all
-abbrev blank : ℕ → List ℕ
-blank k = replicate k 0
+abbrev blank : ℕ → List Bool
+blank k = replicate k false
+
+none_marked : (k t : ℕ) → get_or (blank k) t false ≡ false
+none_marked zero t = refl
+none_marked (suc k) zero = refl
+none_marked (suc k) (suc t) = none_marked k t
 
 unmarked_blank : (k : ℕ) (ts : List ℕ) → unmarked (blank k) ts ≡ true
 unfolding unmarked
 unmarked_blank k [] = refl
-unmarked_blank k (t ∷ ts) = rw (eq-eqb (get_or (blank k) t 0) 0 (all_zero_at (blank k) (all_zero_replicate k) t)) (unmarked_blank k ts)
+unmarked_blank k (t ∷ ts) = rw (none_marked k t) (unmarked_blank k ts)
 
 pub blank_distinct : (k : ℕ) (ts : List ℕ) → Each (λ t. t < k) ts → passed (mark (blank k) ts) ≡ distinct ts
 blank_distinct k ts r =
-    mark_distinct (blank k) ts (λ t m. rw (length-replicate {A = ℕ} k 0) (r t m))
+    mark_distinct (blank k) ts (λ t m. rw (length-replicate {A = Bool} k false) (r t m))
     ∙ ap (λ (b : Bool). distinct ts && b) (unmarked_blank k ts)
     ∙ and-true (distinct ts)
 
@@ -97,13 +103,13 @@ left_not xs ys e = go (distinct (xs ++ ys)) refl
 -- ---- the free list
 
 -- the free numbers' rule, and marking them without a clash
-free_parts : (G : Granule) (ws : List ℕ) (n : ℕ) (M ts : List ℕ) → free_pass G ws n M ts ≡ (free_sound G ws n ts && passed (mark M ts))
+free_parts : (G : Granule) (ws : List ℕ) (n : ℕ) (M : List Bool) (ts : List ℕ) → free_pass G ws n M ts ≡ (free_sound G ws n ts && passed (mark M ts))
 unfolding free_pass free_sound mark
 free_parts G ws n M [] = refl
-free_parts G ws n M (t ∷ ts) = go (ltb t n) (eqb (get_or M t 0) 0) (all_zero (table_words G ws t)) (free_parts G ws n (set M t 1) ts)
+free_parts G ws n M (t ∷ ts) = go (ltb t n) (not (get_or M t false)) (all_zero (table_words G ws t)) (free_parts G ws n (set M t true) ts)
   where
-    go : (r e z : Bool) → free_pass G ws n (set M t 1) ts ≡ (free_sound G ws n ts && passed (mark (set M t 1) ts))
-        → (r && (e && (z && free_pass G ws n (set M t 1) ts))) ≡ ((r && (z && free_sound G ws n ts)) && passed (cond e (mark (set M t 1) ts) clash))
+    go : (r e z : Bool) → free_pass G ws n (set M t true) ts ≡ (free_sound G ws n ts && passed (mark (set M t true) ts))
+        → (r && (e && (z && free_pass G ws n (set M t true) ts))) ≡ ((r && (z && free_sound G ws n ts)) && passed (cond e (mark (set M t true) ts) clash))
     go true true true h = h
     go true true false h = refl
     go true false true h = sym (and-false (free_sound G ws n ts))
@@ -114,20 +120,13 @@ free_parts G ws n M (t ∷ ts) = go (ltb t n) (eqb (get_or M t 0) 0) (all_zero (
 
 -- the adding call keeps one region free, and looks at no empty table
 abbrev pub loosely : Setup → ℕ → ℕ → Look
-loosely s kept many = record {
-  granule = s.granule;
-  base = s.base;
-  tables = s.tables;
-  base2 = s.base2;
-  tables2 = s.tables2;
-  kept = kept;
-  many = many;
-  kept2 = 0;
-  many2 = 0;
+loosely s base tables = record {
+  tree = tables_of s;
+  kept = record { granule = s.granule; base = base; tables = tables; base2 = 0; tables2 = 0 };
   bare = true;
 }
 
-pub root_fit : {s : Setup} {look : Look} {first second : ℕ} → Rooted s first second → (look.granule ≡ s.granule) → (look.tables ≡ s.tables) → (look.tables2 ≡ s.tables2)
+pub root_fit : {s : Setup} {look : Look} {first second : ℕ} → Rooted s first second → (look.tree.granule ≡ s.granule) → (look.tree.tables ≡ s.tables) → (look.tree.tables2 ≡ s.tables2)
     → GoodArea (granule_in look) (kept_in look) → TableFit (blank most_tables) look 0 (s.levels - 1) × RunsFit look first second
 root_fit {s} {look} R o e f g =
     let most : (granule_in look).most ≡ (granule_of s.granule).most = ap (λ (x : ℕ). (granule_of x).most) o in
@@ -135,7 +134,7 @@ root_fit {s} {look} R o e f g =
     ap₂ (λ (x y : ℕ). entries (granule_of x) * y) o (ap₂ ◌+◌ e f) in (
       record {
         placed = g;
-        marked = rw (length-replicate {A = ℕ} most_tables 0) (omega (arith, R.few));
+        marked = rw (length-replicate {A = Bool} most_tables false) (omega (arith, R.few));
         inside = omega (arith, R.some_table);
         low = omega (arith, R.not_more, R.enough, (granule_sane s.granule).large_below);
       },
@@ -159,14 +158,14 @@ module _ (s : Setup) (look : Look) (ws : List ℕ) (some_table : 1 ≤ s.tables)
   pub reached_small : Each (λ t. t < most_tables) tree.reached
   reached_small t m = omega (arith, few, reached_low (granule_sane s.granule) ws (area_of s) (s.levels - 1) 0 0 (omega arith) t m)
 
-  pub root_clash : (K : List ℕ) → Answers all (blank most_tables) Damaged K → (sound && distinct tree.reached) ≡ false
+  root_clash : (K : List Bool) → Answers all (blank most_tables) None K → (sound && distinct tree.reached) ≡ false
   root_clash K h = go sound refl (ap (λ (x : Seen). walked x (blank most_tables)) (sym all_is) ∙ clashed all (blank most_tables) K h)
     where
       go : (o : Bool) → sound ≡ o → cond o (mark (blank most_tables) tree.reached) clash ≡ clash → (o && distinct tree.reached) ≡ false
       go true o e = sym (blank_distinct most_tables tree.reached reached_small) ∙ ap passed e
       go false o e = refl
 
-  pub root_sound : (a b : ℕ) (K : List ℕ) → Answers all (blank most_tables) (Counts a b) K
+  root_sound : (a b : ℕ) (K : List Bool) → Answers all (blank most_tables) (counted a b) K
       → (sound ≡ true) × ((mark (blank most_tables) tree.reached ≡ marks K) × ((a ≡ length tree.reached) × (b ≡ length tree.mappings)))
   root_sound a b K h =
       let (x, y, z) = ended all (blank most_tables) K a b h in
@@ -178,7 +177,7 @@ module _ (s : Setup) (look : Look) (ws : List ℕ) (some_table : 1 ≤ s.tables)
       go false q e = absurd (let z : ◌≡◌ {A = ℕ} 0 1 = cc in omega arith)
 
   -- where empty tables are as good as others
-  pub tree_clash : (K : List ℕ) → look.bare ≡ true → Answers all (blank most_tables) Damaged K → false ≡ (none_inside (granule_of s.granule) (kept_in look) tree.mappings && sound_tree tree)
+  tree_clash : (K : List Bool) → look.bare ≡ true → Answers all (blank most_tables) None K → false ≡ (none_inside (granule_of s.granule) (kept_in look) tree.mappings && sound_tree tree)
   tree_clash K bare h = go (none_inside (granule_of s.granule) (kept_in look) tree.mappings) tree.ok tree.full (distinct tree.reached) (rw bare at (root_clash K h))
     where
       go : (n o f d : Bool) → ((n && (o && (f || true))) && d) ≡ false → false ≡ (n && (o && d))
@@ -187,7 +186,7 @@ module _ (s : Setup) (look : Look) (ws : List ℕ) (some_table : 1 ≤ s.tables)
       go true false f d e = refl
       go false o f d e = refl
 
-  pub tree_sound : (a b : ℕ) (K : List ℕ) → look.bare ≡ true → Answers all (blank most_tables) (Counts a b) K
+  tree_sound : (a b : ℕ) (K : List Bool) → look.bare ≡ true → Answers all (blank most_tables) (counted a b) K
       → true ≡ (none_inside (granule_of s.granule) (kept_in look) tree.mappings && sound_tree tree)
   tree_sound a b K bare h =
       let r = root_sound a b K h in
@@ -197,6 +196,12 @@ module _ (s : Setup) (look : Look) (ws : List ℕ) (some_table : 1 ≤ s.tables)
       go true true f e d = sym d
       go true false f e d = absurd (false≢true e)
       go false o f e d = absurd (false≢true e)
+
+  -- what such a check tells
+  pub tree_told : (K : List Bool) → look.bare ≡ true → (r : Option Counts) → Answers all (blank most_tables) r K
+      → is_some r ≡ (none_inside (granule_of s.granule) (kept_in look) tree.mappings && sound_tree tree)
+  tree_told K bare None h = tree_clash K bare h
+  tree_told K bare (Some c) h = tree_sound c.tables c.mappings K bare h
 
 -- ---- the whole
 
@@ -239,7 +244,7 @@ module _ (p : Pool) (g : good_pool (granule_of p.numbers.granule) p ≡ true) wh
   unfolding audit_w
   damaged e = sym (rw (g, e))
 
-  pub whole_clash : (K : List ℕ) → Answers seen_all (blank most_tables) Damaged K → refused 8 ≡ audit_w (granule_of p.numbers.granule) p
+  pub whole_clash : (K : List Bool) → Answers seen_all (blank most_tables) None K → refused 8 ≡ audit_w (granule_of p.numbers.granule) p
   unfolding sound_pool
   whole_clash K h = damaged (go good (distinct (reached_of (granule_of p.numbers.granule) p)) refl (rw good_is at (root_clash p.numbers look p.words N.numbers.some_table N.numbers.few refl K h)))
     where
@@ -248,7 +253,7 @@ module _ (p : Pool) (g : good_pool (granule_of p.numbers.granule) p ≡ true) wh
       go true d q e = rw (left_not (reached_of (granule_of p.numbers.granule) p) (free_of p) (q ∙ e))
       go false d q e = refl
 
-  module _ (a b : ℕ) (K : List ℕ) (h : Answers seen_all (blank most_tables) (Counts a b) K) where
+  module _ (a b : ℕ) (K : List Bool) (h : Answers seen_all (blank most_tables) (counted a b) K) where
     found : (good ≡ true) × ((mark (blank most_tables) (reached_of (granule_of p.numbers.granule) p) ≡ marks K) × ((a ≡ length (reached_of (granule_of p.numbers.granule) p)) × (b ≡ length (mappings_of (granule_of p.numbers.granule) p))))
     found = rw good_is at (root_sound p.numbers look p.words N.numbers.some_table N.numbers.few refl a b K h)
 

@@ -1,5 +1,5 @@
 -- What the audit's checks ask and answer. A check marks each table that it comes to, and stops at a table that is marked already.
-use Rattle.std.specs.Prelude.{◌≡◌, ℕ, zero, suc, ◌+◌, ◌-◌, ◌*◌, ◌%◌, ◌^◌, ◌<◌, ◌≤◌, Bool, true, false, cond, not, ◌&&◌, ◌||◌, List, [], ◌∷◌, length, ◌==◌, nat_lt, slice_index, slice_set}
+use Rattle.std.specs.Prelude.{◌≡◌, ℕ, zero, suc, ◌+◌, ◌-◌, ◌*◌, ◌%◌, ◌^◌, ◌<◌, ◌≤◌, Bool, true, false, cond, not, ◌&&◌, ◌||◌, List, [], ◌∷◌, length, ◌==◌, nat_lt, slice_index_or, slice_set, Option, Some, None}
 use Rattle.laws.specs.Lists.{all_zero}
 use Rattle.path.specs.Geometry.{Granule, granule_of, page_size, entries}
 use Rattle.path.specs.Areas.{Area, area_at, area_of, total, GoodArea, meets_area}
@@ -8,35 +8,28 @@ use Rattle.path.specs.declared.Setup.{Setup}
 use Rattle.entry.specs.Words.{base_in, attrs_in, frame_word, entry_at}
 use Rattle.model.specs.Audit.{Found, nothing, table_words, of_entry, of_table, none_inside}
 use Rattle.model.specs.Sound.{word_at}
+use Rattle.links.specs.declared.Tree.{Tree}
+use Rattle.links.specs.Trees as links
 use Rattle.audit.specs.declared.Look.{Look}
-use Rattle.audit.specs.declared.Tally.{Tally}
-use Rattle.audit.specs.declared.Tally.TheVariants.{Counts, Damaged}
+use Rattle.model.specs.declared.Counts.{Counts}
 
 -- the granule that a check goes by
 abbrev pub granule_in : Look → Granule
-granule_in look = granule_of look.granule
+granule_in look = granule_of look.tree.granule
 
 -- the tables that a check is of, and those that no frame may share a byte with
 abbrev pub area_in : Look → Area
-area_in look = area_at look.base look.tables look.base2 look.tables2
+area_in look = links.area_in look.tree
 
 abbrev pub kept_in : Look → Area
-kept_in look = area_at look.kept look.many look.kept2 look.many2
+kept_in look = links.area_in look.kept
 
 -- the audit goes by the pool's own regions, and an empty table is damage
+abbrev pub tables_of : Setup → Tree
+tables_of s = record { granule = s.granule; base = s.base; tables = s.tables; base2 = s.base2; tables2 = s.tables2 }
+
 abbrev pub strictly : Setup → Look
-strictly s = record {
-  granule = s.granule;
-  base = s.base;
-  tables = s.tables;
-  base2 = s.base2;
-  tables2 = s.tables2;
-  kept = s.base;
-  many = s.tables;
-  kept2 = s.base2;
-  many2 = s.tables2;
-  bare = false;
-}
+strictly s = record { tree = tables_of s; kept = tables_of s; bare = false }
 
 -- of what is found in a part of the tree: whether no frame shares a byte with the kept regions and it is sound and has no empty table, or these are as good
 -- as others; the tables reached; and how many mappings
@@ -55,23 +48,26 @@ seen G look F = record {
 -- the marks after tables were marked one after the other, or that one was marked before
 pub data Marked : Type 0 where
   clash : Marked
-  marks : List ℕ → Marked
+  marks : List Bool → Marked
 
-unfoldable pub mark : List ℕ → List ℕ → Marked
+unfoldable pub mark : List Bool → List ℕ → Marked
 mark M [] = marks M
-mark M (t ∷ ts) = cond (slice_index M t == 0) (mark (slice_set M t 1) ts) clash
+mark M (t ∷ ts) = cond (not (slice_index_or M t false)) (mark (slice_set M t true) ts) clash
 
 -- the same for the tables of a part of the tree, which also has to be sound
-abbrev pub walked : Seen → List ℕ → Marked
+abbrev pub walked : Seen → List Bool → Marked
 walked F M = cond F.ok (mark M F.reached) clash
 
--- an answer with these counts, and the marks after it
-abbrev pub Ends : Marked → ℕ → ℕ → Tally → List ℕ → Type 0
-Ends clash a b r N = r ≡ Damaged
-Ends (marks M) a b r N = (r ≡ Counts a b) × (N ≡ M)
+-- an answer with these counts, and the marks after it; none for a clash
+abbrev pub counted : ℕ → ℕ → Option Counts
+counted a b = Some (record { tables = a; mappings = b })
+
+abbrev pub Ends : Marked → ℕ → ℕ → Option Counts → List Bool → Type 0
+Ends clash a b r N = r ≡ None
+Ends (marks M) a b r N = (r ≡ counted a b) × (N ≡ M)
 
 -- a check of a part of the tree, from the marks M on, answers r and leaves the marks N
-unfoldable pub Answers : Seen → List ℕ → Tally → List ℕ → Type 0
+unfoldable pub Answers : Seen → List Bool → Option Counts → List Bool → Type 0
 Answers F M r N = Ends (walked F M) (length F.reached) F.count r N
 
 -- what is found in a table one level below entries of height h
@@ -100,14 +96,14 @@ is_page G area w =
     (w == frame_word (base_in w) 0 (attrs_in w) && base_in w % page_size G == 0) && not (meets_area G area (base_in w) (page_size G))
 
 -- table t was not marked before, and is the root or not empty, or may be empty
-abbrev pub is_fresh : Granule → List ℕ → List ℕ → Bool → ℕ → Bool
-is_fresh G ws M bare t = slice_index M t == 0 && ((t == 0 || not (all_zero (table_words G ws t))) || bare)
+abbrev pub is_fresh : Granule → List ℕ → List Bool → Bool → ℕ → Bool
+is_fresh G ws M bare t = not (slice_index_or M t false) && ((t == 0 || not (all_zero (table_words G ws t))) || bare)
 
 -- each of these free numbers is in range and was not marked before, and its table is all zero
-unfoldable pub free_pass : Granule → List ℕ → ℕ → List ℕ → List ℕ → Bool
+unfoldable pub free_pass : Granule → List ℕ → ℕ → List Bool → List ℕ → Bool
 free_pass G ws n M [] = true
 free_pass G ws n M (t ∷ ts) =
-    nat_lt t n && (slice_index M t == 0 && (all_zero (table_words G ws t) && free_pass G ws n (slice_set M t 1) ts))
+    nat_lt t n && (not (slice_index_or M t false) && (all_zero (table_words G ws t) && free_pass G ws n (slice_set M t true) ts))
 
 -- a page and a region's tables, as the difference of their addresses tells
 pub record PageFit (G : Granule) (page base n : ℕ) : Type 0 where
@@ -123,18 +119,18 @@ pub record Cut (G : Granule) (first : ℕ) : Type 0 where
 
 -- what a check asks of the runs of words, by their lengths
 pub record RunsFit (look : Look) (first second : ℕ) : Type 0 where
-  pub cut_is : first ≡ entries (granule_in look) * look.tables
+  pub cut_is : first ≡ entries (granule_in look) * look.tree.tables
   pub long : entries (granule_in look) * total (area_in look) ≤ first + second
 
 -- what a check of table t asks: tables in their places, a mark for each table of the pool, one of those, and the height of some level
-pub record TableFit (M : List ℕ) (look : Look) (t h : ℕ) : Type 0 where
+pub record TableFit (M : List Bool) (look : Look) (t h : ℕ) : Type 0 where
   pub placed : GoodArea (granule_in look) (kept_in look)
   pub marked : total (area_in look) ≤ length M
   pub inside : t < total (area_in look)
   pub low : h < (granule_in look).most
 
 -- what a check of an entry asks: the same, of no table
-pub record EntryFit (M : List ℕ) (look : Look) (h : ℕ) : Type 0 where
+pub record EntryFit (M : List Bool) (look : Look) (h : ℕ) : Type 0 where
   pub placed : GoodArea (granule_in look) (kept_in look)
   pub marked : total (area_in look) ≤ length M
   pub low : h < (granule_in look).most

@@ -1,41 +1,28 @@
 // The audit: the rules of a sound pool, tested from the root down and then along the free list. The adding call holds a tree to some of them.
 #![tactic(auto)]
 
-ghost use Rattle.std.specs.Prelude.{◌≡◌, ℕ, ◌+◌, ◌-◌, ◌*◌, ◌<◌, ◌≤◌, true, ◌&&◌, List, ◌++◌, length, take, slice_index, slice_set};
+ghost use Rattle.std.specs.Prelude.{◌≡◌, ℕ, ◌+◌, ◌-◌, ◌*◌, ◌<◌, ◌≤◌, Bool, true, ◌&&◌, List, ◌++◌, length, slice_set};
 ghost use Rattle.path.specs.Geometry.{granule_of, page_size, entries};
 ghost use Rattle.path.specs.Areas.{area_of, total, one_region, GoodArea, meets_region};
 ghost use Rattle.path.specs.Numbers.{most_tables, good_setup};
-ghost use Rattle.model.specs.Answers.{says_audit, pool};
+ghost use Rattle.model.specs.Answers.{says_audit, says_tested, tested, pool};
 ghost use Rattle.model.specs.Audit.{table_words, none_inside, audit_w};
 ghost use Rattle.model.specs.Adds.{sound_tree, add_tests};
 ghost use Rattle.audit.specs.Checks.{Answers, granule_in, strictly, Cut, Rooted, RunsFit, PageFit, TableFit, EntryFit, kept_in, is_page, is_fresh, at_table, at_word, tree_of, free_pass};
 
 use entry::Entry;
-use model::AuditAnswer;
+use links::Tree;
+use model::{Counts, Refusal};
 use path::Setup;
 
 // A mark for each table that a pool may have.
 const MARKS: usize = path::MOST_TABLES as usize;
 
-// What a check of a part of the tree found: tables and mappings, or a broken rule.
-#[derive(Clone, Copy)]
-enum Tally {
-    Counts(u64, u64),
-    Damaged,
-}
-
-// What a check goes by: the granule; the regions of the tree's tables; regions that no frame may share a byte with; and whether an empty table is as good as another.
+// What a check goes by: where the tree's tables stand; where tables stand that no frame may share a byte with; and whether an empty table is as good as another.
 #[derive(Clone, Copy)]
 struct Look {
-    granule: u64,
-    base: u64,
-    tables: u16,
-    base2: u64,
-    tables2: u16,
-    kept: u64,
-    many: u16,
-    kept2: u64,
-    many2: u16,
+    tree: Tree,
+    kept: Tree,
     bare: bool,
 }
 
@@ -44,7 +31,7 @@ fn is_fresh<'a>(
     granule: u64,
     words: &'a [u64],
     second: &'a [u64],
-    marks: &[u8],
+    marks: &[bool],
     bare: bool,
     t: u32,
 ) -> bool
@@ -52,7 +39,7 @@ fn is_fresh<'a>(
     ensures { (k : ℕ) → length words.now ≡ entries (granule_of granule) * k
         → result ≡ is_fresh (granule_of granule) (words.now ++ second.now) marks.now bare t }
 {
-    if marks[t as usize] != 0 {
+    if marks[t as usize] {
         return false;
     }
     if bare {
@@ -81,57 +68,40 @@ fn is_page(w: u64, look: Look) -> bool
 {
     let page = entry::is_frame(w, 0);
     let base = entry::base_in(w);
-    let rest = indices::rest_at(look.granule, base, 0);
+    let rest = indices::rest_at(look.tree.granule, base, 0);
     if rest != 0 {
         return false;
     }
-    if is_within(look.granule, base, look.kept, look.many) {
+    if is_within(look.tree.granule, base, look.kept.base, look.kept.tables) {
         return false;
     }
-    if is_within(look.granule, base, look.kept2, look.many2) {
+    if is_within(look.tree.granule, base, look.kept.base2, look.kept.tables2) {
         return false;
     }
     page
 }
 
-// Checks the words of a table of the last level, which is fresh. A word that is damaged is neither empty nor a page, and the loop goes on: it has no branch, so
-// that it is done on several words at once.
-fn pages_check(part: &[u64], look: Look) -> Tally
+// Checks the words of a table of the last level, which is fresh. None for a broken rule, here and in the checks below. A word that is damaged is neither empty
+// nor a page, and the loop goes on: it has no branch, so that it is done on several words at once.
+fn pages_check(part: &[u64], look: Look) -> Option<Counts>
     requires { (length part.now ≡ entries (granule_in look)) × GoodArea (granule_in look) (kept_in look) }
-    ensures { (ws : List ℕ) (t : ℕ) → part.now ≡ table_words (granule_in look) ws t → (M : List ℕ) → is_fresh (granule_in look) ws M look.bare t ≡ true
-        → Answers (at_table (granule_in look) ws look 0 t) M result (slice_set M t 1) }
+    ensures { (ws : List ℕ) (t : ℕ) → part.now ≡ table_words (granule_in look) ws t → (M : List Bool) → is_fresh (granule_in look) ws M look.bare t ≡ true
+        → Answers (at_table (granule_in look) ws look 0 t) M result (slice_set M t true) }
 {
-    let n = part.len();
     let mut empty: u64 = 0;
     let mut pages: u64 = 0;
-    let mut left = n;
-    while 0 < left {
-        let w = part[n - left];
+    for &w in part {
         let page = is_page(w, look);
         empty += (w == 0) as u64;
         pages += page as u64;
-        left -= 1;
     }
-    if empty + pages < n as u64 {
-        return Tally::Damaged;
+    if empty + pages < part.len() as u64 {
+        return None;
     }
-    Tally::Counts(1, pages)
-}
-
-// Where so many words of a table are left: how many are left from the first of them that is not 0 on.
-fn skip_empty(part: &[u64], left: usize) -> usize
-    requires { left ≤ length part.now }
-    ensures { (result ≤ left) × ((k : ℕ) → result < k → k ≤ left → slice_index part.now (length part.now - k) ≡ 0) }
-{
-    let n = part.len();
-    let mut rest = left;
-    while 0 < rest {
-        if part[n - rest] != 0 {
-            return rest;
-        }
-        rest -= 1;
-    }
-    0
+    Some(Counts {
+        tables: 1,
+        mappings: pages,
+    })
 }
 
 // Checks table t, whose entries have this height, and all below it, and marks the tables come to.
@@ -139,41 +109,33 @@ fn skip_empty(part: &[u64], left: usize) -> usize
 fn table_check<'a>(
     words: &'a [u64],
     second: &'a [u64],
-    marks: &mut [u8],
+    marks: &mut [bool],
     look: Look,
     t: u32,
     height: usize,
-) -> Tally
+) -> Option<Counts>
     requires { TableFit marks.old look t height × RunsFit look (length words.now) (length second.now) }
     ensures { Answers (at_table (granule_in look) (words.now ++ second.now) look height t) marks.old result marks.new }
 {
-    if !is_fresh(look.granule, words, second, marks, look.bare, t) {
-        return Tally::Damaged;
+    if !is_fresh(look.tree.granule, words, second, marks, look.bare, t) {
+        return None;
     }
-    marks[t as usize] = 1;
-    let part = contents::table_part(look.granule, words, second, t);
+    marks[t as usize] = true;
+    let part = contents::table_part(look.tree.granule, words, second, t);
     if height == 0 {
         return pages_check(part, look);
     }
     let mut tables: u64 = 1;
     let mut mappings: u64 = 0;
-    let n = part.len();
-    let mut left = skip_empty(part, n);
-    while 0 < left {
-        let w = part[n - left];
-        let r = entry_check(words, second, marks, look, w, height);
-        match r {
-            Tally::Counts(a, b) => {
-                tables += a;
-                mappings += b;
-            }
-            Tally::Damaged => {
-                return Tally::Damaged;
-            }
+    for &w in part {
+        if w == 0 {
+            continue;
         }
-        left = skip_empty(part, left - 1);
+        let found = entry_check(words, second, marks, look, w, height)?;
+        tables += found.tables;
+        mappings += found.mappings;
     }
-    Tally::Counts(tables, mappings)
+    Some(Counts { tables, mappings })
 }
 
 // Checks a word at this height, and the table that it names.
@@ -181,81 +143,85 @@ fn table_check<'a>(
 fn entry_check<'a>(
     words: &'a [u64],
     second: &'a [u64],
-    marks: &mut [u8],
+    marks: &mut [bool],
     look: Look,
     w: u64,
     height: usize,
-) -> Tally
+) -> Option<Counts>
     requires { EntryFit marks.old look height × RunsFit look (length words.now) (length second.now) }
     ensures { Answers (at_word (granule_in look) (words.now ++ second.now) look height w) marks.old result marks.new }
 {
-    let e = links::read_word(
-        look.granule,
-        w,
-        height,
-        look.base,
-        look.tables,
-        look.base2,
-        look.tables2,
-    );
-    match e {
-        Entry::Empty => Tally::Counts(0, 0),
+    match look.tree.read_word(w, height) {
+        Entry::Empty => Some(Counts {
+            tables: 0,
+            mappings: 0,
+        }),
         Entry::Frame {
             base: frame,
             attributes: _,
         } => {
-            let size = indices::size_at(look.granule, height);
-            let first = look.many as u64;
-            let more = look.many2 as u64;
+            let size = indices::size_at(look.tree.granule, height);
             let met = setups::meets_area(
-                look.granule,
-                look.kept,
-                first,
-                look.kept2,
-                more,
+                look.tree.granule,
+                look.kept.base,
+                look.kept.tables as u64,
+                look.kept.base2,
+                look.kept.tables2 as u64,
                 frame,
                 size,
             );
             if met {
-                return Tally::Damaged;
+                return None;
             }
-            Tally::Counts(0, 1)
+            Some(Counts {
+                tables: 0,
+                mappings: 1,
+            })
         }
         Entry::Table(c) => table_check(words, second, marks, look, c, height - 1),
-        Entry::Damaged => Tally::Damaged,
+        Entry::Damaged => None,
     }
 }
 
-// Checks the first f numbers of the free list: in range, not marked before, and their tables all zero.
+// Checks the free numbers: in range, not marked before, and their tables all zero.
 fn free_check<'a>(
     granule: u64,
     words: &'a [u64],
     second: &'a [u64],
-    marks: &mut [u8],
-    list: &[u32],
+    marks: &mut [bool],
+    free: &[u32],
     n: u32,
-    f: usize,
 ) -> bool
-    requires { (n ≤ length marks.old) × ((f ≤ length list.now) × Cut (granule_of granule) (length words.now)) }
-    ensures { result ≡ free_pass (granule_of granule) (words.now ++ second.now) n marks.old (take f list.now) }
+    requires { (n ≤ length marks.old) × Cut (granule_of granule) (length words.now) }
+    ensures { result ≡ free_pass (granule_of granule) (words.now ++ second.now) n marks.old free.now }
 {
-    let mut i: usize = 0;
-    while i < f {
-        let t = list[i];
+    for &t in free {
         if t >= n {
             return false;
         }
         let place = t as usize;
-        if marks[place] != 0 {
+        if marks[place] {
             return false;
         }
         if !contents::is_table_empty(granule, words, second, t) {
             return false;
         }
-        marks[place] = 1;
-        i += 1;
+        marks[place] = true;
     }
     true
+}
+
+// What the audit goes by: the pool's own regions, with which no frame may share a byte, and an empty table is damage.
+fn strict(s: Setup) -> Look
+    requires { total (area_of s) ≤ most_tables }
+    ensures { result ≡ strictly s }
+{
+    let tree = Tree::of(s);
+    Look {
+        tree,
+        kept: tree,
+        bare: false,
+    }
 }
 
 // Whether every reachable word is sound, no table is reached twice, and no frame shares a byte with a region of so many tables. Empty tables are not looked at.
@@ -264,24 +230,19 @@ fn tree_check<'a>(s: Setup, words: &'a [u64], second: &'a [u64], kept: u64, many
     ensures { result ≡ (none_inside (granule_of s.granule) (one_region kept many) (tree_of s (words.now ++ second.now)).mappings
         && sound_tree (tree_of s (words.now ++ second.now))) }
 {
-    let mut marks = [0u8; MARKS];
+    let mut marks = [false; MARKS];
     let look = Look {
-        granule: s.granule,
-        base: s.base,
-        tables: s.tables as u16,
-        base2: s.base2,
-        tables2: s.tables2 as u16,
-        kept,
-        many: many as u16,
-        kept2: 0,
-        many2: 0,
+        kept: Tree {
+            granule: s.granule,
+            base: kept,
+            tables: many as u16,
+            base2: 0,
+            tables2: 0,
+        },
         bare: true,
+        ..strict(s)
     };
-    let r = table_check(words, second, &mut marks, look, 0, (s.levels - 1) as usize);
-    match r {
-        Tally::Counts(_, _) => true,
-        Tally::Damaged => false,
-    }
+    table_check(words, second, &mut marks, look, 0, (s.levels - 1) as usize).is_some()
 }
 
 // Whether the setup numbers and the three lengths are good, every reachable word is sound and no table is reached twice. Empty tables, frames in the pool and the
@@ -296,8 +257,8 @@ pub fn tree_sound<'a>(s: Setup, words: &'a [u64], second: &'a [u64], places: usi
     tree_check(s, words, second, 0, 0)
 }
 
-// The tests of an add of so many tables from an address on, where the free list has so many places: 1, 8 for a tree that is not sound as it stands, 11 where a
-// frame shares a byte with the region, or 0.
+// The tests of an add of so many tables from an address on, where the free list has so many places: refusal 1, 8 for a tree that is not sound as it stands, or
+// 11 where a frame shares a byte with the region.
 pub fn add_tests<'a>(
     s: Setup,
     words: &'a [u64],
@@ -305,72 +266,53 @@ pub fn add_tests<'a>(
     places: usize,
     base2: u64,
     tables2: u64,
-) -> u64
+) -> Result<(), Refusal>
     ensures { (list : List ℕ) → length list ≡ places
-        → result ≡ add_tests (granule_of s.granule) (pool s (words.now ++ second.now) (length words.now) list) base2 tables2 }
+        → says_tested result ≡ tested (add_tests (granule_of s.granule) (pool s (words.now ++ second.now) (length words.now) list) base2 tables2) }
 {
     if !setups::good_adding(s, base2, tables2, words.len(), second.len(), places) {
-        return 1;
+        return Err(Refusal::Setup);
     }
     if !tree_check(s, words, second, 0, 0) {
-        return 8;
+        return Err(Refusal::Damage);
     }
     if !tree_check(s, words, second, base2, tables2) {
-        return 11;
+        return Err(Refusal::Pool);
     }
-    0
-}
-
-// What the audit goes by: the pool's own regions, with which no frame may share a byte, and an empty table is damage.
-fn strict(s: Setup) -> Look
-    requires { total (area_of s) ≤ most_tables }
-    ensures { result ≡ strictly s }
-{
-    let n = s.tables as u16;
-    let m = s.tables2 as u16;
-    Look {
-        granule: s.granule,
-        base: s.base,
-        tables: n,
-        base2: s.base2,
-        tables2: m,
-        kept: s.base,
-        many: n,
-        kept2: s.base2,
-        many2: m,
-        bare: false,
-    }
+    Ok(())
 }
 
 // The counts of reached tables and of mappings of a sound pool; refusal 1 for bad setup numbers or lengths, 8 for a broken rule.
-pub fn audit<'a>(s: Setup, words: &'a [u64], second: &'a [u64], list: &[u32]) -> AuditAnswer
+pub fn audit<'a>(
+    s: Setup,
+    words: &'a [u64],
+    second: &'a [u64],
+    list: &[u32],
+) -> Result<Counts, Refusal>
     ensures { says_audit result ≡ audit_w (granule_of s.granule) (pool s (words.now ++ second.now) (length words.now) list.now) }
 {
     if !setups::good_setup(s, words.len(), second.len(), list.len()) {
-        return AuditAnswer::Refused(1);
+        return Err(Refusal::Setup);
     }
     let all = s.tables + s.tables2;
-    let mut marks = [0u8; MARKS];
+    let mut marks = [false; MARKS];
     let look = strict(s);
-    let r = table_check(words, second, &mut marks, look, 0, (s.levels - 1) as usize);
-    match r {
-        Tally::Counts(tables, mappings) => {
-            if tables != all - s.free {
-                return AuditAnswer::Refused(8);
-            }
-            if !free_check(
-                s.granule,
-                words,
-                second,
-                &mut marks,
-                list,
-                all as u32,
-                s.free as usize,
-            ) {
-                return AuditAnswer::Refused(8);
-            }
-            AuditAnswer::Sound { tables, mappings }
-        }
-        Tally::Damaged => AuditAnswer::Refused(8),
+    let Some(counts) = table_check(words, second, &mut marks, look, 0, (s.levels - 1) as usize)
+    else {
+        return Err(Refusal::Damage);
+    };
+    if counts.tables != all - s.free {
+        return Err(Refusal::Damage);
     }
+    if !free_check(
+        s.granule,
+        words,
+        second,
+        &mut marks,
+        &list[..s.free as usize],
+        all as u32,
+    ) {
+        return Err(Refusal::Damage);
+    }
+    Ok(counts)
 }

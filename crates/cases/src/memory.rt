@@ -1,5 +1,10 @@
 // The memory that there is, of which each call is lent the first words of both runs and the first places.
 
+ghost use Rattle.std.specs.Iterator.{IsFinite};
+
+use crate::calls::{Done, Told};
+use crate::read::Line;
+
 // 65 tables.
 pub(crate) const WORDS: usize = 33280;
 
@@ -8,66 +13,112 @@ pub(crate) const MORE: usize = 8192;
 
 pub(crate) const PLACES: usize = 81;
 
-// Words of both runs.
-pub(crate) const ALL_WORDS: usize = 41472;
+#[derive(Clone, Copy, PartialEq, Eq)]
+pub(crate) struct Memory {
+    pub(crate) words: [u64; WORDS],
+    pub(crate) more: [u64; MORE],
+    pub(crate) list: [u32; PLACES],
+}
 
-// Words and places.
-pub(crate) const NUMBERS: usize = 41553;
-
-pub(crate) type Words = [u64; WORDS];
-
-pub(crate) type More = [u64; MORE];
-
-pub(crate) type Places = [u32; PLACES];
-
-pub(crate) fn narrow(n: u64) -> u32 {
+// A number of a place, of which the low half is kept.
+fn narrow(n: u64) -> u32 {
     (n % 0x1_0000_0000) as u32
 }
 
-// The numbers of a run from one place up to another become n, where there are so many.
-pub(crate) fn fill(run: &mut [u64], from: usize, to: usize, n: u64) {
-    if to > run.len() {
-        return;
-    }
-    let mut i = from;
-    while i < to {
-        run[i] = n;
-        i += 1;
+// So many first numbers of a run become n, where there are so many.
+fn fill(run: &mut [u64], count: u64, n: u64) {
+    if let Some(part) = run.get_mut(..count as usize) {
+        part.fill(n);
     }
 }
 
-// The places from one on become t.
-pub(crate) fn fill_places(list: &mut Places, from: usize, t: u32) {
-    let mut i = from;
-    while i < PLACES {
-        list[i] = t;
-        i += 1;
+impl Memory {
+    pub(crate) fn new() -> Memory {
+        Memory {
+            words: [0; WORDS],
+            more: [0; MORE],
+            list: [0; PLACES],
+        }
+    }
+
+    // Lends so many words of both runs and so many places, each sort alike. All other words are 0.
+    fn lend(&mut self, line: &mut Line) {
+        self.words = [0; WORDS];
+        fill(&mut self.words, line[11], line[12]);
+        self.more = [0; MORE];
+        fill(&mut self.more, line[15], line[16]);
+        self.list = [narrow(line[14]); PLACES];
+        line[1] = line[11];
+        line[2] = line[15];
+        line[3] = line[13];
+    }
+
+    // Lends another second run, and so many places in all, of which those that were lent stay.
+    fn have(&mut self, line: &mut Line) {
+        self.more = [0; MORE];
+        fill(&mut self.more, line[11], line[12]);
+        if let Some(places) = self.list.get_mut(line[3] as usize..) {
+            places.fill(narrow(line[14]));
+        }
+        line[2] = line[11];
+        line[3] = line[13];
+    }
+
+    // A word becomes another, by its number in both runs, where the second begins at `from`.
+    fn write(&mut self, line: &Line, from: u64) {
+        let i = line[11];
+        let k = if i < from {
+            i
+        } else {
+            (i - from).wrapping_add(WORDS as u64)
+        };
+        pool::put(&mut self.words, &mut self.more, k as usize, line[12]);
+    }
+
+    // What changes the memory and is no call.
+    pub(crate) fn lay(&mut self, call: u8, line: &mut Line) {
+        match call {
+            b'l' | b'L' => self.lend(line),
+            b'h' => self.have(line),
+            b'w' => self.write(line, line[1]),
+            b'W' => self.write(line, WORDS as u64),
+            b'p' | b'P' => pool::give(&mut self.list, line[11] as usize, narrow(line[12])),
+            _ => {}
+        }
+    }
+
+    // With zeros where a call that is done makes all words 0: a format those of both runs, an add those of the second.
+    pub(crate) fn cleared(self, told: Told) -> Memory {
+        match told.answer {
+            Ok(Done::Format(_)) => Memory {
+                words: [0; WORDS],
+                more: [0; MORE],
+                ..self
+            },
+            Ok(Done::Add(_)) => Memory {
+                more: [0; MORE],
+                ..self
+            },
+            _ => self,
+        }
+    }
+
+    // The sum of all numbers, where the second run follows the first, and the places follow both.
+    pub(crate) fn sum(&self) -> u64 {
+        let places = self.list.iter().map(|t| u64::from(*t));
+        sum(self.words.iter().chain(&self.more).copied().chain(places))
     }
 }
 
-// Number i of two runs and of places, where the second run follows the first, and the places follow both.
-pub(crate) fn number(words: &[u64], more: &[u64], list: &[u32], i: usize) -> u64 {
-    let n = words.len();
-    if i < n {
-        return words[i];
+// The sum of (2 i + 1) * number i modulo 2^64.
+pub(crate) fn sum<I: Iterator<Item = u64>>(numbers: I) -> u64
+    requires { I.Iterator.can_next numbers × IsFinite (I.Iterator.remaining numbers) }
+{
+    let mut sum = 0u64;
+    let mut odd = 1u64;
+    for n in numbers {
+        sum = sum.wrapping_add(n.wrapping_mul(odd));
+        odd = odd.wrapping_add(2);
     }
-    let m = more.len();
-    let k = i - n;
-    if k < m {
-        return more[k];
-    }
-    pool::place(list, k - m) as u64
-}
-
-// The sum of (2 i + 1) * number i modulo 2^64, of so many. It needs no product: from the last number down, twice the sum of those met is added at each.
-pub(crate) fn sum(words: &[u64], more: &[u64], list: &[u32], count: usize) -> u64 {
-    let mut met = 0;
-    let mut twice = 0;
-    let mut i = count;
-    while i > 0 {
-        i -= 1;
-        met = std::num::wrapping_add_u64(met, number(words, more, list, i));
-        twice = std::num::wrapping_add_u64(twice, std::num::wrapping_add_u64(met, met));
-    }
-    std::num::wrapping_sub_u64(twice, met)
+    sum
 }

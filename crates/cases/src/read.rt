@@ -1,18 +1,20 @@
-// The lines of the text, byte by byte. A line is a name, a colon, a call, and numbers with other words between them; one with no colon is a heading.
+// A line, byte by byte. It is a name, a colon, a call, and numbers with other words between them; one with no colon is a heading.
 // A call that begins with a large letter has what it must answer after what it takes, and is compared.
 
-use crate::memory;
+ghost use Rattle.std.specs.Prelude.{◌≤◌};
 
-// Where in a line the next byte stands: in its name, before its call, in a word, between words, in a number.
-const NAME: u8 = 0;
-
-const CALL: u8 = 1;
-
-const WORD: u8 = 2;
-
-const SPACE: u8 = 3;
-
-const NUMBER: u8 = 4;
+// Where in a line the next byte stands.
+#[derive(Clone, Copy, PartialEq, Eq)]
+enum Part {
+    Name,
+    // before the call
+    Call,
+    Word,
+    // between words
+    Space,
+    // in a number that has this value so far
+    Number { value: u64, hex: bool },
+}
 
 // The numbers of a line.
 pub(crate) const LINE: usize = 28;
@@ -21,42 +23,33 @@ pub(crate) const LINE: usize = 28;
 // and 27 the sum of the memory after it, or of the two runs of a list. What a line may name and does not is 0, and a granule 4096; what stands before that stays as it was.
 pub(crate) type Line = [u64; LINE];
 
+// Where in a line the next byte stands, the first letter of its call, and the place of its next number.
+// The call stays a letter: as an enum it would still need a case for every letter that is no call, and two for most that are.
 #[derive(Clone, Copy)]
-pub(crate) struct State {
-    // where the line begins, where in it the next byte stands, the first letter of its call, and the place of its next number
-    pub(crate) start: usize,
-    pub(crate) part: u8,
-    pub(crate) call: u8,
-    pub(crate) next: usize,
-    // the number that is being read, and whether its digits are hexadecimal
-    pub(crate) value: u64,
-    pub(crate) hex: bool,
-    // how many lines agreed
-    pub(crate) agreed: u64,
+struct State {
+    part: Part,
+    call: u8,
+    next: usize,
 }
 
-pub(crate) fn start() -> State {
-    State {
-        start: 0,
-        part: NAME,
+// Reads a line's numbers, each to its place, and answers the first letter of its call, or 0 for a heading.
+pub(crate) fn read(text: &[u8], line: &mut Line) -> u8 {
+    let mut s = State {
+        part: Part::Name,
         call: 0,
         next: 0,
-        value: 0,
-        hex: false,
-        agreed: 0,
+    };
+    for b in text {
+        s.byte(*b, line);
     }
-}
-
-// Whether a line of this call is compared; else it is said.
-pub(crate) fn is_compared(call: u8) -> bool {
-    match call {
-        b'A'..=b'Z' => true,
-        _ => false,
-    }
+    s.last(line);
+    s.call
 }
 
 // The place of a call's first number.
-fn first_place(call: u8) -> usize {
+fn first_place(call: u8) -> usize
+    ensures { result ≤ LINE }
+{
     match call {
         b'F' | b'M' | b'U' | b'R' | b'C' | b'Q' | b'A' | b'G' | b'V' => 1,
         b'f' | b's' => 4,
@@ -66,7 +59,7 @@ fn first_place(call: u8) -> usize {
 
 // A format or a setup that names no granule has that of 4 KiB.
 fn begin(call: u8, line: &mut Line) {
-    memory::fill(line, first_place(call), LINE, 0);
+    line[first_place(call)..].fill(0);
     match call {
         b'f' => line[9] = 4096,
         b's' => line[10] = 4096,
@@ -74,107 +67,73 @@ fn begin(call: u8, line: &mut Line) {
     }
 }
 
-fn wide(b: u8) -> u64 {
-    b as u64
-}
-
-// The value of a digit, or 16.
-fn digit(b: u8) -> u64 {
+// The value of a digit.
+fn digit(b: u8) -> Option<u64> {
     match b {
-        b'0'..=b'9' => wide(b - 48),
-        b'a'..=b'f' => wide(b - 87),
-        _ => 16,
+        b'0'..=b'9' => Some(u64::from(b - b'0')),
+        b'a'..=b'f' => Some(u64::from(b - b'a') + 10),
+        _ => None,
     }
 }
 
-// A byte that ends no line.
-pub(crate) fn byte(mut s: State, b: u8, line: &mut Line) -> State {
-    let part = s.part;
-    match part {
-        NAME => {
-            if b == b':' {
-                s.part = CALL;
-            }
-            s
-        }
-        CALL => {
-            if b != b' ' {
-                s.call = b;
-                s.next = first_place(b);
-                s.part = WORD;
+impl State {
+    // A byte that ends no line.
+    fn byte(&mut self, b: u8, line: &mut Line) {
+        match self.part {
+            Part::Name if b == b':' => self.part = Part::Call,
+            Part::Call if b != b' ' => {
                 begin(b, line);
+                self.part = Part::Word;
+                self.call = b;
+                self.next = first_place(b);
             }
-            s
-        }
-        NUMBER => in_number(s, b, line),
-        _ => between(s, b),
-    }
-}
-
-// A digit begins a number, if a space is before it.
-fn between(mut s: State, b: u8) -> State {
-    let d = digit(b);
-    let part = s.part;
-    s.part = WORD;
-    if b == b' ' {
-        s.part = SPACE;
-        return s;
-    }
-    if part == SPACE {
-        if d < 10 {
-            s.value = d;
-            s.hex = false;
-            s.part = NUMBER;
+            Part::Name | Part::Call => {}
+            Part::Number { value, hex } => self.in_number(b, value, hex, line),
+            Part::Word | Part::Space => self.between(b),
         }
     }
-    s
-}
 
-// A digit, the x before hexadecimal digits, or the byte that ends a number.
-fn in_number(mut s: State, b: u8, line: &mut Line) -> State {
-    let d = digit(b);
-    if b == b'x' {
-        s.hex = true;
-        return s;
+    // A digit begins a number, if a space is before it.
+    fn between(&mut self, b: u8) {
+        self.part = match digit(b) {
+            _ if b == b' ' => Part::Space,
+            Some(value) if self.part == Part::Space && value < 10 => Part::Number {
+                value,
+                hex: false,
+            },
+            _ => Part::Word,
+        };
     }
-    if d > 15 {
-        return between(last(s, line), b);
-    }
-    let value = s.value;
-    if s.hex {
-        s.value = std::num::wrapping_add_u64(value % 0x1000_0000_0000_0000 * 16, d);
-    } else {
-        s.value = std::num::wrapping_add_u64(value % 0x1999_9999_9999_999A * 10, d);
-    }
-    s
-}
 
-// The end of a number: it goes to its place in the line.
-pub(crate) fn last(mut s: State, line: &mut Line) -> State {
-    if s.part != NUMBER {
-        return s;
+    // A digit, the x before hexadecimal digits, or the byte that ends a number.
+    fn in_number(&mut self, b: u8, value: u64, hex: bool, line: &mut Line) {
+        if b == b'x' {
+            self.part = Part::Number { value, hex: true };
+            return;
+        }
+        let Some(d) = digit(b) else {
+            self.last(line);
+            self.between(b);
+            return;
+        };
+        let shifted = if hex {
+            value % 0x1000_0000_0000_0000 * 16
+        } else {
+            value % 0x1999_9999_9999_999A * 10
+        };
+        let value = shifted.wrapping_add(d);
+        self.part = Part::Number { value, hex };
     }
-    s.part = WORD;
-    let n = s.next;
-    if n < LINE {
-        line[n] = s.value;
-        s.next = n + 1;
-    }
-    s
-}
 
-// A line that is compared agrees, or not.
-pub(crate) fn counted(mut s: State, agrees: bool) -> State {
-    if agrees {
-        s.agreed = std::num::wrapping_add_u64(s.agreed, 1);
+    // The end of a number: it goes to its place in the line.
+    fn last(&mut self, line: &mut Line) {
+        let Part::Number { value, .. } = self.part else {
+            return;
+        };
+        self.part = Part::Word;
+        if self.next < LINE {
+            line[self.next] = value;
+            self.next += 1;
+        }
     }
-    s
-}
-
-// The line after the one that ends at i.
-pub(crate) fn next_line(mut s: State, i: usize) -> State {
-    s.start = std::num::wrapping_add_usize(i, 1);
-    s.part = NAME;
-    s.call = 0;
-    s
 }

@@ -1,211 +1,132 @@
 // What is written.
-use crate::calls::Told;
-use crate::memory;
-use crate::memory::{ALL_WORDS, More, NUMBERS, Places, WORDS, Words};
-use crate::view::{BLANK, ROOM, Run};
-use std::io;
+use crate::calls::{Done, Told};
+use crate::memory::Memory;
+use crate::view::{BLANK, View};
+use model::{Counts, Excerpt, Found, Refusal};
+use path::Setup;
 use std::io::Write;
+use std::{fmt, io};
 
-fn text(rt: &impl Print, t: &[u8]) -> io::Result<()> {
+// A text, byte by byte as it is.
+pub(crate) fn text(rt: &impl Print, t: &[u8]) -> io::Result<()> {
     io::writer(rt).write_all(t)
 }
 
-// The bytes of a text from one place up to another.
-pub(crate) fn part(rt: &impl Print, t: &[u8], from: usize, to: usize) -> io::Result<()> {
-    if to > t.len() {
-        return Ok(());
+// What a call answers, and the setup that it hands back.
+impl fmt::Display for Told {
+    fn fmt<W: fmt::Write>(&self, f: &mut fmt::Formatter<W>) -> fmt::Result {
+        let after = After(self.setup);
+        match self.answer {
+            Ok(done) => write!(f, " -> {done}{after}"),
+            Err(Refusal::Hole { base, size }) => {
+                write!(f, " -> refused 9, hole {base:#x}, size {size:#x}{after}")
+            }
+            Err(r) => write!(f, " -> refused {}{after}", r.number()),
+        }
     }
-    if from <= to {
-        text(rt, &t[from..to])?;
-    }
-    Ok(())
 }
 
-fn number(rt: &impl Print, before: &[u8], n: u64) -> io::Result<()> {
-    text(rt, before)?;
-    print!(rt; "{n}")
-}
-
-fn hex(rt: &impl Print, before: &[u8], n: u64) -> io::Result<()> {
-    text(rt, before)?;
-    text(rt, b"0x")?;
-    print!(rt; "{n:x}")
-}
-
-// What a call answers.
-pub(crate) fn answer(rt: &impl Print, call: u8, told: Told) -> io::Result<()> {
-    if told[0] != 0 {
-        refused(rt, told)?;
-    } else {
-        done(rt, call, told)?;
+impl fmt::Display for Done {
+    fn fmt<W: fmt::Write>(&self, f: &mut fmt::Formatter<W>) -> fmt::Result {
+        match *self {
+            Done::Format(_) => write!(f, "done, all words 0"),
+            Done::Add(_) => write!(f, "done, all more words 0"),
+            Done::Map(m) => write!(f, "takes {}", m.tables),
+            Done::Unmap(u) => {
+                let frame = Frame(u.frame, u.size, u.attributes);
+                write!(f, "gives {}, {frame}", u.tables)
+            }
+            Done::UnmapRange(u) => write!(f, "removes {}, gives {}", u.mappings, u.tables),
+            Done::Query(m) => {
+                let frame = Frame(m.frame, m.size, m.attributes);
+                write!(f, "base {:#x}, {frame}", m.base)
+            }
+            Done::Audit(c) => write!(f, "tables {}, mappings {}", c.tables, c.mappings),
+            Done::List(e) => match e.next {
+                None => write!(f, "lists {}, none is left", e.written),
+                Some(next) => write!(f, "lists {}, the next is {next:#x}", e.written),
+            },
+        }
     }
-    setup(rt, told)
 }
 
-// A refusal's number, and with 9 the hole.
-fn refused(rt: &impl Print, told: Told) -> io::Result<()> {
-    number(rt, b" -> refused ", told[0])?;
-    if told[0] == 9 {
-        hex(rt, b", hole ", told[8])?;
-        hex(rt, b", size ", told[9])?;
-    }
-    Ok(())
-}
+// A frame's base, size and attributes.
+#[derive(Clone, Copy)]
+struct Frame(u64, u64, u64);
 
-// What a call answers that refuses nothing.
-fn done(rt: &impl Print, call: u8, told: Told) -> io::Result<()> {
-    match call {
-        b'f' => text(rt, b" -> done, all words 0")?,
-        b'g' => text(rt, b" -> done, all more words 0")?,
-        b'm' | b'r' => number(rt, b" -> takes ", told[8])?,
-        b'u' => gives(rt, told)?,
-        b'c' => clears(rt, told)?,
-        b'q' => found(rt, told)?,
-        b'v' => lists(rt, told)?,
-        _ => sound(rt, told)?,
+impl fmt::Display for Frame {
+    fn fmt<W: fmt::Write>(&self, f: &mut fmt::Formatter<W>) -> fmt::Result {
+        let Frame(base, size, attributes) = *self;
+        write!(
+            f,
+            "frame {base:#x}, size {size:#x}, attributes {attributes}"
+        )
     }
-    Ok(())
 }
 
 // The setup that a call hands back: the second region's numbers where one of them is not 0, and the granule where it is not 4096, or not 0 where no level is.
-fn setup(rt: &impl Print, told: Told) -> io::Result<()> {
-    number(rt, b"; levels ", told[1])?;
-    hex(rt, b", base ", told[2])?;
-    number(rt, b", tables ", told[3])?;
-    number(rt, b", free ", told[4])?;
-    if told[5] != 0 || told[6] != 0 {
-        hex(rt, b", second base ", told[5])?;
-        number(rt, b", second tables ", told[6])?;
-    }
-    let plain = if told[1] == 0 { 0 } else { 4096 };
-    if told[7] != plain {
-        number(rt, b", granule ", told[7])?;
-    }
-    Ok(())
-}
+#[derive(Clone, Copy)]
+struct After(Setup);
 
-fn gives(rt: &impl Print, told: Told) -> io::Result<()> {
-    number(rt, b" -> gives ", told[11])?;
-    frame(rt, told[8], told[9], told[10])
-}
-
-fn clears(rt: &impl Print, told: Told) -> io::Result<()> {
-    number(rt, b" -> removes ", told[8])?;
-    number(rt, b", gives ", told[9])
-}
-
-fn found(rt: &impl Print, told: Told) -> io::Result<()> {
-    hex(rt, b" -> base ", told[8])?;
-    frame(rt, told[9], told[10], told[11])
-}
-
-fn frame(rt: &impl Print, base: u64, size: u64, attributes: u64) -> io::Result<()> {
-    hex(rt, b", frame ", base)?;
-    hex(rt, b", size ", size)?;
-    number(rt, b", attributes ", attributes)
-}
-
-fn sound(rt: &impl Print, told: Told) -> io::Result<()> {
-    number(rt, b" -> tables ", told[8])?;
-    number(rt, b", mappings ", told[9])
-}
-
-fn lists(rt: &impl Print, told: Told) -> io::Result<()> {
-    number(rt, b" -> lists ", told[8])?;
-    if told[9] == 0 {
-        text(rt, b", none is left")?;
-    } else {
-        hex(rt, b", the next is ", told[10])?;
-    }
-    Ok(())
-}
-
-// A word, by its number in both runs.
-fn word(rt: &impl Print, i: u64, n: u64) -> io::Result<()> {
-    number(rt, b"; word ", i)?;
-    hex(rt, b"=", n)
-}
-
-// One number of the memory. The words of the second run are counted after those that are lent of the first.
-fn one(rt: &impl Print, i: usize, lent: u64, n: u64) -> io::Result<()> {
-    if i < WORDS {
-        word(rt, i as u64, n)?;
-    } else if i < ALL_WORDS {
-        word(rt, std::num::wrapping_add_u64(lent, (i - WORDS) as u64), n)?;
-    } else {
-        number(rt, b"; place ", (i - ALL_WORDS) as u64)?;
-        number(rt, b"=", n)?;
-    }
-    Ok(())
-}
-
-// Each word and each place that is not as it was.
-pub(crate) fn changes(
-    rt: &impl Print,
-    lent: u64,
-    words: &Words,
-    more: &More,
-    list: &Places,
-    old: &Words,
-    old_more: &More,
-    places: &Places,
-) -> io::Result<()> {
-    let mut same = true;
-    let mut i = 0;
-    while i < NUMBERS {
-        let n = memory::number(words, more, list, i);
-        if n != memory::number(old, old_more, places, i) {
-            one(rt, i, lent, n)?;
-            same = false;
+impl fmt::Display for After {
+    fn fmt<W: fmt::Write>(&self, f: &mut fmt::Formatter<W>) -> fmt::Result {
+        let s = self.0;
+        write!(f, "; levels {}, base {:#x}", s.levels, s.base)?;
+        write!(f, ", tables {}, free {}", s.tables, s.free)?;
+        if s.base2 != 0 || s.tables2 != 0 {
+            write!(
+                f,
+                ", second base {:#x}, second tables {}",
+                s.base2, s.tables2
+            )?;
         }
-        i += 1;
+        let plain = if s.levels == 0 { 0 } else { 4096 };
+        if s.granule != plain {
+            write!(f, ", granule {}", s.granule)?;
+        }
+        Ok(())
     }
-    if same {
-        text(rt, b"; kept")?;
+}
+
+// Each word of a run that is not as it was. The words are counted from a number on.
+fn words(rt: &impl Print, from: u64, now: &[u64], old: &[u64]) -> io::Result<()> {
+    for (i, (n, m)) in now.iter().zip(old).enumerate() {
+        if n != m {
+            print!(rt; "; word {}={n:#x}", from.wrapping_add(i as u64))?;
+        }
     }
     Ok(())
+}
+
+// Each place that is not as it was.
+fn places(rt: &impl Print, now: &[u32], old: &[u32]) -> io::Result<()> {
+    for (i, (n, m)) in now.iter().zip(old).enumerate() {
+        if n != m {
+            print!(rt; "; place {i}={n}")?;
+        }
+    }
+    Ok(())
+}
+
+// Each word and each place that is not as it was. The words of the second run are counted after those that are lent of the first.
+pub(crate) fn changes(rt: &impl Print, lent: u64, now: &Memory, old: &Memory) -> io::Result<()> {
+    if now == old {
+        return print!(rt; "; kept");
+    }
+    words(rt, 0, &now.words, &old.words)?;
+    words(rt, lent, &now.more, &old.more)?;
+    places(rt, &now.list, &old.list)
 }
 
 // Each place of a list's two runs that is not blank.
-pub(crate) fn runs(rt: &impl Print, places: &Run, entries: &Run) -> io::Result<()> {
-    let mut blank = true;
-    let mut i = 0;
-    while i < ROOM {
-        let p = places[i];
-        let e = entries[i];
-        if p != BLANK || e != BLANK {
-            number(rt, b"; ", i as u64)?;
-            hex(rt, b" is ", p)?;
-            hex(rt, b" and ", e)?;
-            blank = false;
+pub(crate) fn runs(rt: &impl Print, view: &View) -> io::Result<()> {
+    if *view == View::blank() {
+        return print!(rt; "; kept");
+    }
+    for (i, (p, e)) in view.places.iter().zip(&view.entries).enumerate() {
+        if *p != BLANK || *e != BLANK {
+            print!(rt; "; {i} is {p:#x} and {e:#x}")?;
         }
-        i += 1;
-    }
-    if blank {
-        text(rt, b"; kept")?;
-    }
-    Ok(())
-}
-
-// The end of a line, with the count where it asks for it.
-pub(crate) fn end(rt: &impl Print, call: u8, agreed: u64) -> io::Result<()> {
-    if call == b't' {
-        number(rt, b" -> agree ", agreed)?;
-    }
-    text(rt, b"\n")
-}
-
-// A line that does not agree.
-pub(crate) fn differs(
-    rt: &impl Print,
-    same: bool,
-    t: &[u8],
-    from: usize,
-    to: usize,
-) -> io::Result<()> {
-    if !same {
-        part(rt, t, from, to)?;
-        text(rt, b" DIFFERS\n")?;
     }
     Ok(())
 }

@@ -1,7 +1,7 @@
 -- The words of a table, and tests for zeros, step by step and word by word.
 use Prim.Native.Nat.{ℕ, zero, suc, ◌+◌, ◌-◌, ◌*◌, ◌%◌, ◌≤◌, ◌<◌}
 use mathlib.Core.Path.{◌≡◌, refl, sym, ap, ◌∙◌}
-use mathlib.Core.Bool.{Bool, true, false, not}
+use mathlib.Core.Bool.{Bool, true, false, not, ◌&&◌}
 use mathlib.Core.List.{List, [], ◌++◌}
 use native.Mathlib.Decide.{ℕ_discrete, dec_lt}
 use native.Mathlib.Omega.{arith}
@@ -9,9 +9,11 @@ use lib.Bits.{bit_or, or_add_and, and_le_l, and_le_r}
 use lib.Dec.{eqb}
 use lib.ListN.{length, get_or, set, take, drop, drop_of_length-le, length-drop}
 use lib.Seq.{set_out, get_or-set_same, get_or-set_other, take_all}
-use borrow.Author.Tests.{eqb-true, eqb-false, not-true, not-false}
+use borrow.Author.Tests.{eqb-true, not-false}
+use Rattle.std.specs.List.{list_all, range_with_len}
+use Rattle.std.proofs.Common.{drop-cons}
 use Rattle.laws.specs.Lists.{part, all_zero}
-use Rattle.laws.specs.ListLaws.{get_d_part, part_first, part_later, length_part_le, all_zero_of, all_zero_not, all_zero_part_at, all_zero_part_of, all_zero_part_not, all_zero_part_some}
+use Rattle.laws.specs.ListLaws.{get_d_part, part_first, part_later, length_part_le, all_zero_of, all_zero_not, all_zero_part_at, all_zero_part_some}
 use Rattle.path.specs.Geometry.{granule_of, entries}
 use Rattle.path.specs.Laws.{granule_either}
 use Rattle.pool.proofs.Laws.{span, whole_table}
@@ -73,25 +75,19 @@ module _ (ws : List ℕ) (but : ℕ) where
 
 -- ---- word by word, from one place to another
 
+-- whether all are 0, as the library's search says it
+pub range_zero : (xs : List ℕ) (from n : ℕ) → from + n ≤ length xs → list_all (λ i. eqb (get_or xs i 0) 0) (range_with_len from n) ≡ all_zero (part xs from n)
+unfolding all_zero part
+range_zero xs from zero l = refl
+range_zero xs from (suc n) l =
+    let e : from + 1 ≡ suc from = omega arith in
+    rw (drop-cons xs from 0 (omega arith))
+    (ap (λ (b : Bool). eqb (get_or xs from 0) 0 && b) (range_zero xs (from + 1) n (omega arith) ∙ ap (λ (k : ℕ). all_zero (take n (drop k xs))) e))
+
 module _ (xs : List ℕ) where
   -- the words passed are 0
   abbrev pub Passed : ℕ → ℕ → Type 0
   Passed from i = (k : ℕ) → from ≤ k → k < i → get_or xs k 0 ≡ 0
-
-  pub passed_more : {from i : ℕ} → Passed from i → not (eqb (get_or xs i 0) 0) ≡ false → Passed from (i + 1)
-  passed_more {from} {i} f e k l m = go (dec_lt k i)
-    where
-      go : Dec (k < i) → get_or xs k 0 ≡ 0
-      go (yes h) = f k l h
-      go (no h) = let z : k ≡ i = omega arith in ap (λ (j : ℕ). get_or xs j 0) z ∙ eqb-true _ 0 (not-false _ e)
-
-  pub between_not : (from to i : ℕ) → from ≤ i → i < to → not (eqb (get_or xs i 0) 0) ≡ true → all_zero (part xs from (to - from)) ≡ false
-  between_not from to i l m e =
-      let z : from + (i - from) ≡ i = omega arith in
-      all_zero_part_not xs from (to - from) (i - from) (omega arith) (λ q. eqb-false (get_or xs i 0) 0 (not-true _ e) (ap (λ (j : ℕ). get_or xs j 0) (sym z) ∙ q))
-
-  pub between_all : (from to : ℕ) → Passed from to → all_zero (part xs from (to - from)) ≡ true
-  between_all from to f = all_zero_part_of xs from (to - from) (λ k h. f (from + k) (omega arith) (omega arith))
 
   -- ---- step by step
 

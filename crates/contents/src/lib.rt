@@ -1,7 +1,7 @@
 // The words of one table in the lent memory, and whether any is in use. The two runs are as in `pool`.
 #![tactic(auto)]
 
-ghost use Rattle.std.specs.Prelude.{◌≡◌, false, not, ◌++◌, ℕ, ◌+◌, ◌-◌, ◌*◌, ◌%◌, ◌≤◌, ◌<◌, eqb, length, get_or, set};
+ghost use Rattle.std.specs.Prelude.{◌≡◌, false, ◌++◌, ℕ, ◌+◌, ◌-◌, ◌*◌, ◌%◌, ◌≤◌, ◌<◌, eqb, length, get_or, set};
 ghost use Rattle.laws.specs.Lists.{part, all_zero};
 ghost use Rattle.path.specs.Geometry.{granule_of, entries};
 ghost use Rattle.model.specs.Walk.{slot};
@@ -50,15 +50,12 @@ fn any_in_step(w: &[u64], i: usize) -> bool
     (low | high) != 0
 }
 
-// Whether a word is in use, unless it is the one to leave out.
-fn in_use(w: &[u64], i: usize, but: usize) -> bool
+// Whether a word is 0, or the one to leave out.
+fn zero_or_out(w: &[u64], i: usize, but: usize) -> bool
     requires { i < length w.now }
-    ensures { result ≡ not (eqb (get_or (set w.now but 0) i 0) 0) }
+    ensures { result ≡ eqb (get_or (set w.now but 0) i 0) 0 }
 {
-    if i == but {
-        return false;
-    }
-    w[i] != 0
+    i == but || w[i] == 0
 }
 
 // Whether the words from one place to another are 0, but for the one to leave out: word by word.
@@ -66,14 +63,7 @@ fn zeros_between(w: &[u64], from: usize, to: usize, but: usize) -> bool
     requires { (from ≤ to) × (to ≤ length w.now) }
     ensures { result ≡ all_zero (part (set w.now but 0) from (to - from)) }
 {
-    let mut i = from;
-    while i < to {
-        if in_use(w, i, but) {
-            return false;
-        }
-        i += 1;
-    }
-    true
+    (from..to).all(|i| zero_or_out(w, i, but))
 }
 
 // Of the steps from one place to another, the first that has a word in use, by its place; the end where none has.
@@ -82,6 +72,7 @@ fn used_step(w: &[u64], from: usize, to: usize) -> usize
     ensures { ((from ≤ result) × ((result ≤ to) × ((to - result) % 8 ≡ 0))) × ((k : ℕ) → from ≤ k → k < result → get_or w.now k 0 ≡ 0) }
 {
     let mut at = from;
+    // As a `for` it misses the speed bar: by `step_by` it takes twice as long, and by `chunks_exact` up to a tenth longer.
     while at < to {
         if any_in_step(w, at) {
             return at;
@@ -143,10 +134,8 @@ pub fn only_entry<'a>(granule: u64, words: &'a [u64], second: &'a [u64], t: u32,
     {
         return false;
     }
-    if i > 0 {
-        if pool::word(words, second, pool::entry_place(granule, t, 0)) != 0 {
-            return false;
-        }
+    if i > 0 && pool::word(words, second, pool::entry_place(granule, t, 0)) != 0 {
+        return false;
     }
     zeros_but(table_part(granule, words, second, t), i as usize)
 }

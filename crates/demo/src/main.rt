@@ -2,11 +2,10 @@
 // gives every table back.
 #![tactic(auto)]
 
-use model::{AuditAnswer, FormatAnswer, ListAnswer, MapAnswer, QueryAnswer, UnmapAnswer};
+use host::Meaning;
+use model::{Counts, Found, Refusal};
 use path::{GIB, GIB512, KIB4, MIB2, Setup};
-use std::io;
-use std::io::Write;
-use std::num::{wrapping_add_u64, wrapping_sub_u64};
+use std::{fmt, io};
 
 const BASE: u64 = 0x4000_0000;
 
@@ -14,451 +13,290 @@ const TABLES: u64 = 4;
 
 const POOL_WORDS: usize = 2048;
 
-type Words = [u64; POOL_WORDS];
-
-type List = [u32; 4];
-
 // How many mappings a list has places for.
 const ROOM: usize = 8;
 
-type Run = [u64; ROOM];
-
-// This pool has no second region.
-const NO_WORDS: [u64; 0] = [0; 0];
-
 // What is written.
 
-fn text(rt: &impl Print, t: &[u8]) -> io::Result<()> {
-    io::writer(rt).write_all(t)
-}
+// The size of a frame.
+#[derive(Clone, Copy)]
+struct Size(u64);
 
-fn number(rt: &impl Print, before: &[u8], n: u64) -> io::Result<()> {
-    text(rt, before)?;
-    print!(rt; "{n}")
-}
-
-fn address(rt: &impl Print, before: &[u8], n: u64) -> io::Result<()> {
-    text(rt, before)?;
-    text(rt, b"0x")?;
-    print!(rt; "{n:x}")
-}
-
-fn size(rt: &impl Print, n: u64) -> io::Result<()> {
-    if n == KIB4 {
-        text(rt, b"a page of 4 KiB")?;
-    } else if n == MIB2 {
-        text(rt, b"a frame of 2 MiB")?;
-    } else {
-        text(rt, b"a frame of 1 GiB")?;
-    }
-    Ok(())
-}
-
-fn right(rt: &impl Print, has: bool, letter: &[u8]) -> io::Result<()> {
-    if has {
-        text(rt, letter)?;
-    } else {
-        text(rt, b"-")?;
-    }
-    Ok(())
-}
-
-fn letters(rt: &impl Print, attributes: u64) -> io::Result<()> {
-    right(rt, attributes % 2 == 1, b"r")?;
-    right(rt, attributes / 2 % 2 == 1, b"w")?;
-    right(rt, attributes / 4 % 2 == 1, b"x")
-}
-
-fn rights(rt: &impl Print, attributes: u64) -> io::Result<()> {
-    text(rt, b", rights ")?;
-    letters(rt, attributes)?;
-    text(rt, b".\n")
-}
-
-fn refused(rt: &impl Print, k: u64) -> io::Result<()> {
-    number(rt, b"  Refused with ", k)?;
-    if k == 7 {
-        text(rt, b": too few tables are free")?;
-    }
-    if k == 10 {
-        text(rt, b": no mapping starts there")?;
-    }
-    if k == 11 {
-        text(rt, b": the frame shares a byte with the pool")?;
-    }
-    text(rt, b".\n")
-}
-
-// Refusal 9, with the hole.
-fn nothing(rt: &impl Print, base: u64, bytes: u64) -> io::Result<()> {
-    text(rt, b"  Refused with 9: nothing is mapped there, and ")?;
-    size(rt, bytes)?;
-    address(rt, b" at ", base)?;
-    text(rt, b" would fit.\n")
-}
-
-// Whether the memory and the setup are as they were.
-
-fn same_words(words: &Words, old: &Words) -> bool {
-    let mut i = 0;
-    while i < POOL_WORDS {
-        if words[i] != old[i] {
-            return false;
+impl fmt::Display for Size {
+    fn fmt<W: fmt::Write>(&self, f: &mut fmt::Formatter<W>) -> fmt::Result {
+        match self.0 {
+            KIB4 => write!(f, "a page of 4 KiB"),
+            MIB2 => write!(f, "a frame of 2 MiB"),
+            _ => write!(f, "a frame of 1 GiB"),
         }
-        i += 1;
     }
-    true
 }
 
-fn same_list(list: &List, old: &List) -> bool {
-    list[0] == old[0] && list[1] == old[1] && list[2] == old[2] && list[3] == old[3]
-}
+// What attributes allow.
+#[derive(Clone, Copy)]
+struct Rights(u64);
 
-fn same_setup(s: Setup, t: Setup) -> bool {
-    s.levels == t.levels
-        && s.base == t.base
-        && s.tables == t.tables
-        && s.free == t.free
-        && s.base2 == t.base2
-        && s.tables2 == t.tables2
-        && s.granule == t.granule
-}
-
-fn compared(rt: &impl Print, same: bool) -> io::Result<()> {
-    if same {
-        text(
-            rt,
-            b"  All 2048 words, 4 places of the free list and 7 setup numbers are as before.\n",
-        )?;
-    } else {
-        text(rt, b"  SOMETHING CHANGED.\n")?;
+impl fmt::Display for Rights {
+    fn fmt<W: fmt::Write>(&self, f: &mut fmt::Formatter<W>) -> fmt::Result {
+        let right = |bit: u64, letter: char| if self.0 & bit == 0 { '-' } else { letter };
+        write!(f, "{}{}{}", right(1, 'r'), right(2, 'w'), right(4, 'x'))
     }
-    Ok(())
+}
+
+// A refusal: its number, and for some the reason.
+#[derive(Clone, Copy)]
+struct Reason(Refusal);
+
+impl fmt::Display for Reason {
+    fn fmt<W: fmt::Write>(&self, f: &mut fmt::Formatter<W>) -> fmt::Result {
+        write!(f, "{}", self.0.number())?;
+        match self.0 {
+            Refusal::Tables => write!(f, ": too few tables are free"),
+            Refusal::Hole { base, size } => {
+                let size = Size(size);
+                write!(
+                    f,
+                    ": nothing is mapped there, and {size} at {base:#x} would fit"
+                )
+            }
+            Refusal::Inside => write!(f, ": no mapping starts there"),
+            Refusal::Pool => write!(f, ": the frame shares a byte with the pool"),
+            _ => Ok(()),
+        }
+    }
+}
+
+fn refused(rt: &impl Print, r: Refusal) -> io::Result<()> {
+    println!(rt; "  Refused with {}.", Reason(r))
 }
 
 // The calls, each with its lines.
 
-fn audit(rt: &impl Print, s: Setup, words: &Words, list: &List) -> io::Result<()> {
-    let answer = pagetable::audit(s, words, &NO_WORDS, list);
-    match answer {
-        AuditAnswer::Sound { tables, mappings } => {
-            number(
-                rt,
-                b"  The audit finds the pool sound: tables in use ",
-                tables,
-            )?;
-            number(rt, b", free ", s.free)?;
-            number(rt, b", mappings ", mappings)?;
-            text(rt, b".\n")?;
-        }
-        AuditAnswer::Refused(k) => {
-            number(rt, b"  THE AUDIT REFUSES WITH ", k)?;
-            text(rt, b".\n")?;
-        }
-    }
-    Ok(())
+// A pool, whose second region is none.
+#[derive(Clone, Copy, PartialEq, Eq)]
+struct Pool {
+    setup: Setup,
+    words: [u64; POOL_WORDS],
+    list: [u32; 4],
 }
 
-fn format(rt: &impl Print, words: &mut Words, list: &mut List) -> io::Result<Setup> {
-    number(rt, b"Format a pool of ", TABLES)?;
-    address(rt, b" tables at ", BASE)?;
-    address(rt, b", for addresses below ", GIB512)?;
-    text(rt, b".\n")?;
-    let mut second = NO_WORDS;
-    let r = pagetable::format(3, BASE, TABLES, 0, 0, KIB4, words, &mut second, list);
-    let answer = r.answer;
-    let back = r.setup;
-    match answer {
-        FormatAnswer::Done => audit(rt, back, words, list)?,
-        FormatAnswer::Refused(k) => refused(rt, k)?,
-    }
-    Ok(back)
-}
-
-fn map(
-    rt: &impl Print,
-    s: Setup,
-    words: &mut Words,
-    list: &List,
-    at: u64,
-    frame: u64,
-    bytes: u64,
-    attributes: u64,
-) -> io::Result<Setup> {
-    let old = *words;
-    let places = *list;
-    text(rt, b"Map ")?;
-    size(rt, bytes)?;
-    address(rt, b" at ", at)?;
-    address(rt, b" to memory ", frame)?;
-    rights(rt, attributes)?;
-    let mut second = NO_WORDS;
-    let r = pagetable::map(s, words, &mut second, list, at, frame, bytes, attributes);
-    let answer = r.answer;
-    let back = r.setup;
-    match answer {
-        MapAnswer::Taken(n) => {
-            number(rt, b"  Done: tables taken ", n)?;
-            text(rt, b".\n")?;
+impl Pool {
+    fn format(rt: &impl Print) -> io::Result<Pool> {
+        println!(rt;
+            "Format a pool of {TABLES} tables at {BASE:#x}, for addresses below {GIB512:#x}."
+        )?;
+        let mut pool = Pool {
+            setup: path::no_setup(),
+            words: [0; POOL_WORDS],
+            list: [0; 4],
+        };
+        let (words, list) = (&mut pool.words, &mut pool.list);
+        match pagetable::format(3, BASE, TABLES, 0, 0, KIB4, words, &mut [], list) {
+            Ok(setup) => {
+                pool.setup = setup;
+                pool.audit(rt)?;
+            }
+            Err(r) => refused(rt, r)?,
         }
-        MapAnswer::Refused(k) => {
-            refused(rt, k)?;
-            compared(
-                rt,
-                same_setup(s, back) && same_words(words, &old) && same_list(list, &places),
-            )?;
+        Ok(pool)
+    }
+
+    fn audit(&self, rt: &impl Print) -> io::Result<()> {
+        let free = self.setup.free;
+        match pagetable::audit(self.setup, &self.words, &[], &self.list) {
+            Ok(Counts { tables, mappings }) => {
+                println!(rt;
+                    "  The audit finds the pool sound: tables in use {tables}, free {free}, mappings {mappings}."
+                )
+            }
+            Err(r) => println!(rt; "  THE AUDIT REFUSES WITH {}.", r.number()),
         }
     }
-    audit(rt, back, words, list)?;
-    Ok(back)
-}
 
-fn unmap(
-    rt: &impl Print,
-    s: Setup,
-    words: &mut Words,
-    list: &mut List,
-    at: u64,
-) -> io::Result<Setup> {
-    let old = *words;
-    let places = *list;
-    address(rt, b"Unmap at ", at)?;
-    text(rt, b".\n")?;
-    let mut second = NO_WORDS;
-    let r = pagetable::unmap(s, words, &mut second, list, at);
-    let answer = r.answer;
-    let back = r.setup;
-    match answer {
-        UnmapAnswer::Given {
+    // A refusal, and whether the memory and the setup are as they were.
+    fn refused(&self, rt: &impl Print, r: Refusal, before: &Pool) -> io::Result<()> {
+        refused(rt, r)?;
+        if self == before {
+            println!(rt;
+                "  All 2048 words, 4 places of the free list and 7 setup numbers are as before."
+            )
+        } else {
+            println!(rt; "  SOMETHING CHANGED.")
+        }
+    }
+
+    fn map(
+        &mut self,
+        rt: &impl Print,
+        at: u64,
+        frame: u64,
+        bytes: u64,
+        attributes: u64,
+    ) -> io::Result<()> {
+        let size = Size(bytes);
+        let rights = Rights(attributes);
+        println!(rt; "Map {size} at {at:#x} to memory {frame:#x}, rights {rights}.")?;
+        let before = *self;
+        let words = &mut self.words;
+        match pagetable::map(
+            self.setup,
+            words,
+            &mut [],
+            &self.list,
+            at,
             frame,
-            size: bytes,
-            attributes: _,
-            tables,
-        } => {
-            text(rt, b"  Done: ")?;
-            size(rt, bytes)?;
-            address(rt, b" of memory ", frame)?;
-            number(rt, b" is the host's again; tables given back ", tables)?;
-            text(rt, b".\n")?;
-        }
-        UnmapAnswer::Hole { base, size } => {
-            nothing(rt, base, size)?;
-            compared(
-                rt,
-                same_setup(s, back) && same_words(words, &old) && same_list(list, &places),
-            )?;
-        }
-        UnmapAnswer::Refused(k) => {
-            refused(rt, k)?;
-            compared(
-                rt,
-                same_setup(s, back) && same_words(words, &old) && same_list(list, &places),
-            )?;
-        }
-    }
-    audit(rt, back, words, list)?;
-    Ok(back)
-}
-
-fn query(rt: &impl Print, s: Setup, words: &Words, list: &List, at: u64) -> io::Result<()> {
-    address(rt, b"Query ", at)?;
-    text(rt, b".\n")?;
-    let answer = pagetable::query(s, words, &NO_WORDS, list, at);
-    match answer {
-        QueryAnswer::Found {
-            base,
-            frame,
-            size,
+            bytes,
             attributes,
-        } => {
-            found(rt, base, frame, size, attributes)?;
-            leads_to(rt, wrapping_add_u64(frame, wrapping_sub_u64(at, base)))?;
+        ) {
+            Ok(done) => {
+                self.setup = done.setup;
+                println!(rt; "  Done: tables taken {}.", done.tables)?;
+            }
+            Err(r) => self.refused(rt, r, &before)?,
         }
-        QueryAnswer::Hole { base, size } => nothing(rt, base, size)?,
-        QueryAnswer::Refused(k) => refused(rt, k)?,
+        self.audit(rt)
     }
-    Ok(())
+
+    fn unmap(&mut self, rt: &impl Print, at: u64) -> io::Result<()> {
+        println!(rt; "Unmap at {at:#x}.")?;
+        let before = *self;
+        match pagetable::unmap(self.setup, &mut self.words, &mut [], &mut self.list, at) {
+            Ok(done) => {
+                self.setup = done.setup;
+                let size = Size(done.size);
+                let frame = done.frame;
+                let tables = done.tables;
+                println!(rt;
+                    "  Done: {size} of memory {frame:#x} is the host's again; tables given back {tables}."
+                )?;
+            }
+            Err(r) => self.refused(rt, r, &before)?,
+        }
+        self.audit(rt)
+    }
+
+    fn query(&self, rt: &impl Print, at: u64) -> io::Result<()> {
+        println!(rt; "Query {at:#x}.")?;
+        match pagetable::query(self.setup, &self.words, &[], &self.list, at) {
+            Ok(mapping) => found(rt, mapping, at),
+            Err(r) => refused(rt, r),
+        }
+    }
+
+    // What a guest sees.
+    fn view(&self, rt: &impl Print) -> io::Result<()> {
+        println!(rt; "\nWhat the scan guest can see.")?;
+        let mut places = [0; ROOM];
+        let mut entries = [0; ROOM];
+        let (setup, words, list) = (self.setup, &self.words, &self.list);
+        match pagetable::list(setup, words, &[], list, 0, &mut places, &mut entries) {
+            Ok(excerpt) => lines(rt, &places, &entries, excerpt.written),
+            Err(r) => refused(rt, r),
+        }
+    }
 }
 
-fn leads_to(rt: &impl Print, memory: u64) -> io::Result<()> {
-    address(rt, b"  So it is memory ", memory)?;
-    text(rt, b".\n")
+// The mapping that holds an address, and the memory that the address stands for.
+fn found(rt: &impl Print, mapping: Found, at: u64) -> io::Result<()> {
+    let Found {
+        base,
+        frame,
+        size,
+        attributes,
+    } = mapping;
+    let size = Size(size);
+    let rights = Rights(attributes);
+    println!(rt;
+        "  It lies in {size} at {base:#x}, mapped to memory {frame:#x}, rights {rights}."
+    )?;
+    println!(rt;
+        "  So it is memory {:#x}.",
+        frame.wrapping_add(at.wrapping_sub(base))
+    )
 }
 
-fn found(rt: &impl Print, base: u64, frame: u64, bytes: u64, attributes: u64) -> io::Result<()> {
-    text(rt, b"  It lies in ")?;
-    size(rt, bytes)?;
-    address(rt, b" at ", base)?;
-    address(rt, b", mapped to memory ", frame)?;
-    rights(rt, attributes)
-}
-
-// What a guest sees: a line for each mapping that a list wrote.
-
-fn wide(rt: &impl Print, n: u64) -> io::Result<()> {
-    text(rt, b"0x")?;
-    print!(rt; "{n:08x}")
+// A line for each mapping that a list wrote.
+fn lines(rt: &impl Print, places: &[u64], entries: &[u64], written: u64) -> io::Result<()> {
+    for (place, word) in places.iter().zip(entries).take(written as usize) {
+        seen(rt, *place, *word)?;
+    }
+    println!(rt; "  Mappings listed: {written}.")
 }
 
 // The two numbers of a mapping: address plus power of two of the size, and entry word.
 fn seen(rt: &impl Print, place: u64, word: u64) -> io::Result<()> {
     let power = place % 4096;
-    text(rt, b"  ")?;
-    wide(rt, wrapping_sub_u64(place, power))?;
-    match power {
-        12 => seen_at(rt, b"  4 KiB  -> ", host::word_meaning(word, KIB4))?,
-        21 => seen_at(rt, b"  2 MiB  -> ", host::word_meaning(word, MIB2))?,
-        _ => seen_at(rt, b"  1 GiB  -> ", host::word_meaning(word, GIB))?,
-    }
-    Ok(())
-}
-
-// A meaning is base + 16 + attributes.
-fn seen_at(rt: &impl Print, size: &[u8], meaning: u64) -> io::Result<()> {
-    let attributes = meaning % 16;
-    text(rt, size)?;
-    wide(
-        rt,
-        wrapping_sub_u64(wrapping_sub_u64(meaning, attributes), 16),
-    )?;
-    text(rt, b"  ")?;
-    letters(rt, attributes)?;
-    text(rt, b"  ")?;
-    if attributes < 8 {
-        text(rt, b"normal\n")?;
-    } else {
-        text(rt, b"device\n")?;
-    }
-    Ok(())
-}
-
-fn lines(rt: &impl Print, places: &Run, entries: &Run, written: u64) -> io::Result<()> {
-    let mut i = 0;
-    while i < ROOM {
-        if (i as u64) < written {
-            seen(rt, places[i], entries[i])?;
+    let (name, size) = match power {
+        12 => ("4 KiB", KIB4),
+        21 => ("2 MiB", MIB2),
+        _ => ("1 GiB", GIB),
+    };
+    print!(rt; "  0x{:08x}  {name}  -> ", place - power)?;
+    match host::word_meaning(word, size) {
+        Ok(Meaning { base, attributes }) => {
+            let rights = Rights(attributes);
+            let memory = if attributes < 8 { "normal" } else { "device" };
+            println!(rt; "0x{base:08x}  {rights}  {memory}")
         }
-        i += 1;
+        Err(r) => println!(rt; "NO FRAME, {}", r.number()),
     }
-    number(rt, b"  Mappings listed: ", written)?;
-    text(rt, b".\n")
-}
-
-fn view(rt: &impl Print, s: Setup, words: &Words, list: &List) -> io::Result<()> {
-    text(rt, b"\nWhat the scan guest can see.\n")?;
-    let mut places = [0u64; ROOM];
-    let mut entries = [0u64; ROOM];
-    let answer = pagetable::list(s, words, &NO_WORDS, list, 0, &mut places, &mut entries);
-    match answer {
-        ListAnswer::All(n) => lines(rt, &places, &entries, n)?,
-        ListAnswer::Some { written, next: _ } => lines(rt, &places, &entries, written)?,
-        ListAnswer::Refused(k) => refused(rt, k)?,
-    }
-    Ok(())
 }
 
 // The story.
 
-fn scan_starts(rt: &impl Print, s: Setup, words: &mut Words, list: &mut List) -> io::Result<Setup> {
-    text(
-        rt,
-        b"\nThe scan guest gets its program and a buffer for pictures.\n",
-    )?;
-    let s = map(rt, s, words, list, 0x1000, 0x8000_1000, KIB4, 5)?;
-    let s = map(rt, s, words, list, 0x20_0000, 0x8020_0000, MIB2, 3)?;
-    query(rt, s, words, list, 0x20_1234)?;
-    text(
-        rt,
-        b"\nHow large a frame fits where nothing is mapped? Query says it.\n",
-    )?;
-    query(rt, s, words, list, 0x40_1234)?;
-    query(rt, s, words, list, 0x2345)?;
-    Ok(s)
+fn scan_starts(rt: &impl Print, pool: &mut Pool) -> io::Result<()> {
+    println!(rt; "\nThe scan guest gets its program and a buffer for pictures.")?;
+    pool.map(rt, 0x1000, 0x8000_1000, KIB4, 5)?;
+    pool.map(rt, 0x20_0000, 0x8020_0000, MIB2, 3)?;
+    pool.query(rt, 0x20_1234)?;
+    println!(rt; "\nHow large a frame fits where nothing is mapped? Query says it.")?;
+    pool.query(rt, 0x40_1234)?;
+    pool.query(rt, 0x2345)
 }
 
-fn scan_asks_for_too_much(
-    rt: &impl Print,
-    s: Setup,
-    words: &mut Words,
-    list: &mut List,
-) -> io::Result<Setup> {
-    text(
-        rt,
-        b"\nThe scan guest asks for a page far away. It needs two tables more, and one is free.\n",
+fn scan_asks_for_too_much(rt: &impl Print, pool: &mut Pool) -> io::Result<()> {
+    println!(rt;
+        "\nThe scan guest asks for a page far away. It needs two tables more, and one is free."
     )?;
-    map(rt, s, words, list, 0x4000_0000, 0x8040_0000, KIB4, 3)
+    pool.map(rt, 0x4000_0000, 0x8040_0000, KIB4, 3)
 }
 
-fn no_table_is_left(
-    rt: &impl Print,
-    s: Setup,
-    words: &mut Words,
-    list: &mut List,
-) -> io::Result<Setup> {
-    text(
-        rt,
-        b"\nNo empty table is left there: even 1 GiB fits at the same address.\n",
-    )?;
-    let s = map(rt, s, words, list, 0x4000_0000, 0x1_0000_0000, GIB, 3)?;
-    let s = unmap(rt, s, words, list, 0x4000_0000)?;
-    text(rt, b"\nOr 2 MiB, which need one table and find it.\n")?;
-    let s = map(rt, s, words, list, 0x4000_0000, 0x8040_0000, MIB2, 3)?;
-    view(rt, s, words, list)?;
-    text(
-        rt,
-        b"\nNothing is rounded: an unmap in the middle of the 2 MiB is refused.\n",
-    )?;
-    unmap(rt, s, words, list, 0x4000_1000)
+fn no_table_is_left(rt: &impl Print, pool: &mut Pool) -> io::Result<()> {
+    println!(rt; "\nNo empty table is left there: even 1 GiB fits at the same address.")?;
+    pool.map(rt, 0x4000_0000, 0x1_0000_0000, GIB, 3)?;
+    pool.unmap(rt, 0x4000_0000)?;
+    println!(rt; "\nOr 2 MiB, which need one table and find it.")?;
+    pool.map(rt, 0x4000_0000, 0x8040_0000, MIB2, 3)?;
+    pool.view(rt)?;
+    println!(rt; "\nNothing is rounded: an unmap in the middle of the 2 MiB is refused.")?;
+    pool.unmap(rt, 0x4000_1000)
 }
 
-fn scan_asks_for_its_tables(
-    rt: &impl Print,
-    s: Setup,
-    words: &mut Words,
-    list: &mut List,
-) -> io::Result<Setup> {
-    text(
-        rt,
-        b"\nNo guest is given its own tables: the page of table 1 is refused.\n",
-    )?;
-    map(rt, s, words, list, 0x2000, 0x4000_1000, KIB4, 3)
+fn scan_asks_for_its_tables(rt: &impl Print, pool: &mut Pool) -> io::Result<()> {
+    println!(rt; "\nNo guest is given its own tables: the page of table 1 is refused.")?;
+    pool.map(rt, 0x2000, 0x4000_1000, KIB4, 3)
 }
 
-fn scan_gives_back(
-    rt: &impl Print,
-    s: Setup,
-    words: &mut Words,
-    list: &mut List,
-) -> io::Result<Setup> {
-    text(
-        rt,
-        b"\nThe scan guest gives up all that it has, and every table comes back.\n",
-    )?;
-    let s = unmap(rt, s, words, list, 0x4000_0000)?;
-    let s = unmap(rt, s, words, list, 0x20_0000)?;
-    unmap(rt, s, words, list, 0x1000)
+fn scan_gives_back(rt: &impl Print, pool: &mut Pool) -> io::Result<()> {
+    println!(rt; "\nThe scan guest gives up all that it has, and every table comes back.")?;
+    pool.unmap(rt, 0x4000_0000)?;
+    pool.unmap(rt, 0x20_0000)?;
+    pool.unmap(rt, 0x1000)
 }
 
-fn scan_asks_again(
-    rt: &impl Print,
-    s: Setup,
-    words: &mut Words,
-    list: &mut List,
-) -> io::Result<()> {
-    text(rt, b"\nThe map that was refused is done now.\n")?;
-    query(rt, s, words, list, 0x4000_0000)?;
-    let s = map(rt, s, words, list, 0x4000_0000, 0x8040_0000, KIB4, 3)?;
-    query(rt, s, words, list, 0x4000_0FFF)
+fn scan_asks_again(rt: &impl Print, pool: &mut Pool) -> io::Result<()> {
+    println!(rt; "\nThe map that was refused is done now.")?;
+    pool.query(rt, 0x4000_0000)?;
+    pool.map(rt, 0x4000_0000, 0x8040_0000, KIB4, 3)?;
+    pool.query(rt, 0x4000_0FFF)
 }
 
 fn main(rt: HostRuntime) -> io::Result<()> {
-    let mut words = [0u64; POOL_WORDS];
-    let mut list = [0u32; 4];
-    let s = format(&rt, &mut words, &mut list)?;
-    let s = scan_starts(&rt, s, &mut words, &mut list)?;
-    let s = scan_asks_for_too_much(&rt, s, &mut words, &mut list)?;
-    let s = no_table_is_left(&rt, s, &mut words, &mut list)?;
-    let s = scan_asks_for_its_tables(&rt, s, &mut words, &mut list)?;
-    let s = scan_gives_back(&rt, s, &mut words, &mut list)?;
-    scan_asks_again(&rt, s, &mut words, &mut list)
+    let mut pool = Pool::format(&rt)?;
+    scan_starts(&rt, &mut pool)?;
+    scan_asks_for_too_much(&rt, &mut pool)?;
+    no_table_is_left(&rt, &mut pool)?;
+    scan_asks_for_its_tables(&rt, &mut pool)?;
+    scan_gives_back(&rt, &mut pool)?;
+    scan_asks_again(&rt, &mut pool)
 }

@@ -30,7 +30,8 @@ pub fn type_at(height: usize) -> u64
     if height == 0 { 3 } else { 1 }
 }
 
-// The entry word of a frame at a height, from the bits of its attributes; 0 where the base is above 2^48.
+// The entry word of a frame at a height, from the bits of its attributes; 0 where the base is above 2^48,
+// and no None: callers have tested the base, and each would have to handle a None that never comes.
 pub fn word_of(base: u64, height: usize, attributes: u64) -> u64
     ensures { result ≡ cond (leb base physical) (frame_word base height attributes) 0 }
 {

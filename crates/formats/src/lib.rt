@@ -4,34 +4,22 @@
 ghost use Rattle.std.specs.Prelude.{◌≡◌, ◌++◌, ◌≤◌, length};
 ghost use Rattle.laws.specs.Lists.{down};
 ghost use Rattle.path.specs.Areas.{area_at};
-ghost use Rattle.path.specs.Numbers.{no_setup, most_tables};
-ghost use Rattle.model.specs.Answers.{says_format, refused, format_did};
+ghost use Rattle.path.specs.Numbers.{most_tables};
+ghost use Rattle.model.specs.Answers.{format_did};
 ghost use Rattle.model.specs.Calls.{format_n};
 
-use model::{FormatAnswer, Formatted};
+use model::Refusal;
 use path::Setup;
 
 // Place i of the list becomes its length - 1 - i.
+// An add's `append` is like it: one function for both would be public and ask its caller for bounds, which no public function here does.
 fn count_down(list: &mut [u32])
     requires { length list.old ≤ most_tables }
     ensures { list.new ≡ down (length list.old) }
 {
     let n = list.len();
-    let mut i = 0;
-    while i < n {
-        list[i] = (n - 1 - i) as u32;
-        i += 1;
-    }
-}
-
-// A refused format: 1, and no pool's setup numbers.
-fn format_refused() -> Formatted
-    ensures { (says_format result.answer ≡ refused 1) × (result.setup ≡ no_setup) }
-{
-    let none = path::no_setup();
-    Formatted {
-        answer: FormatAnswer::Refused(1),
-        setup: none,
+    for (i, number) in list.iter_mut().enumerate() {
+        *number = (n - 1 - i) as u32;
     }
 }
 
@@ -46,12 +34,12 @@ pub fn format(
     words: &mut [u64],
     second: &mut [u64],
     list: &mut [u32],
-) -> Formatted
+) -> Result<Setup, Refusal>
     ensures { format_did result words.new second.new list.new
         ≡ format_n granule levels (area_at base tables base2 tables2) (words.old ++ second.old) (length words.old) list.old }
 {
     if !path::good_granule(granule) {
-        return format_refused();
+        return Err(Refusal::Setup);
     }
     if !setups::good_numbers(
         granule,
@@ -64,22 +52,19 @@ pub fn format(
         second.len(),
         list.len(),
     ) {
-        return format_refused();
+        return Err(Refusal::Setup);
     }
     pool::clear(words);
     pool::clear(second);
     count_down(list);
     let free = tables + tables2 - 1;
-    Formatted {
-        answer: FormatAnswer::Done,
-        setup: Setup {
-            levels,
-            base,
-            tables,
-            free,
-            base2,
-            tables2,
-            granule,
-        },
-    }
+    Ok(Setup {
+        levels,
+        base,
+        tables,
+        free,
+        base2,
+        tables2,
+        granule,
+    })
 }

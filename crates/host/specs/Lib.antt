@@ -1,1 +1,2 @@
 pub mod HostLaws
+pub mod Says

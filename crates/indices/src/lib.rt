@@ -1,4 +1,5 @@
 // Regions of a height and paths: the size of a region, the indices of an address, and back. A granule is a number, as in `path`.
+// What no level has is 0 and no None: callers know the height of a level, and each would have to handle a None that never comes.
 #![tactic(auto)]
 
 ghost use Rattle.std.specs.Prelude.{◌≡◌, ◌+◌, ◌*◌, ◌%◌};

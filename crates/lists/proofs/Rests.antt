@@ -2,7 +2,7 @@
 use Prim.Native.Nat.{ℕ, zero, suc, ◌+◌, ◌-◌, ◌*◌, ◌%◌, ◌≤◌, ◌<◌}
 use mathlib.Core.Path.{◌≡◌, refl, sym, ap, subst, ◌∙◌}
 use mathlib.Core.Logic.{inl, inr, ⊎_elim}
-use mathlib.Core.Bool.{true, false}
+use Rattle.std.proofs.Common.{Result, Ok, Err}
 use mathlib.Core.List.{List, [], ◌++◌}
 use native.Mathlib.Nat.{add-mul-mod_self_left, mul_comm, mul-le-mul_left, mod-lt}
 use native.Mathlib.Numerals.{sub-one}
@@ -28,8 +28,7 @@ use Rattle.model.proofs.AuditLaws.{each_nil}
 use Rattle.model.proofs.MappingLaws.{rising_within, rise_entry, table_rises, well_entry, table_well}
 use Rattle.model.specs.Listing.{from_on}
 use Rattle.model.proofs.ListingLaws.{from_append, from_none}
-use Rattle.lists.specs.Feeds.{goes_on, fed, feed, OneOf, none_there, frame_there, below, SoundBelow, rest_of, last_of, SoundPages, LeftFrom, PagesFit, RegionFit, TableFit, EntryFit, RunsFit}
-use Rattle.lists.specs.declared.Cursor.{Cursor}
+use Rattle.lists.specs.Feeds.{fed, feed, OneOf, none_there, frame_there, below, SoundBelow, rest_of, SoundPages, FirstFrom, PagesFit, RunsFit, RegionFit, TableFit, EntryFit}
 use Rattle.lists.proofs.Feeding.{fed_on, fed_stop, fed_none}
 
 -- ---- a table's words
@@ -129,29 +128,20 @@ module _ (G : Granule) (ws : List ℕ) (area : Area) where
         ∙ ap (λ (x : List Mapping). x ++ from_on start (rest_of G ws area h v us (i + 1))) (one_before S start h (v + size_at G h * i) (get_or us i 0) (add-mul-mod_self_left v (size_at G h) i ∙ a) (omega arith))
         ∙ ap (λ (x : ℕ). from_on start (rest_of G ws area h v us x)) (omega arith)
 
-    pub last_from : Sane G → (start left : ℕ) → v % size_at G h ≡ 0 → length us ≡ entries G → LeftFrom G start h v left
-        → from_on start (rest_of G ws area h v us 0) ≡ from_on start (last_of G ws area h v us left)
-    last_from S start left a e F =
-        ⊎_elim (λ m. passed S start a (length us - left) (omega arith) (subst (λ (x : ℕ). v + size_at G h * (x - left) ≤ start) (sym e) m)) (λ z. ap (λ (x : ℕ). from_on start (rest_of G ws area h v us x)) (omega (arith, z, e))) F.passed
+    pub first_from : Sane G → (start i : ℕ) → v % size_at G h ≡ 0 → length us ≡ entries G → FirstFrom G start h v i
+        → from_on start (rest_of G ws area h v us 0) ≡ from_on start (rest_of G ws area h v us i)
+    first_from S start i a e F =
+        ⊎_elim (passed S start a i (omega (arith, F.inside))) (λ z. ap (λ (x : ℕ). from_on start (rest_of G ws area h v us x)) (sym z)) F.passed
 
 -- ---- regions
 
 module _ {G : Granule} (S : Sane G) where
   -- from the entry that holds the start on, in a table that does
-  pub left_inside : {start h v : ℕ} → RegionFit G start (suc h) v → {all : ℕ} → all ≡ entries G → v < start → {i : ℕ} → i ≡ at_level G h (index_at G start h)
-      → (i < all) × LeftFrom G start h v (all - i)
-  left_inside {start} {h} {v} R a l {i} e =
-      subst (λ (x : ℕ). (i < x) × LeftFrom G start h v (x - i)) (sym a)
-      (low, record { some_left = omega (arith, low); few_left = omega arith; passed = inl (omega (arith, at, turn)); not_before = omega (arith, at, turn, mod-lt start (size_pos G h)) })
+  pub first_inside : {start h v : ℕ} → RegionFit G start (suc h) v → v < start → {i : ℕ} → i ≡ at_level G h (index_at G start h) → FirstFrom G start h v i
+  first_inside {start} {h} {v} R l {i} e = record { inside = rw is (index_below G start h); passed = inl (omega (arith, at)); not_before = omega (arith, at, mod-lt start (size_pos G h)) }
     where
       is : i ≡ index_at G start h
       is = e ∙ level_some G R.level (index_at G start h)
-
-      low : i < entries G
-      low = rw is (index_below G start h)
-
-      turn : size_at G h * (entries G - (entries G - i)) ≡ size_at G h * i
-      turn = ap (λ (x : ℕ). size_at G h * x) (omega (arith, low))
 
       here : base_at G start (suc h) ≡ v
       here = base_inside G v start (suc h) R.aligned (omega arith) R.not_before
@@ -160,13 +150,12 @@ module _ {G : Granule} (S : Sane G) where
       at = omega (arith, base_rest G start (suc h), here, rest_index G start h, mul_comm (index_at G start h) (size_at G h), ap (λ (x : ℕ). size_at G h * x) is)
 
   -- all of them, in a table that begins at the start or after it
-  pub left_all : (start h v : ℕ) {all : ℕ} → all ≡ entries G → start ≤ v → LeftFrom G start h v all
-  left_all start h v a l =
-      subst (LeftFrom G start h v) (sym a) (record { some_left = entries_pos G; few_left = omega arith; passed = inr refl; not_before = omega (arith, size_pos G h) })
+  pub first_none : (start h v : ℕ) → start ≤ v → FirstFrom G start h v 0
+  first_none start h v l = record { inside = entries_pos G; passed = inr refl; not_before = omega (arith, size_pos G h) }
 
-  -- the first of them begins no later than the start, or at the first address
-  pub not_yet : {start h v left all : ℕ} → LeftFrom G start h v left → all ≡ entries G → start < v + size_at G h * (all - left) + size_at G h
-  not_yet {start} {h} {v} {left} F e = subst (λ (x : ℕ). start < v + size_at G h * (x - left) + size_at G h) (sym e) F.not_before
+  -- no later one ends before the start
+  pub still : {start h v from : ℕ} → FirstFrom G start h v from → (i : ℕ) → from ≤ i → start < v + size_at G h * i + size_at G h
+  still {h = h} F i l = omega (arith, F.not_before, mul-le-mul_left (size_at G h) l)
 
   -- the region of an entry
   pub entry_region : {start h v : ℕ} → RegionFit G start (suc h) v → (i : ℕ) → i < entries G → start < v + size_at G h * i + size_at G h → RegionFit G start h (v + size_at G h * i)
@@ -176,11 +165,6 @@ module _ {G : Granule} (S : Sane G) where
     fits = omega (arith, R.fits, size_suc' G h, table_ends (size_at G h) l);
     not_before = m;
   }
-
-  -- and of the one after it
-  pub left_next : (start h v all left : ℕ) → 0 < left → left ≤ all → start < v + size_at G h * (all - left) + size_at G h → start < v + size_at G h * (all - (left - 1)) + size_at G h
-  left_next start h v all left l m b =
-      let z : size_at G h * (all - (left - 1)) ≡ size_at G h * (all - left + 1) = ap (λ (x : ℕ). size_at G h * x) (omega arith) in omega (arith, z)
 
   -- the power of two of the sizes of a level, which code has found
   pub power_at : {h bits : ℕ} → h < G.most → bits ≡ at_level G h (G.page + G.index * h) → (bits ≤ 48) × (bits ≡ G.page + G.index * h)
@@ -199,81 +183,72 @@ module _ {G : Granule} (S : Sane G) where
   pub page_size_lem : {size : ℕ} → size ≡ at_level G 0 (size_at G 0) → size ≡ size_at G 0
   page_size_lem e = e ∙ level_some G last_level (size_at G 0)
 
-  module _ {us : List ℕ} {count v size : ℕ} (F : PagesFit G us count v) (e : size ≡ size_at G 0) where
-    pub page_ends : {left : ℕ} → 0 < left → left ≤ count → v + size * (length us - left) + size ≤ physical
-    page_ends {left} l m =
-        subst (λ (x : ℕ). v + x * (length us - left) + x ≤ physical) (sym e)
-        (omega (arith, F.fits, size_suc' G 0, ap (λ (x : ℕ). size_at G 0 * x) F.whole, table_ends (size_at G 0) {t = length us - left} {c = length us} (omega (arith, m, F.few_left, F.whole))))
+  module _ {us : List ℕ} {v size : ℕ} (F : PagesFit G us v) (e : size ≡ size_at G 0) {i : ℕ} (l : i < length us) where
+    pub page_ends : v + size * i + size ≤ physical
+    page_ends = subst (λ (x : ℕ). v + x * i + x ≤ physical) (sym e) (omega (arith, F.fits, size_suc' G 0, ap (λ (x : ℕ). size_at G 0 * x) F.whole, table_ends (size_at G 0) {t = i} {c = length us} l))
 
-    pub page_one : (ws : List ℕ) (area : Area) → SoundPages G ws area us → {left : ℕ} → 0 < left → left ≤ count
-        → OneOf G 0 (v + size * (length us - left)) (get_or us (length us - left) 0) (one G ws area 0 v us (length us - left))
-    page_one ws area s {left} l m =
-        subst (λ (x : ℕ). OneOf G 0 (v + x * (length us - left)) (get_or us (length us - left) 0) (one G ws area 0 v us (length us - left))) (sym e)
-        (last_of_lem G ws area S (v + size_at G 0 * (length us - left)) (get_or us (length us - left) 0) (s (length us - left) (omega (arith, m, F.few_left, F.whole))))
+    pub page_one : (ws : List ℕ) (area : Area) → SoundPages G ws area us → OneOf G 0 (v + size * i) (get_or us i 0) (one G ws area 0 v us i)
+    page_one ws area s =
+        subst (λ (x : ℕ). OneOf G 0 (v + x * i) (get_or us i 0) (one G ws area 0 v us i)) (sym e) (last_of_lem G ws area S (v + size_at G 0 * i) (get_or us i 0) (s i (omega (arith, F.whole))))
 
   -- what a table asks of each of its entries, whose size code has found
   module _ {ws : List ℕ} {area : Area} {start h t v size : ℕ} (T : TableFit G ws area start t h v) (e : size ≡ at_level G h (size_at G h)) where
     size_is : size ≡ size_at G h
     size_is = e ∙ level_some G T.region.level (size_at G h)
 
-    module _ {all left : ℕ} (long : all ≡ entries G) (some : 0 < left) (few : left ≤ all) (on : start < v + size_at G h * (all - left) + size_at G h) where
-      low : all - left < entries G
-      low = omega (arith, long)
+    module _ {from i : ℕ} (first : FirstFrom G start h v from) (later : from ≤ i) (low : i < entries G) where
+      inner : RegionFit G start h (v + size_at G h * i)
+      inner = entry_region T.region i low (still first i later)
 
-      inner : RegionFit G start h (v + size_at G h * (all - left))
-      inner = entry_region T.region (all - left) low on
+      pub entry_ends : v + size * i + size ≤ physical
+      entry_ends = subst (λ (x : ℕ). v + x * i + x ≤ physical) (sym size_is) inner.fits
 
-      pub entry_ends : v + size * (all - left) + size ≤ physical
-      entry_ends = subst (λ (x : ℕ). v + x * (all - left) + x ≤ physical) (sym size_is) inner.fits
-
-      pub entry_fit : {us : List ℕ} → us ≡ table_words G ws t → 1 ≤ h → EntryFit G ws area start (get_or us (all - left) 0) h (v + size * (all - left))
+      pub entry_fit : {us : List ℕ} → us ≡ table_words G ws t → 1 ≤ h → EntryFit G ws area start (get_or us i 0) h (v + size * i)
       entry_fit {us} q a =
-          subst (λ (x : ℕ). EntryFit G ws area start (get_or us (all - left) 0) h (v + x * (all - left))) (sym size_is)
+          subst (λ (x : ℕ). EntryFit G ws area start (get_or us i 0) h (v + x * i)) (sym size_is)
           (record {
             above = a;
             low = T.region.level;
             region = inner;
-            sound = subst (λ (w : ℕ). SoundEntry (SoundBelow G ws area h) (entry_at G area h w)) (sym (word_is G ws t (all - left) low) ∙ ap (λ (x : List ℕ). get_or x (all - left) 0) (sym q)) (sound_entry G ws area h t T.sound (all - left) low);
+            sound = subst (λ (w : ℕ). SoundEntry (SoundBelow G ws area h) (entry_at G area h w)) (sym (word_is G ws t i low) ∙ ap (λ (x : List ℕ). get_or x i 0) (sym q)) (sound_entry G ws area h t T.sound i low);
           })
 
-      pub entry_told : (us P E P' E' : List ℕ) (n : ℕ) (r : Cursor)
-          → fed r P' E' ≡ feed G (from_on start (of_entry G h (v + size * (all - left)) (below G ws area h) (entry_at G area h (get_or us (all - left) 0))).mappings) P E n
-          → fed r P' E' ≡ feed G (from_on start (one G ws area h v us (all - left))) P E n
+      pub entry_told : (us P E P' E' : List ℕ) (n : ℕ) (r : Result ℕ ℕ)
+          → fed r P' E' ≡ feed G (from_on start (of_entry G h (v + size * i) (below G ws area h) (entry_at G area h (get_or us i 0))).mappings) P E n
+          → fed r P' E' ≡ feed G (from_on start (one G ws area h v us i)) P E n
       entry_told us P E P' E' n r d =
-          d ∙ ap (λ (x : ℕ). feed G (from_on start (of_entry G h (v + x * (all - left)) (below G ws area h) (entry_at G area h (get_or us (all - left) 0))).mappings) P E n) size_is
+          d ∙ ap (λ (x : ℕ). feed G (from_on start (of_entry G h (v + x * i) (below G ws area h) (entry_at G area h (get_or us i 0))).mappings) P E n) size_is
 
 -- ---- a loop over the entries
 
--- what is left to list, of the last entries, comes to the same as what was at first
+-- what is left to list, from entry i on, comes to the same as what was at first, from another on
 abbrev pub Same : Granule → List ℕ → Area → ℕ → ℕ → ℕ → List ℕ → ℕ → List ℕ → List ℕ → ℕ → List ℕ → List ℕ → ℕ → ℕ → Type 0
-Same G ws area start h v us count P₀ E₀ n₀ P E n left =
-    feed G (from_on start (last_of G ws area h v us left)) P E n ≡ feed G (from_on start (last_of G ws area h v us count)) P₀ E₀ n₀
+Same G ws area start h v us from P₀ E₀ n₀ P E n i =
+    feed G (from_on start (rest_of G ws area h v us i)) P E n ≡ feed G (from_on start (rest_of G ws area h v us from)) P₀ E₀ n₀
 
-module _ (G : Granule) (ws : List ℕ) (area : Area) (start h v : ℕ) (us : List ℕ) (count : ℕ) (P₀ E₀ : List ℕ) (n₀ : ℕ) (P E : List ℕ) (n left : ℕ)
-    (k : Same G ws area start h v us count P₀ E₀ n₀ P E n left) where
-  pub loop_end : left ≤ 0 → goes_on P E n ≡ feed G (from_on start (last_of G ws area h v us count)) P₀ E₀ n₀
+module _ (G : Granule) (ws : List ℕ) (area : Area) (start h v : ℕ) (us : List ℕ) (from : ℕ) (P₀ E₀ : List ℕ) (n₀ : ℕ) (P E : List ℕ) (n i : ℕ)
+    (k : Same G ws area start h v us from P₀ E₀ n₀ P E n i) where
+  pub loop_end : length us ≤ i → fed (Ok n) P E ≡ feed G (from_on start (rest_of G ws area h v us from)) P₀ E₀ n₀
   unfolding from_on
-  loop_end l = fed_none G P E n ∙ ap (λ (x : List Mapping). feed G (from_on start x) P E n) (sym (rest_none G ws area h v us (length us - left) (omega arith))) ∙ k
+  loop_end l = fed_none G P E n ∙ ap (λ (x : List Mapping). feed G (from_on start x) P E n) (sym (rest_none G ws area h v us i l)) ∙ k
 
-  module _ (some : 0 < left) (few : left ≤ length us) (P' E' : List ℕ) (r : Cursor)
-      (e : fed r P' E' ≡ feed G (from_on start (one G ws area h v us (length us - left))) P E n) where
+  module _ (l : i < length us) (P' E' : List ℕ) where
     abbrev here : List Mapping
-    here = from_on start (one G ws area h v us (length us - left))
+    here = from_on start (one G ws area h v us i)
 
     abbrev later : List Mapping
-    later = from_on start (last_of G ws area h v us (left - 1))
+    later = from_on start (rest_of G ws area h v us (i + 1))
 
-    parts : feed G (from_on start (last_of G ws area h v us left)) P E n ≡ feed G (here ++ later) P E n
+    parts : feed G (from_on start (rest_of G ws area h v us i)) P E n ≡ feed G (here ++ later) P E n
     parts =
-        let z : length us - left + 1 ≡ length us - (left - 1) = omega arith in
-        ap (λ (x : List Mapping). feed G (from_on start x) P E n) (rest_step G ws area h v us (length us - left) (omega arith) ∙ ap (λ (x : ℕ). one G ws area h v us (length us - left) ++ rest_of G ws area h v us x) z)
-        ∙ ap (λ (x : List Mapping). feed G x P E n) (from_append start (one G ws area h v us (length us - left)) (last_of G ws area h v us (left - 1)))
+        ap (λ (x : List Mapping). feed G (from_on start x) P E n) (rest_step G ws area h v us i l)
+        ∙ ap (λ (x : List Mapping). feed G x P E n) (from_append start (one G ws area h v us i) (rest_of G ws area h v us (i + 1)))
 
-    pub loop_stop : r.more ≡ true → fed r P' E' ≡ feed G (from_on start (last_of G ws area h v us count)) P₀ E₀ n₀
-    loop_stop m = fed_stop G here later P E P' E' n r e m ∙ sym parts ∙ k
+    pub loop_stop : (base : ℕ) → fed (Err base) P' E' ≡ feed G here P E n → fed (Err base) P' E' ≡ feed G (from_on start (rest_of G ws area h v us from)) P₀ E₀ n₀
+    loop_stop base e = fed_stop G here later P E P' E' n base e ∙ sym parts ∙ k
 
-    pub loop_next : r.more ≡ false → Same G ws area start h v us count P₀ E₀ n₀ P' E' r.written (left - 1)
-    loop_next m = sym (fed_on G here later P E P' E' n r e m) ∙ sym parts ∙ k
+    pub loop_next : (m : ℕ) → fed (Ok m) P' E' ≡ feed G here P E n → Same G ws area start h v us from P₀ E₀ n₀ P' E' m (i + 1)
+    loop_next m e = sym (fed_on G here later P E P' E' n m e) ∙ sym parts ∙ k
 
 -- ---- a table
 
@@ -282,9 +257,9 @@ module _ {G : Granule} (S : Sane G) (ws : List ℕ) (area : Area) (start h t v :
   table_long R e = ap length q ∙ length_part ws (slot G t 0) (entries G) (omega (arith, e, R.long, table_ends (entries G) T.inside))
 
   -- from the entry on at which the loop begins
-  pub table_told : (left : ℕ) → length us ≡ entries G → LeftFrom G start h v left → from_on start (last_of G ws area h v us left) ≡ from_on start (of_table G ws area h t v).mappings
-  table_told left e F =
-      sym (last_from G ws area h v us S start left (aligned_down G {j = h} {h = suc h} (omega arith) v T.region.aligned) e F)
+  pub table_told : (from : ℕ) → length us ≡ entries G → FirstFrom G start h v from → from_on start (rest_of G ws area h v us from) ≡ from_on start (of_table G ws area h t v).mappings
+  table_told from e F =
+      sym (first_from G ws area h v us S start from (aligned_down G {j = h} {h = suc h} (omega arith) v T.region.aligned) e F)
       ∙ ap (λ (x : List ℕ). from_on start (rest_of G ws area h v x 0)) q
       ∙ ap (from_on start) (sym (table_is G ws area h t v))
 
@@ -295,13 +270,13 @@ module _ {G : Granule} (S : Sane G) (ws : List ℕ) (area : Area) (start h t v :
         subst (λ (w : ℕ). SoundEntry (SoundBelow G ws area 0) (entry_at G area 0 w)) (sym (word_is G ws t i l) ∙ ap (λ (x : List ℕ). get_or x i 0) (sym q))
         (sound_entry G ws area 0 t (subst (λ (x : ℕ). SoundTable G ws area x t) z T.sound) i l)
 
-    pub pages_fit : (left : ℕ) → length us ≡ entries G → LeftFrom G start h v left → PagesFit G us left v
-    pages_fit left e F = record { whole = e; few_left = F.few_left; fits = subst (λ (x : ℕ). v + size_at G (suc x) ≤ physical) z T.region.fits }
+    pub pages_fit : length us ≡ entries G → PagesFit G us v
+    pages_fit e = record { whole = e; fits = subst (λ (x : ℕ). v + size_at G (suc x) ≤ physical) z T.region.fits }
 
-    pub pages_told : (left : ℕ) (P E P' E' : List ℕ) (n : ℕ) (r : Cursor) → length us ≡ entries G → LeftFrom G start h v left
-        → fed r P' E' ≡ feed G (from_on start (last_of G ws area 0 v us left)) P E n → fed r P' E' ≡ feed G (from_on start (of_table G ws area h t v).mappings) P E n
-    pages_told left P E P' E' n r e F d =
-        d ∙ ap (λ (x : ℕ). feed G (from_on start (last_of G ws area x v us left)) P E n) (sym z) ∙ ap (λ (x : List Mapping). feed G x P E n) (table_told left e F)
+    pub pages_told : (from : ℕ) (P E P' E' : List ℕ) (n : ℕ) (r : Result ℕ ℕ) → length us ≡ entries G → FirstFrom G start h v from
+        → fed r P' E' ≡ feed G (from_on start (rest_of G ws area 0 v us from)) P E n → fed r P' E' ≡ feed G (from_on start (of_table G ws area h t v).mappings) P E n
+    pages_told from P E P' E' n r e F d =
+        d ∙ ap (λ (x : ℕ). feed G (from_on start (rest_of G ws area x v us from)) P E n) (sym z) ∙ ap (λ (x : List Mapping). feed G x P E n) (table_told from e F)
 
 -- ---- an entry above the last level
 
@@ -309,7 +284,7 @@ module _ {G : Granule} (S : Sane G) (ws : List ℕ) (area : Area) (start w h v :
   abbrev given : List Mapping
   given = (of_entry G h v (below G ws area h) (entry_at G area h w)).mappings
 
-  pub entry_none : w ≡ 0 → (P E : List ℕ) (n : ℕ) → goes_on P E n ≡ feed G (from_on start given) P E n
+  pub entry_none : w ≡ 0 → (P E : List ℕ) (n : ℕ) → fed (Ok n) P E ≡ feed G (from_on start given) P E n
   unfolding from_on
   entry_none z P E n = fed_none G P E n ∙ ap (λ (e : Entry). feed G (from_on start (of_entry G h v (below G ws area h) e).mappings) P E n) (sym (ap (entry_at G area h) z ∙ entry_zero G area h))
 
@@ -331,5 +306,5 @@ module _ {G : Granule} (S : Sane G) (ws : List ℕ) (area : Area) (start w h v :
         sound = child_sound G ws area h c w F.above names F.sound;
       }
 
-      pub child_told : (P E P' E' : List ℕ) (k : ℕ) (r : Cursor) → fed r P' E' ≡ feed G (from_on start (of_table G ws area (h - 1) c v).mappings) P E k → fed r P' E' ≡ feed G (from_on start given) P E k
+      pub child_told : (P E P' E' : List ℕ) (k : ℕ) (r : Result ℕ ℕ) → fed r P' E' ≡ feed G (from_on start (of_table G ws area (h - 1) c v).mappings) P E k → fed r P' E' ≡ feed G (from_on start given) P E k
       child_told P E P' E' k r d = d ∙ ap (λ (x : List Mapping). feed G (from_on start x) P E k) (sym (child_mappings G ws area h v c w F.above names))

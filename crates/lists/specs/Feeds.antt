@@ -1,5 +1,5 @@
 -- What the functions of list ask and answer. Mappings are written one after the other, from a place of the two runs on.
-use Rattle.std.specs.Prelude.{ℕ, zero, suc, ◌+◌, ◌-◌, ◌*◌, ◌%◌, ◌≤◌, ◌<◌, ◌≡◌, ◌⊎◌, Bool, true, false, cond, List, [], ◌∷◌, ltb, length, get_or, set, drop}
+use Rattle.std.specs.Prelude.{ℕ, zero, suc, ◌+◌, ◌*◌, ◌%◌, ◌≤◌, ◌<◌, ◌≡◌, ◌⊎◌, false, cond, List, [], ◌∷◌, Result, Ok, Err, ltb, length, get_or, set, drop}
 use Rattle.path.specs.Geometry.{Granule, granule_of, entries, size_at, physical}
 use Rattle.path.specs.Areas.{Area, area_at, total}
 use Rattle.entry.specs.Words.{frame_word, entry_at, Framed}
@@ -7,35 +7,26 @@ use Rattle.model.specs.Answers.{Mapping, mapping}
 use Rattle.model.specs.Audit.{Found, nothing, of_entries, of_table}
 use Rattle.model.specs.Sound.{SoundEntry, SoundTable}
 use Rattle.model.specs.Listing.{place_of, entry_of}
-use Rattle.lists.specs.declared.Cursor.{Cursor}
-use Rattle.lists.specs.declared.Tree.{Tree}
+use Rattle.links.specs.Trees as links
+use Rattle.lists.specs.declared.Span.{Span}
 
--- the two runs, how many of their places are written, and whether a mapping found no place, with its base
+-- the two runs, and how many of their places are written, or the base of a mapping that found no place
 pub record Fed : Type 0 where
   pub places : List ℕ
   pub entries : List ℕ
-  pub written : ℕ
-  pub more : Bool
-  pub next : ℕ
+  pub end : Result ℕ ℕ
 
-abbrev pub goes_on : List ℕ → List ℕ → ℕ → Fed
-goes_on places entries n = record { places = places; entries = entries; written = n; more = false; next = 0 }
-
-abbrev pub stops : List ℕ → List ℕ → ℕ → ℕ → Fed
-stops places entries n base = record { places = places; entries = entries; written = n; more = true; next = base }
-
--- by the code's cursor and the two runs at its end
-abbrev pub fed : Cursor → List ℕ → List ℕ → Fed
-fed r places entries =
-    record { places = places; entries = entries; written = r.written; more = r.more; next = r.next }
+-- by the code's answer and the two runs at its end
+abbrev pub fed : Result ℕ ℕ → List ℕ → List ℕ → Fed
+fed r places entries = record { places = places; entries = entries; end = r }
 
 -- mappings written from place n on; the first that finds no place ends it
 unfoldable pub feed : Granule → List Mapping → List ℕ → List ℕ → ℕ → Fed
-feed G [] places entries n = goes_on places entries n
+feed G [] places entries n = fed (Ok n) places entries
 feed G (m ∷ L) places entries n =
     cond (ltb n (length places))
     (feed G L (set places n (place_of G m)) (set entries n (entry_of G m)) (suc n))
-    (stops places entries n m.at)
+    (fed (Err m.at) places entries)
 
 -- what a word of an entry of height h gives that stands for the addresses from v on and names no table: nothing, or a mapping
 pub data OneOf (G : Granule) (h v w : ℕ) : List Mapping → Type 0 where
@@ -43,11 +34,11 @@ pub data OneOf (G : Granule) (h v w : ℕ) : List Mapping → Type 0 where
   frame_there : (b k : ℕ) → Framed G h b k → w ≡ frame_word b h k → OneOf G h v w (mapping v b (size_at G h) k ∷ [])
 
 -- the granule and the tables of a tree
-abbrev pub granule_in : Tree → Granule
-granule_in tree = granule_of tree.granule
+abbrev pub granule_in : Span → Granule
+granule_in span = granule_of span.tree.granule
 
-abbrev pub area_in : Tree → Area
-area_in tree = area_at tree.base tree.tables tree.base2 tree.tables2
+abbrev pub area_in : Span → Area
+area_in span = links.area_in span.tree
 
 -- what is found in a table one level below entries of height h, and that such a table is sound
 unfoldable pub below : Granule → List ℕ → Area → ℕ → ℕ → ℕ → Found
@@ -62,26 +53,20 @@ SoundBelow G ws area (suc h) c = SoundTable G ws area h c
 abbrev pub rest_of : Granule → List ℕ → Area → ℕ → ℕ → List ℕ → ℕ → List Mapping
 rest_of G ws area h v us i = (of_entries G area h (v + size_at G h * i) (below G ws area h) (drop i us)).mappings
 
--- the mappings of its last entries, so many of them
-abbrev pub last_of : Granule → List ℕ → Area → ℕ → ℕ → List ℕ → ℕ → List Mapping
-last_of G ws area h v us left = rest_of G ws area h v us (length us - left)
-
 -- words that are sound as those of the last level
 abbrev pub SoundPages : Granule → List ℕ → Area → List ℕ → Type 0
 SoundPages G ws area us = (i : ℕ) → i < entries G → SoundEntry (SoundBelow G ws area 0) (entry_at G area 0 (get_or us i 0))
 
--- of the entries of a table, which have height h and of which the first stands for the addresses from v on, so many are left from the first on whose addresses
--- are not all before the start
-pub record LeftFrom (G : Granule) (start h v left : ℕ) : Type 0 where
-  pub some_left : 1 ≤ left
-  pub few_left : left ≤ entries G
-  pub passed : (v + size_at G h * (entries G - left) ≤ start) ⊎ (left ≡ entries G)
-  pub not_before : start < v + size_at G h * (entries G - left) + size_at G h
+-- of the entries of a table, which have height h and of which the first stands for the addresses from v on, entry i is the first whose addresses are not all
+-- before the start
+pub record FirstFrom (G : Granule) (start h v i : ℕ) : Type 0 where
+  pub inside : i < entries G
+  pub passed : (v + size_at G h * i ≤ start) ⊎ (i ≡ 0)
+  pub not_before : start < v + size_at G h * i + size_at G h
 
 -- what is asked of the words of a table of the last level
-pub record PagesFit (G : Granule) (us : List ℕ) (left v : ℕ) : Type 0 where
+pub record PagesFit (G : Granule) (us : List ℕ) (v : ℕ) : Type 0 where
   pub whole : length us ≡ entries G
-  pub few_left : left ≤ entries G
   pub fits : v + size_at G 1 ≤ physical
 
 -- what is asked of the runs that are written: they are of one length

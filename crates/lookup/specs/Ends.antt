@@ -1,5 +1,5 @@
--- Where a walk ends, as a number and the tables on the way.
-use Rattle.std.specs.Prelude.{ℕ, ◌*◌, ◌/◌, ◌%◌, Bool, cond, ◌&&◌, List, [], ltb, leb, eqb, length, get_or}
+-- Where a walk ends, as a place and a height, and the tables on the way.
+use Rattle.std.specs.Prelude.{ℕ, ◌*◌, Bool, cond, ◌&&◌, List, [], ltb, leb, eqb, length, get_or, Result, Ok, Err}
 use Rattle.path.specs.Geometry.{Granule, entries, good_levels, physical}
 use Rattle.path.specs.Areas.{Area, area_of, total}
 use Rattle.path.specs.Numbers.{most_tables}
@@ -10,13 +10,14 @@ use Rattle.model.specs.declared.Walked.{Walked}
 use Rattle.model.specs.Answers.{pool}
 use Rattle.model.specs.Walk.{stop}
 use Rattle.model.specs.Calls.{walk_to}
+use Rattle.lookup.specs.declared.Reached.{Reached}
+use Rattle.lookup.specs.declared.Lost.{Lost}
 use Rattle.lookup.specs.Walks.{nowhere}
 
--- four times the place of the last entry and the height of that entry; where a table was come to again, a place past the words' end and the height of
--- its entries
-unfoldable pub end_of : Granule → List ℕ → Area → ℕ → List ℕ → Walked
-end_of G ws area r way =
-    cond (ltb (r / 4) (length ws)) (stop (entry_at G area (r % 4) (get_or ws (r / 4) 0)) (r % 4) way) (stop Damaged (r % 4) way)
+-- the place of the last entry and the height of that entry; where a table was come to again, damage at the height of its entries
+unfoldable pub end_of : Granule → List ℕ → Area → Result Reached Lost → List ℕ → Walked
+end_of G ws area (Ok r) way = stop (entry_at G area r.height (get_or ws r.place 0)) r.height way
+end_of G ws area (Err l) way = stop Damaged l.height way
 
 -- a first base, levels and table counts that a pool may have, a target among the heights, and the words of all tables
 unfoldable pub can_walk : Granule → Setup → ℕ → ℕ → Bool

@@ -1,10 +1,10 @@
 -- Laws of where a walk ends.
-use Rattle.std.specs.Prelude.{ℕ, ◌+◌, ◌*◌, ◌/◌, ◌%◌, ◌≤◌, ◌<◌, ◌≡◌, refl, Bool, true, false, List, ltb, leb, get_or}
+use Rattle.std.specs.Prelude.{ℕ, ◌*◌, ◌≤◌, ◌<◌, ◌≡◌, refl, Bool, true, false, List, ltb, leb, get_or, Result, Ok, Err, IfOk}
 use Rattle.std.proofs.Math.Path.{ap}
 use Rattle.std.proofs.Common.{◌∙◌}
 use native.Mathlib.Omega.{arith}
 use Rattle.std.proofs.Math.ListN.{length}
-use borrow.Author.Tests.{lt-ltb, le-ltb, ltb-true, leb-true, eqb-true, le-leb, eq-eqb}
+use borrow.Author.Tests.{lt-ltb, ltb-true, leb-true, eqb-true, le-leb, eq-eqb}
 use Rattle.path.specs.Geometry.{Granule, Sane, entries, good_levels, physical}
 use Rattle.path.specs.Areas.{Area, area_of, total}
 use Rattle.path.specs.Numbers.{most_tables, GoodSetup}
@@ -17,28 +17,19 @@ use Rattle.entry.specs.declared.Entry.TheVariants.{Damaged}
 use Rattle.model.specs.Walk.{slot, at_height, stop}
 use Rattle.model.specs.Answers.{Pool, pool}
 use Rattle.model.specs.Calls.{walk_to}
+use Rattle.lookup.specs.declared.Reached.{Reached}
+use Rattle.lookup.specs.declared.Lost.{Lost}
 use Rattle.lookup.specs.Walks.{nowhere}
 use Rattle.lookup.specs.Ends.{end_of, can_walk, walk_if}
 
 module _ (G : Granule) (ws : List ℕ) (area : Area) (way : List ℕ) where
-  pub end_at :
-      (place h : ℕ) → h < 4 → place < length ws
-      → end_of G ws area (4 * place + h) way ≡ stop (entry_at G area h (get_or ws place 0)) h way
+  pub end_at : (r : Reached) → end_of G ws area (Ok r) way ≡ stop (entry_at G area r.height (get_or ws r.place 0)) r.height way
   unfolding end_of
-  end_at place h l m =
-      let q : (4 * place + h) / 4 ≡ place = omega arith in
-      let r : (4 * place + h) % 4 ≡ h = omega arith in
-      rw (q, r, lt-ltb place (length ws) m)
+  end_at r = refl
 
-  pub end_past : (h : ℕ) → h < 4 → end_of G ws area (4 * length ws + h) way ≡ stop Damaged h way
+  pub end_past : (l : Lost) → end_of G ws area (Err l) way ≡ stop Damaged l.height way
   unfolding end_of
-  end_past h l =
-      let q : (4 * length ws + h) / 4 ≡ length ws = omega arith in
-      let r : (4 * length ws + h) % 4 ≡ h = omega arith in
-      rw (q, r, le-ltb (length ws) (length ws) (omega arith))
-
-  pub end_none : end_of G ws area (4 * length ws) way ≡ stop Damaged 0 way
-  end_none = let e : 4 * length ws ≡ 4 * length ws + 0 = omega arith in ap (λ (r : ℕ). end_of G ws area r way) e ∙ end_past 0 (omega arith)
+  end_past l = refl
 
 -- the numbers that a walk may be made by, as facts
 pub record CanWalk (G : Granule) (s : Setup) (words target : ℕ) : Type 0 where
@@ -113,21 +104,36 @@ module _ (G : Granule) (s : Setup) (ws : List ℕ) (target a : ℕ) where
 
 -- ---- a walk of the calls that is done, and answered r
 
-pub record Came (G : Granule) (p : Pool) (target a r : ℕ) (way : List ℕ) : Type 0 where
+pub record Came (G : Granule) (p : Pool) (target a : ℕ) (r : Result Reached Lost) (way : List ℕ) : Type 0 where
   pub end : end_of G p.words (area_of p.numbers) r way ≡ walk_to G p target a
-  pub place : r / 4 < length p.words → r / 4 ≡ slot G (at_height way (r % 4)) (at_height (path_of G a) (r % 4))
+  pub place : IfOk r (λ x. (x.height ≤ 3) × (x.place < length p.words) × (x.place ≡ slot G (at_height way x.height) (at_height (path_of G a) x.height)))
 
-module _ {G : Granule} {p : Pool} {target a r : ℕ} {way : List ℕ} (C : Came G p target a r way) where
+-- by what the code promises of it
+pub came_by :
+    {G : Granule} {s : Setup} {ws : List ℕ} {target a k places : ℕ} {r : Result Reached Lost} {way : List ℕ}
+    → GoodSetup G s k (length ws) places → target ≤ G.large → Sane G
+    → end_of G ws (area_of s) r way ≡ walk_if G s ws target a
+    → IfOk r (λ x. (x.height ≤ 3) × (x.place < length ws) × (x.place ≡ slot G (at_height way x.height) (at_height (path_of G a) x.height)))
+    → (cut : ℕ) (list : List ℕ) → Came G (pool s ws cut list) target a r way
+came_by {G} {s} {ws} {target} {a} g l S e placed cut list = record { end = e ∙ reach_good G s ws target a S g l cut list; place = placed }
+
+module _ {G : Granule} {p : Pool} {target a : ℕ} {l : Lost} {way : List ℕ} (C : Came G p target a (Err l) way) where
   -- a table was come to again
-  pub came_again : length p.words ≤ r / 4 → stop Damaged (r % 4) way ≡ walk_to G p target a
+  pub came_again : stop Damaged l.height way ≡ walk_to G p target a
   unfolding end_of
-  came_again l = rw (le-ltb (r / 4) (length p.words) l) at C.end
+  came_again = C.end
 
+module _ {G : Granule} {p : Pool} {target a : ℕ} {r : Reached} {way : List ℕ} (C : Came G p target a (Ok r) way) where
   -- it ended at the entry of a word
-  pub came_word :
-      r / 4 < length p.words → {w : ℕ} → w ≡ get_or p.words (r / 4) 0
-      → stop (entry_at G (area_of p.numbers) (r % 4) w) (r % 4) way ≡ walk_to G p target a
+  pub came_height : r.height ≤ 3
+  came_height = C.place.0
+
+  pub came_inside : r.place < length p.words
+  came_inside = C.place.1
+
+  pub came_place : r.place ≡ slot G (at_height way r.height) (at_height (path_of G a) r.height)
+  came_place = C.place.2
+
+  pub came_word : {w : ℕ} → w ≡ get_or p.words r.place 0 → stop (entry_at G (area_of p.numbers) r.height w) r.height way ≡ walk_to G p target a
   unfolding end_of
-  came_word l e =
-      ap (λ (w : ℕ). stop (entry_at G (area_of p.numbers) (r % 4) w) (r % 4) way) e
-      ∙ rw (lt-ltb (r / 4) (length p.words) l) at C.end
+  came_word e = ap (λ (w : ℕ). stop (entry_at G (area_of p.numbers) r.height w) r.height way) e ∙ C.end

@@ -15,9 +15,9 @@ use Rattle.path.specs.Areas.{Area}
 use Rattle.path.specs.Paths.{index_at, path_of}
 use Rattle.entry.specs.Words.{table_word}
 use Rattle.model.specs.Walk.{slot, at_height}
-use Rattle.model.specs.Writes.{Write, store, wipe, Memory, memory, perform, perform_all, map_writes}
+use Rattle.model.specs.Writes.{store, wipe, Memory, perform_all, map_writes}
 use Rattle.plans.specs.Plan.{IsWrite}
-use Rattle.plans.specs.Steps.{starts_with, goes_on, words_next, index_known}
+use Rattle.plans.specs.Steps.{starts_with, goes_on, index_known}
 use Rattle.maps.specs.Parts.{last_taken}
 
 module _ (G : Granule) (area : Area) (path list : List ℕ) (g word : ℕ) where
@@ -126,22 +126,3 @@ module _ (G : Granule) (list : List ℕ) (a g t f n k : ℕ) where
       last : (k : ℕ) → 0 < k → get_or list (f - k) 0 ≡ last_taken list t f k
       last zero h = absurd (omega arith)
       last (suc k) h = refl
-
--- carrying the writes out, two for each table
-module _ (G : Granule) (ws : List Write) (v₀ : List ℕ) where
-  -- the words once k tables are linked
-  abbrev pub Linked : ℕ → List ℕ → Type 0
-  Linked k v = (l : List ℕ) → v ≡ (perform_all G (take (2 * k) ws) (memory v₀ l)).words
-
-  pub linked_more : (k : ℕ) {w x : Write} → IsWrite ws (2 * k) w → IsWrite ws (2 * k + 1) x → {v u y : List ℕ} → Linked k v
-      → ((l : List ℕ) → u ≡ (perform G w (memory v l)).words) → ((l : List ℕ) → y ≡ (perform G x (memory u l)).words) → Linked (k + 1) y
-  linked_more k i j v u y l =
-      let two : 2 * (k + 1) ≡ 2 * k + 1 + 1 = omega arith in
-      rw two (words_next G ws (2 * k + 1) j v₀ (words_next G ws (2 * k) i v₀ v u) y l)
-
-  -- and once the frame's word is written
-  pub linked_all : (n k : ℕ) {w : Write} → k ≡ n → IsWrite ws (2 * n) w → take (2 * n + 1) ws ≡ ws → {v u : List ℕ} → Linked k v
-      → ((l : List ℕ) → u ≡ (perform G w (memory v l)).words) → (l : List ℕ) → u ≡ (perform_all G ws (memory v₀ l)).words
-  linked_all n k e i all {v} before one l =
-      words_next G ws (2 * n) i v₀ (rw e at before) one l
-      ∙ ap (λ (x : List Write). (perform_all G x (memory v₀ l)).words) all

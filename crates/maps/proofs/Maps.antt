@@ -1,13 +1,14 @@
 -- What map does, by what its tests and its walk found.
-use Prim.Native.Nat.{ℕ, ◌-◌, ◌/◌, ◌%◌, ◌≤◌, ◌<◌}
+use Prim.Native.Nat.{ℕ, ◌-◌, ◌≤◌, ◌<◌}
 use mathlib.Core.Path.{◌≡◌, refl, sym, ap, ◌∙◌}
 use mathlib.Core.Logic.{◌≢◌}
 use mathlib.Core.Bool.{Bool, true, false, cond, not}
 use mathlib.Core.List.{List}
 use native.Mathlib.Omega.{arith}
-use borrow.Author.Tests.{not-true, lt-ltb, le-ltb, le-leb, ne_eqb}
+use Rattle.std.specs.Prelude.{Ok, Err}
+use borrow.Author.Tests.{not-true, lt-ltb, le-ltb, le-leb}
 use lib.Dec.{leb}
-use lib.ListN.{length, get_or, set}
+use lib.ListN.{get_or, set}
 use Rattle.path.specs.Geometry.{Granule, Sane, physical, height_of}
 use Rattle.path.specs.Areas.{area_of, total}
 use Rattle.path.specs.Numbers.{with_free}
@@ -18,13 +19,17 @@ use Rattle.entry.proofs.Laws.{entry_zero, empty_only}
 use Rattle.entry.specs.declared.Entry.{Entry}
 use Rattle.entry.specs.declared.Entry.TheVariants.{Empty, Table, Frame, Damaged}
 use Rattle.model.specs.declared.Walked.{Walked}
-use Rattle.model.specs.Answers.{took, Pool, pool, Done, done, refuse}
+use Rattle.model.specs.declared.Refusal.{Refusal}
+use Rattle.model.proofs.TestedLaws.{tested_err, tested_refused}
+use Rattle.model.specs.Answers.{Answer, says_refusal, tested, took, Pool, pool, Done, done, refuse}
 use Rattle.model.specs.Walk.{slot, at_height, no_way, stop}
 use Rattle.model.specs.Writes.{Write, memory, perform_all, map_writes, may_take}
 use Rattle.model.specs.Calls.{good_pool, walk_to, map_tests, map_here, map_at, map_w}
 use Rattle.model.proofs.Refusing.{passed}
 use Rattle.lookup.specs.WalkLaws.{walk_above, walk_within}
-use Rattle.lookup.specs.Reaches.{Came, came_again, came_word}
+use Rattle.lookup.specs.declared.Reached.{Reached}
+use Rattle.lookup.specs.declared.Lost.{Lost}
+use Rattle.lookup.specs.Reaches.{Came, came_again, came_word, came_place}
 use Rattle.maps.specs.Parts.{met_by, map_from}
 use Rattle.maps.proofs.Links.{map_list}
 
@@ -33,10 +38,12 @@ module _ (G : Granule) (p : Pool) (a b size k : ℕ) {r : Bool} (e : r ≡ good_
   unfolding map_w
   map_bad n = rw (sym e ∙ not-true _ n)
 
-  module _ (n : not r ≡ false) {no : ℕ} (t : no ≡ map_tests G p.numbers.levels (area_of p.numbers) a b size k) where
-    pub map_refuses : no ≢ 0 → refuse no p ≡ map_w G p a b size k
-    unfolding map_w
-    map_refuses z = rw (passed e n, ← t, ne_eqb no 0 z)
+  pub map_refuses :
+      not r ≡ false → (q : Refusal) → says_refusal q ≡ tested (map_tests G p.numbers.levels (area_of p.numbers) a b size k) → done (says_refusal q) p ≡ map_w G p a b size k
+  unfolding map_w
+  map_refuses n q t =
+      let no = map_tests G p.numbers.levels (area_of p.numbers) a b size k in
+      rw (passed e n, tested_err no q t) (ap (λ (x : Answer). done x p) (tested_refused no q t))
 
   -- no test refused
   pub map_from_lem : good_pool G p ≡ true → map_tests G p.numbers.levels (area_of p.numbers) a b size k ≡ 0 → {h : ℕ} → h ≡ height_of G size → map_from G p a b h k ≡ map_w G p a b size k
@@ -56,65 +63,63 @@ one_here G p a b h k way =
     let same : p.numbers.free - 0 ≡ p.numbers.free = omega arith in
     rw (le-ltb p.numbers.free 0 (omega arith), same)
 
--- ---- the walk to height h is done, and answered r
+-- ---- the walk to height h is done
 
-module _ {G : Granule} {p : Pool} {a h r : ℕ} {way : List ℕ} (C : Came G p h a r way) (b k : ℕ) where
-  -- what map does at the end of a walk
-  abbrev done_at : Walked → Done
-  done_at o = map_at G p a b h k o o.entry
+-- what map does at the end of a walk
+abbrev done_at : Granule → Pool → ℕ → ℕ → ℕ → ℕ → Walked → Done
+done_at G p a b h k o = map_at G p a b h k o o.entry
 
-  pub came_past : length p.words ≤ r / 4 → refuse 8 p ≡ map_from G p a b h k
+-- it came to a table again
+pub came_lost : {G : Granule} {p : Pool} {a h : ℕ} {l : Lost} {way : List ℕ} (b k : ℕ) → Came G p h a (Err l) way → refuse 8 p ≡ map_from G p a b h k
+unfolding map_at
+came_lost {G} {p} {a} {h} b k C = ap (done_at G p a b h k) (came_again C)
+
+-- or it ended at an entry
+module _ {G : Granule} {p : Pool} {a h : ℕ} {r : Reached} {way : List ℕ} (C : Came G p h a (Ok r) way) (b k : ℕ) {w : ℕ} (e : w ≡ get_or p.words r.place 0) where
+  pub came_met : Sane G → {no : ℕ} → w ≢ 0 → no ≡ met_by (walk_to G p h a).entry → refuse no p ≡ map_from G p a b h k
   unfolding map_at
-  came_past l = ap done_at (came_again C l)
+  came_met S some d = rw d (met_at (walk_to G p h a).entry (λ z. some (empty_only S (area_of p.numbers) r.height w (ap (λ (o : Walked). o.entry) (came_word C e) ∙ z))))
+    where
+      met_at : (x : Entry) → (x ≡ Empty → ⊥) → refuse (met_by x) p ≡ map_at G p a b h k (walk_to G p h a) x
+      met_at Empty f = absurd (f refl)
+      met_at (Table c) f = refl
+      met_at (Frame c d) f = refl
+      met_at Damaged f = refl
 
-  module _ (l : r / 4 < length p.words) where
-    pub came_met : Sane G → {w no : ℕ} → w ≡ get_or p.words (r / 4) 0 → w ≢ 0
-        → no ≡ met_by (walk_to G p h a).entry → refuse no p ≡ map_from G p a b h k
-    unfolding map_at
-    came_met S {w} e some d = rw d (met_at (walk_to G p h a).entry (λ z. some (empty_only S (area_of p.numbers) (r % 4) w (ap (λ (o : Walked). o.entry) (came_word C l e) ∙ z))))
-      where
-        met_at : (x : Entry) → (x ≡ Empty → ⊥) → refuse (met_by x) p ≡ map_at G p a b h k (walk_to G p h a) x
-        met_at Empty f = absurd (f refl)
-        met_at (Table c) f = refl
-        met_at (Frame c d) f = refl
-        met_at Damaged f = refl
+  pub came_empty : w ≡ 0 → map_here G p a b h k (stop Empty r.height way) (r.height - h) ≡ map_from G p a b h k
+  unfolding map_at
+  came_empty z =
+      ap (done_at G p a b h k)
+      (ap (λ (x : Entry). stop x r.height way) (sym (ap (entry_at G (area_of p.numbers) r.height) z ∙ entry_zero G _ _))
+      ∙ came_word C e)
 
-    pub came_empty : {w : ℕ} → w ≡ get_or p.words (r / 4) 0 → w ≡ 0
-        → map_here G p a b h k (stop Empty (r % 4) way) (r % 4 - h) ≡ map_from G p a b h k
-    unfolding map_at
-    came_empty {w} e z =
-        ap done_at
-        (ap (λ (x : Entry). stop x (r % 4) way) (sym (ap (entry_at G (area_of p.numbers) (r % 4)) z ∙ entry_zero G _ _))
-        ∙ came_word C l e)
+  -- it ended no higher than the root
+  pub came_left : r.height ≤ p.numbers.levels - 1
+  came_left =
+      rw (ap (λ (o : Walked). o.left) (came_word C e))
+      (walk_within G p.words (area_of p.numbers) h (path_of G a) (p.numbers.levels - 1) no_way 0)
 
-    -- it ended no higher than the root
-    pub came_left : {w : ℕ} → w ≡ get_or p.words (r / 4) 0 → r % 4 ≤ p.numbers.levels - 1
-    came_left e =
-        rw (ap (λ (o : Walked). o.left) (came_word C l e))
-        (walk_within G p.words (area_of p.numbers) h (path_of G a) (p.numbers.levels - 1) no_way 0)
+  -- it ended no lower than the frame's height
+  pub came_above : h ≤ p.numbers.levels - 1 → h ≤ r.height
+  came_above low =
+      rw (ap (λ (o : Walked). o.left) (came_word C e))
+      (walk_above G p.words (area_of p.numbers) h (path_of G a) (p.numbers.levels - 1) no_way 0 low)
 
-    -- it ended no lower than the frame's height
-    pub came_above : {w : ℕ} → w ≡ get_or p.words (r / 4) 0 → h ≤ p.numbers.levels - 1 → h ≤ r % 4
-    came_above e low =
-        rw (ap (λ (o : Walked). o.left) (came_word C l e))
-        (walk_above G p.words (area_of p.numbers) h (path_of G a) (p.numbers.levels - 1) no_way 0 low)
+  -- at an empty entry of that height the frame's word is the only write
+  pub came_here : {word cut : ℕ} {ws : List ℕ} → w ≡ 0 → r.height ≡ h → word ≡ frame_word b h k → ws ≡ set p.words r.place word → cut ≡ p.cut
+      → done (took 0) (pool p.numbers ws cut p.list) ≡ map_from G p a b h k
+  came_here {word} z d f u v =
+      (λ i. done (took 0) (pool p.numbers (u i) (v i) p.list))
+      ∙ (λ i. done (took 0) (pool p.numbers (set p.words (put i) (f i)) p.cut p.list))
+      ∙ sym (one_here G p a b h k way)
+      ∙ (λ i. map_here G p a b h k (stop Empty (sym d i) way) (none i))
+      ∙ came_empty z
+    where
+      put : r.place ≡ slot G (at_height way h) (at_height (path_of G a) h)
+      put = rw (← d) (came_place C)
 
-    -- at an empty entry of that height the frame's word is the only write
-    pub came_here : {w word cut : ℕ} {ws : List ℕ} → w ≡ get_or p.words (r / 4) 0 → w ≡ 0 → r % 4 ≡ h → word ≡ frame_word b h k
-        → ws ≡ set p.words (r / 4) word → cut ≡ p.cut
-        → done (took 0) (pool p.numbers ws cut p.list) ≡ map_from G p a b h k
-    came_here {w} {word} e z d f u v =
-        (λ i. done (took 0) (pool p.numbers (u i) (v i) p.list))
-        ∙ (λ i. done (took 0) (pool p.numbers (set p.words (put i) (f i)) p.cut p.list))
-        ∙ sym (one_here G p a b h k way)
-        ∙ (λ i. map_here G p a b h k (stop Empty (sym d i) way) (none i))
-        ∙ came_empty e z
-      where
-        put : r / 4 ≡ slot G (at_height way h) (at_height (path_of G a) h)
-        put = rw (← d) (C.place l)
-
-        none : 0 ≡ r % 4 - h
-        none = omega arith
+      none : 0 ≡ r.height - h
+      none = omega arith
 
 -- ---- at an empty entry
 

@@ -61,15 +61,8 @@ module _ (list : List ℕ) (n : ℕ) where
   unfolding may_take
   take_end seen f k e = rw e
 
-  -- a number above 0 is not among zeros
-  not_zeros : (xs : List ℕ) {c : ℕ} → c ≢ 0 → ((k : ℕ) → get_or xs k 0 ≡ 0) → among c xs ≡ false
-  unfolding among
-  not_zeros [] p f = refl
-  not_zeros (x ∷ xs) {c} p f = rw (ne_eqb x c (λ e. p (sym e ∙ f 0))) (not_zeros xs p (λ k. f (suc k)))
-
   -- The loop: `taken` holds the i tables that passed, and zeros; what is left to test answers for all.
   pub record Taking (way : List ℕ) (free need : ℕ) (taken : List ℕ) (i : ℕ) : Type 0 where
-    pub few : i ≤ need
     pub long : length taken ≡ 4
     pub rest : (k : ℕ) → i ≤ k → get_or taken k 0 ≡ 0
     pub same : may_take list n way free need ≡ may_take list n (taken ++ way) (free - i) (need - i)
@@ -77,7 +70,6 @@ module _ (list : List ℕ) (n : ℕ) where
   pub taking_start : (way : List ℕ) (free need : ℕ) → Taking way free need (0 ∷ 0 ∷ 0 ∷ 0 ∷ []) 0
   unfolding among all_zero
   taking_start way free need = record {
-    few = omega arith;
     long = refl;
     rest = λ k h. all_zero_at (0 ∷ 0 ∷ 0 ∷ 0 ∷ []) refl k;
     same = rw (sub-zero free, sub-zero need) (take_same way (0 ∷ 0 ∷ 0 ∷ 0 ∷ way) (λ x h. sym (rw (ne_eqb 0 x (λ e. omega arith)))) free need);
@@ -110,14 +102,9 @@ module _ (list : List ℕ) (n : ℕ) where
               let seen : among c (taken ++ way) ≡ true = among_append c taken way ∙ rw r in
               sym (T.same ∙ take_seen (taken ++ way) (free - i) (need - i) (omega arith) at_end (omega arith) q seen)
 
-          -- before the first, none is taken
-          pub taking_first : i ≤ 0 → among c taken ≡ false
-          taking_first l = not_zeros taken p (λ k. T.rest k (omega arith))
-
           pub taking_next : need ≤ 4 → among c way ≡ false → among c taken ≡ false → Taking way free need (set taken i c) (i + 1)
           unfolding among
           taking_next m r s = record {
-            few = omega arith;
             long = length-set taken i c ∙ T.long;
             rest = λ k l. get_or-set_other taken i k c 0 (λ z. omega arith) ∙ T.rest k (omega arith);
             same =

@@ -1,10 +1,16 @@
 -- Parts of map, as its code is divided.
-use Rattle.std.specs.Prelude.{ℕ, zero, suc, ◌-◌, List, get_or}
+use Rattle.std.specs.Prelude.{ℕ, zero, suc, ◌-◌, List, [], get_or, Result, Ok, Err}
 use Rattle.path.specs.Geometry.{Granule}
 use Rattle.entry.specs.declared.Entry.{Entry}
 use Rattle.entry.specs.declared.Entry.TheVariants.{Empty, Table, Frame, Damaged}
-use Rattle.model.specs.Answers.{Pool, Done}
+use Rattle.model.specs.declared.Refusal.{Refusal}
+use Rattle.model.specs.Answers.{Answer, answered, says_refusal, Pool, Done}
 use Rattle.model.specs.Calls.{walk_to, map_at}
+
+-- what map's tests say: nothing where none refuses, whatever the height that they answer
+abbrev pub says_height : Result ℕ Refusal → Answer
+says_height (Ok h) = answered []
+says_height (Err r) = says_refusal r
 
 -- the refusal where the walk ended at an entry that is not empty
 abbrev pub met_by : Entry → ℕ

@@ -1,54 +1,58 @@
 // Map. It makes every test first, then its single writes, one after the other.
 #![tactic(auto)]
 
-ghost use Rattle.std.specs.Prelude.{◌≡◌, true, List, ◌++◌, ℕ, ◌+◌, ◌-◌, ◌*◌, ◌≤◌, ◌<◌, length};
+ghost use Rattle.std.specs.Prelude.{◌≡◌, true, List, ◌++◌, ℕ, ◌+◌, ◌-◌, ◌*◌, ◌≤◌, ◌<◌, length, IfOk};
 ghost use Rattle.path.specs.Geometry.{granule_of, entries, physical, height_of};
 ghost use Rattle.path.specs.Areas.{area_of};
 ghost use Rattle.path.specs.Numbers.{most_tables, good_setup};
 ghost use Rattle.path.specs.Paths.{path_of};
 ghost use Rattle.entry.specs.Words.{frame_word};
 ghost use Rattle.entry.specs.declared.Entry.TheVariants.{Empty};
-ghost use Rattle.model.specs.Answers.{says_map, refused, pool, map_did};
+ghost use Rattle.model.specs.Answers.{says_refusal, tested, refused, pool, map_did};
 ghost use Rattle.model.specs.Walk.{slot, at_height, stop};
 ghost use Rattle.model.specs.Writes.{memory, perform_all, map_writes, may_take};
 ghost use Rattle.model.specs.Calls.{map_tests, map_here, map_w};
 ghost use Rattle.lookup.specs.Walks.{walk_by};
 ghost use Rattle.plans.specs.Plan.{write_of, IsWrite};
-ghost use Rattle.maps.specs.Parts.{last_taken, met_by, map_from};
+ghost use Rattle.maps.specs.Parts.{says_height, last_taken, met_by, map_from};
 
 use entry::Entry;
-use model::{MapAnswer, Mapped};
+use links::Tree;
+use lookup::Reached;
+use model::{Mapped, Refusal};
 use path::Setup;
 use plans::Step;
 
-// Map's tests 2 to 5 and then 11, or 0, for a size of this height.
-fn map_tests(s: Setup, address: u64, frame: u64, size: u64, height: usize, attributes: u64) -> u64
-    requires { height ≡ height_of (granule_of s.granule) size }
-    ensures { result ≡ map_tests (granule_of s.granule) s.levels (area_of s) address frame size attributes }
+// Map's tests 2 to 5 and then 11. Where none refuses it answers the height of the frames of this size.
+fn map_tests(
+    s: Setup,
+    address: u64,
+    frame: u64,
+    size: u64,
+    attributes: u64,
+) -> Result<usize, Refusal>
+    ensures tests { says_height result ≡ tested (map_tests (granule_of s.granule) s.levels (area_of s) address frame size attributes) }
+    ensures height { IfOk result (λ h. h ≡ height_of (granule_of s.granule) size) }
 {
-    let large = path::large_of(s.granule);
-    if height > large {
-        return 2;
-    }
+    let Some(height) = path::height_of(s.granule, size) else {
+        return Err(Refusal::Size);
+    };
     if attributes > 15 {
-        return 3;
+        return Err(Refusal::Attributes);
     }
-    if !path::in_space(s.granule, s.levels, address, size) {
-        return 4;
-    }
-    if frame > path::PHYSICAL - size {
-        return 4;
+    if !path::in_space(s.granule, s.levels, address, size) || frame > path::PHYSICAL - size {
+        return Err(Refusal::Address);
     }
     let rest = indices::rest_at(s.granule, address, height)
         + indices::rest_at(s.granule, frame, height);
     let met = setups::meets_area(s.granule, s.base, s.tables, s.base2, s.tables2, frame, size);
     if rest != 0 {
-        return 5;
+        return Err(Refusal::Alignment);
     }
     if met {
-        return 11;
+        return Err(Refusal::Pool);
     }
-    0
+    Ok(height)
 }
 
 // Whether so many tables may be taken from the end of the free list.
@@ -57,25 +61,12 @@ fn may_take(list: &[u32], tables: u32, way: [u32; 4], free: usize, need: usize) 
     ensures { result ≡ may_take list.now tables way free need }
 {
     let mut taken: [u32; 4] = [0; 4];
-    let mut i = 0;
-    while i < need {
+    for i in 0..need {
         let c = pool::place(list, free - 1 - i);
-        if c == 0 {
+        if c == 0 || c >= tables || pool::among_four(way, c) || pool::among_four(taken, c) {
             return false;
-        }
-        if c >= tables {
-            return false;
-        }
-        if pool::among_four(way, c) {
-            return false;
-        }
-        if i > 0 {
-            if pool::among_four(taken, c) {
-                return false;
-            }
         }
         taken[i] = c;
-        i += 1;
     }
     true
 }
@@ -105,6 +96,7 @@ fn map_place(
 
 // Write i of a map: each missing table is taken from the end of the free list, top first, filled with zeros and then linked; the frame's word comes
 // last.
+// A promise keeps this form: each single write is proved to be the one of its number in the list of the writes.
 fn map_step(
     s: Setup,
     list: &[u32],
@@ -129,7 +121,7 @@ fn map_step(
     if i % 2 == 0 {
         return Step::Wipe { table: c };
     }
-    let value = links::table_word(s.granule, s.base, s.tables as u16, s.base2, c);
+    let value = Tree::of(s).table_word(c);
     Step::Store { place, value }
 }
 
@@ -151,29 +143,14 @@ fn map_writes(
         → words.new ++ second.new
         ≡ (perform_all (granule_of s.granule) (map_writes (granule_of s.granule) (area_of s) (path_of (granule_of s.granule) address) list.now height word t s.free need) (memory (words.old ++ second.old) l)).words }
 {
-    let mut k = 0;
-    while k < need {
-        let fill = map_step(s, list, address, height, word, first, need, 2 * k);
-        plans::step_words(s.granule, words, second, fill);
-        let link = map_step(s, list, address, height, word, first, need, 2 * k + 1);
-        plans::step_words(s.granule, words, second, link);
-        k += 1;
-    }
-    let last = map_step(s, list, address, height, word, first, need, 2 * need);
-    plans::step_words(s.granule, words, second, last);
-}
-
-// A refused map.
-pub fn map_refused(no: u64, s: Setup) -> Mapped
-    ensures { (says_map result.answer ≡ refused no) × (result.setup ≡ s) }
-{
-    Mapped {
-        answer: MapAnswer::Refused(no),
-        setup: s,
+    for i in 0..2 * need + 1 {
+        let step = map_step(s, list, address, height, word, first, need, i);
+        plans::step_words(s.granule, words, second, step);
     }
 }
 
-// Map, where the walk ended at an empty entry: the missing tables, and the frame's word.
+// Map, where the walk ended at an empty entry: the missing tables, and the frame's word. That the pool's numbers are good is asked here and in each step past a call's
+// tests: it is a fact about the setup and the lengths of the three lent runs together, so that a type for it would have to hold the runs (`pool`).
 fn map_empty(
     s: Setup,
     words: &mut [u64],
@@ -183,41 +160,40 @@ fn map_empty(
     height: usize,
     word: u64,
     way: [u32; 4],
-    left: usize,
-    place: usize,
-) -> Mapped
-    requires { (good_setup (granule_of s.granule) s (length words.old) (length (words.old ++ second.old)) (length list.now) ≡ true) × ((height ≤ left) × ((left ≤ s.levels - 1) × (place ≡ slot (granule_of s.granule) (at_height way left) (at_height (path_of (granule_of s.granule) address) left)))) }
+    end: Reached,
+) -> Result<Mapped, Refusal>
+    requires { (good_setup (granule_of s.granule) s (length words.old) (length (words.old ++ second.old)) (length list.now) ≡ true) × ((height ≤ end.height) × ((end.height ≤ s.levels - 1) × (end.place ≡ slot (granule_of s.granule) (at_height way end.height) (at_height (path_of (granule_of s.granule) address) end.height)))) }
     ensures { (b k : ℕ) → word ≡ frame_word b height k
-        → map_did result words.new second.new list.now
-        ≡ map_here (granule_of s.granule) (pool s (words.old ++ second.old) (length words.old) list.now) address b height k (stop Empty left way) (left - height) }
+        → map_did s result words.new second.new list.now
+        ≡ map_here (granule_of s.granule) (pool s (words.old ++ second.old) (length words.old) list.now) address b height k (stop Empty end.height way) (end.height - height) }
 {
-    let need = left - height;
+    let need = end.height - height;
     let free = s.free as usize;
     if free < need {
-        return map_refused(7, s);
+        return Err(Refusal::Tables);
     }
     if !may_take(list, (s.tables + s.tables2) as u32, way, free, need) {
-        return map_refused(8, s);
+        return Err(Refusal::Damage);
     }
-    map_writes(s, words, second, list, address, height, word, place, need);
-    let rest = (free - need) as u64;
-    Mapped {
-        answer: MapAnswer::Taken(need as u64),
-        setup: path::with_free(s, rest),
-    }
+    map_writes(
+        s, words, second, list, address, height, word, end.place, need,
+    );
+    Ok(Mapped {
+        tables: need as u64,
+        setup: Setup {
+            free: (free - need) as u64,
+            ..s
+        },
+    })
 }
 
 // The refusal of a map whose walk does not end at an empty entry: 8 for damage, 6 for a table or a frame.
-fn met(s: Setup, words: &[u64], second: &[u64], height: usize, address: u64) -> u64
-    ensures { result ≡ met_by (walk_by (granule_of s.granule) s (words.now ++ second.now) height address).entry }
+fn met(s: Setup, words: &[u64], second: &[u64], height: usize, address: u64) -> Refusal
+    ensures { says_refusal result ≡ refused (met_by (walk_by (granule_of s.granule) s (words.now ++ second.now) height address).entry) }
 {
-    let o = lookup::walk_to(s, words, second, height, address);
-    let e = o.entry;
-    match e {
-        Entry::Damaged => 8,
-        Entry::Empty => 6,
-        Entry::Table(_) => 6,
-        Entry::Frame { .. } => 6,
+    match lookup::walk_to(s, words, second, height, address).entry {
+        Entry::Damaged => Refusal::Damage,
+        Entry::Empty | Entry::Table(_) | Entry::Frame { .. } => Refusal::Overlap,
     }
 }
 
@@ -230,33 +206,28 @@ fn map_walk(
     address: u64,
     height: usize,
     word: u64,
-) -> Mapped
+) -> Result<Mapped, Refusal>
     requires { (good_setup (granule_of s.granule) s (length words.old) (length (words.old ++ second.old)) (length list.now) ≡ true) × (height ≤ (granule_of s.granule).large) }
     ensures { (b k : ℕ) → word ≡ frame_word b height k
-        → map_did result words.new second.new list.now
+        → map_did s result words.new second.new list.now
         ≡ map_from (granule_of s.granule) (pool s (words.old ++ second.old) (length words.old) list.now) address b height k }
 {
     let mut way = [0u32; 4];
-    let end = lookup::reach(s, &words[..], &second[..], height, address, &mut way);
-    let left = (end % 4) as usize;
-    let place = (end / 4) as usize;
-    if place >= words.len() + second.len() {
-        return map_refused(8, s);
-    }
-    let w = pool::word(&words[..], &second[..], place);
+    let Ok(end) = lookup::reach(s, &words[..], &second[..], height, address, &mut way) else {
+        return Err(Refusal::Damage);
+    };
+    let w = pool::word(&words[..], &second[..], end.place);
     if w != 0 {
-        return map_refused(met(s, &words[..], &second[..], height, address), s);
+        return Err(met(s, &words[..], &second[..], height, address));
     }
-    if left != height {
-        return map_empty(
-            s, words, second, list, address, height, word, way, left, place,
-        );
+    if end.height != height {
+        return map_empty(s, words, second, list, address, height, word, way, end);
     }
-    pool::put(words, second, place, word);
-    Mapped {
-        answer: MapAnswer::Taken(0),
+    pool::put(words, second, end.place, word);
+    Ok(Mapped {
+        tables: 0,
         setup: s,
-    }
+    })
 }
 
 // A mapping of `size` addresses from `address` on to a frame. Answers the tables taken, or a refusal: 1 to 8, or 11.
@@ -269,18 +240,14 @@ pub fn map(
     frame: u64,
     size: u64,
     attributes: u64,
-) -> Mapped
-    ensures { map_did result words.new second.new list.now
+) -> Result<Mapped, Refusal>
+    ensures { map_did s result words.new second.new list.now
         ≡ map_w (granule_of s.granule) (pool s (words.old ++ second.old) (length words.old) list.now) address frame size attributes }
 {
     if !setups::good_setup(s, words.len(), second.len(), list.len()) {
-        return map_refused(1, s);
+        return Err(Refusal::Setup);
     }
-    let height = path::height_of(s.granule, size);
-    let no = map_tests(s, address, frame, size, height, attributes);
-    if no != 0 {
-        return map_refused(no, s);
-    }
+    let height = map_tests(s, address, frame, size, attributes)?;
     let word = entry::word_of(frame, height, attributes);
     map_walk(s, words, second, list, address, height, word)
 }

@@ -35,6 +35,7 @@ fn note_one(stands: &mut [u32], t: u32, number: u32) -> bool
     if i >= stands.len() {
         return true;
     }
+    // 0 for none: an Option in each place would take twice the fixed memory.
     let before = stands[i];
     if before == 0 {
         stands[i] = number;
@@ -61,16 +62,12 @@ pub fn note_way(
     if address >= path::PHYSICAL {
         return false;
     }
-    let top = levels as usize;
-    let mut h = left;
-    while h < top {
-        let at = 3 - h;
-        let t = way[at];
+    for h in left..levels as usize {
+        let t = way[3 - h];
         let number = region_number(granule, address, h);
         if !note_one(stands, t, number) {
             return false;
         }
-        h += 1;
     }
     true
 }

@@ -21,3 +21,4 @@ pub mod RunLaws
 pub mod Unique
 pub mod WordLaws
 pub mod RangeCaseLaws
+pub mod TestedLaws

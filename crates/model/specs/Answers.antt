@@ -1,27 +1,15 @@
 -- Pools, answers, and the paper's number and values for each case of an answer.
-use Rattle.std.specs.Prelude.{ℕ, Bool, true, false, List, [], ◌∷◌, ◌++◌, length, take}
+use Rattle.std.specs.Prelude.{ℕ, Bool, true, false, cond, eqb, List, [], ◌∷◌, ◌++◌, length, take, Option, Some, None, Result, Ok, Err, ⊤}
 use Rattle.path.specs.declared.Setup.{Setup}
-use Rattle.model.specs.declared.FormatAnswer.{FormatAnswer}
-use Rattle.model.specs.declared.FormatAnswer.TheVariants as F
-use Rattle.model.specs.declared.Formatted.{Formatted}
-use Rattle.model.specs.declared.AddAnswer.{AddAnswer}
-use Rattle.model.specs.declared.AddAnswer.TheVariants as D
-use Rattle.model.specs.declared.Added.{Added}
+use Rattle.path.specs.Numbers.{no_setup}
+use Rattle.model.specs.declared.Refusal.{Refusal}
+use Rattle.model.specs.declared.Refusal.TheVariants as R
 use Rattle.model.specs.declared.Mapped.{Mapped}
 use Rattle.model.specs.declared.Unmapped.{Unmapped}
-use Rattle.model.specs.declared.MapAnswer.{MapAnswer}
-use Rattle.model.specs.declared.MapAnswer.TheVariants as M
-use Rattle.model.specs.declared.UnmapAnswer.{UnmapAnswer}
-use Rattle.model.specs.declared.UnmapAnswer.TheVariants as U
 use Rattle.model.specs.declared.RangeUnmapped.{RangeUnmapped}
-use Rattle.model.specs.declared.UnmapRangeAnswer.{UnmapRangeAnswer}
-use Rattle.model.specs.declared.UnmapRangeAnswer.TheVariants as R
-use Rattle.model.specs.declared.QueryAnswer.{QueryAnswer}
-use Rattle.model.specs.declared.QueryAnswer.TheVariants as Q
-use Rattle.model.specs.declared.AuditAnswer.{AuditAnswer}
-use Rattle.model.specs.declared.AuditAnswer.TheVariants as A
-use Rattle.model.specs.declared.ListAnswer.{ListAnswer}
-use Rattle.model.specs.declared.ListAnswer.TheVariants as L
+use Rattle.model.specs.declared.Found.{Found}
+use Rattle.model.specs.declared.Counts.{Counts}
+use Rattle.model.specs.declared.Excerpt.{Excerpt}
 
 -- a mapping: its address, the base of its frame, the size of both, its attributes
 pub record Mapping : Type 0 where
@@ -93,42 +81,78 @@ abbrev pub tables_in : Answer → ℕ
 tables_in (answered values) = last_of values
 tables_in (refusal k values) = 0
 
--- the paper's answer for each case of the code's answers
-abbrev pub says_format : FormatAnswer → Answer
-says_format F.Done = formatted
-says_format (F.Refused k) = refused k
+-- the documents' number of a refusal
+abbrev pub number_of : Refusal → ℕ
+number_of R.Setup = 1
+number_of R.Size = 2
+number_of R.Attributes = 3
+number_of R.Address = 4
+number_of R.Alignment = 5
+number_of R.Overlap = 6
+number_of R.Tables = 7
+number_of R.Damage = 8
+number_of (R.Hole b s) = 9
+number_of R.Inside = 10
+number_of R.Pool = 11
 
-abbrev pub says_add : AddAnswer → Answer
-says_add D.Done = added
-says_add (D.Refused k) = refused k
+-- the paper's answer for a refusal: its number, and with 9 the hole
+abbrev pub says_refusal : Refusal → Answer
+says_refusal R.Setup = refused 1
+says_refusal R.Size = refused 2
+says_refusal R.Attributes = refused 3
+says_refusal R.Address = refused 4
+says_refusal R.Alignment = refused 5
+says_refusal R.Overlap = refused 6
+says_refusal R.Tables = refused 7
+says_refusal R.Damage = refused 8
+says_refusal (R.Hole b s) = hole b s
+says_refusal R.Inside = refused 10
+says_refusal R.Pool = refused 11
 
-abbrev pub says_map : MapAnswer → Answer
-says_map (M.Taken t) = took t
-says_map (M.Refused k) = refused k
+-- tests that a call makes answer a refusal's number, or 0 where none refuses: what that says, and what the code says of the same
+abbrev pub tested : ℕ → Answer
+tested k = cond (eqb k 0) (answered []) (refused k)
 
-abbrev pub says_unmap : UnmapAnswer → Answer
-says_unmap (U.Given b s a t) = gave b s a t
-says_unmap (U.Hole b s) = hole b s
-says_unmap (U.Refused k) = refused k
+abbrev pub says_tested : Result ⊤ Refusal → Answer
+says_tested (Ok u) = answered []
+says_tested (Err r) = says_refusal r
 
-abbrev pub says_unmap_range : UnmapRangeAnswer → Answer
-says_unmap_range (R.Removed m t) = cleared m t
-says_unmap_range (R.Refused k) = refused k
+-- the paper's answer for each case of the code's answers; what comes with a setup says it apart
+abbrev pub says_format : Result Setup Refusal → Answer
+says_format (Ok s) = formatted
+says_format (Err r) = says_refusal r
 
-abbrev pub says_query : QueryAnswer → Answer
-says_query (Q.Found v b s a) = found (mapping v b s a)
-says_query (Q.Hole b s) = hole b s
-says_query (Q.Refused k) = refused k
+abbrev pub says_add : Result Setup Refusal → Answer
+says_add = says_format
 
-abbrev pub says_audit : AuditAnswer → Answer
-says_audit (A.Sound t m) = audited t m
-says_audit (A.Refused k) = refused k
+abbrev pub says_map : Result Mapped Refusal → Answer
+says_map (Ok m) = took m.tables
+says_map (Err r) = says_refusal r
+
+abbrev pub says_unmap : Result Unmapped Refusal → Answer
+says_unmap (Ok u) = gave u.frame u.size u.attributes u.tables
+says_unmap (Err r) = says_refusal r
+
+abbrev pub says_unmap_range : Result RangeUnmapped Refusal → Answer
+says_unmap_range (Ok u) = cleared u.mappings u.tables
+says_unmap_range (Err r) = says_refusal r
+
+abbrev pub says_query : Result Found Refusal → Answer
+says_query (Ok f) = found (mapping f.base f.frame f.size f.attributes)
+says_query (Err r) = says_refusal r
+
+abbrev pub says_audit : Result Counts Refusal → Answer
+says_audit (Ok c) = audited c.tables c.mappings
+says_audit (Err r) = says_refusal r
 
 -- list: what was written stands in the first places of the two runs at its end
-abbrev pub says_list : ListAnswer → List ℕ → List ℕ → Answer
-says_list (L.All n) places entries = listed n 0 0 (take n places) (take n entries)
-says_list (L.Some n b) places entries = listed n 1 b (take n places) (take n entries)
-says_list (L.Refused k) places entries = refused k
+abbrev pub says_next : ℕ → Option ℕ → List ℕ → List ℕ → Answer
+says_next n None places entries = listed n 0 0 (take n places) (take n entries)
+says_next n (Some b) places entries = listed n 1 b (take n places) (take n entries)
+
+abbrev pub says_list : Result Excerpt Refusal → List ℕ → List ℕ → Answer
+says_list (Ok e) places entries = says_next e.written e.next places entries
+says_list (Err r) places entries = says_refusal r
 
 -- Setup numbers, table words and free list. The words are the two lent runs put together, the first and then the second, so that table t's stand from
 -- place entries × t on whichever region it is in; `cut` is how many of them are the first run's.
@@ -149,25 +173,29 @@ pub record Done : Type 0 where
 abbrev pub done : Answer → Pool → Done
 done a p = record { answer = a; after = p }
 
--- what format, the adding call, map and unmap, of a mapping or of a range, did, by the record that the code hands back and the lent memory at its end: the
--- two runs, and the list
+-- what format, the adding call, map and unmap, of a mapping or of a range, did, by what the code hands back and the lent memory at its end: the two runs,
+-- and the list. A refused call leaves the setup that it was given, which for format is no pool's.
 abbrev pub left : Answer → Setup → List ℕ → List ℕ → List ℕ → Done
 left a s first second list = done a (pool s (first ++ second) (length first) list)
 
-abbrev pub format_did : Formatted → List ℕ → List ℕ → List ℕ → Done
-format_did r first second list = left (says_format r.answer) r.setup first second list
+abbrev pub setup_after : {A : Type 0} → (A → Setup) → Setup → Result A Refusal → Setup
+setup_after setup_in s (Ok x) = setup_in x
+setup_after setup_in s (Err r) = s
 
-abbrev pub add_did : Added → List ℕ → List ℕ → List ℕ → Done
-add_did r first second list = left (says_add r.answer) r.setup first second list
+abbrev pub format_did : Result Setup Refusal → List ℕ → List ℕ → List ℕ → Done
+format_did r first second list = left (says_format r) (setup_after (λ t. t) no_setup r) first second list
 
-abbrev pub map_did : Mapped → List ℕ → List ℕ → List ℕ → Done
-map_did r first second list = left (says_map r.answer) r.setup first second list
+abbrev pub add_did : Setup → Result Setup Refusal → List ℕ → List ℕ → List ℕ → Done
+add_did s r first second list = left (says_add r) (setup_after (λ t. t) s r) first second list
 
-abbrev pub unmap_did : Unmapped → List ℕ → List ℕ → List ℕ → Done
-unmap_did r first second list = left (says_unmap r.answer) r.setup first second list
+abbrev pub map_did : Setup → Result Mapped Refusal → List ℕ → List ℕ → List ℕ → Done
+map_did s r first second list = left (says_map r) (setup_after (λ m. m.setup) s r) first second list
 
-abbrev pub unmap_range_did : RangeUnmapped → List ℕ → List ℕ → List ℕ → Done
-unmap_range_did r first second list = left (says_unmap_range r.answer) r.setup first second list
+abbrev pub unmap_did : Setup → Result Unmapped Refusal → List ℕ → List ℕ → List ℕ → Done
+unmap_did s r first second list = left (says_unmap r) (setup_after (λ u. u.setup) s r) first second list
+
+abbrev pub unmap_range_did : Setup → Result RangeUnmapped Refusal → List ℕ → List ℕ → List ℕ → Done
+unmap_range_did s r first second list = left (says_unmap_range r) (setup_after (λ u. u.setup) s r) first second list
 
 -- a refusal leaves everything as it was
 abbrev pub refuse : ℕ → Pool → Done
@@ -180,5 +208,5 @@ pub record Listed : Type 0 where
   pub entries : List ℕ
 
 -- by the code's answer and the two runs at its end
-abbrev pub list_did : ListAnswer → List ℕ → List ℕ → Listed
+abbrev pub list_did : Result Excerpt Refusal → List ℕ → List ℕ → Listed
 list_did r places entries = record { answer = says_list r places entries; places = places; entries = entries }

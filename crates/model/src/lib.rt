@@ -1,6 +1,9 @@
 // What the calls answer. What they do is in specs/.
 #![tactic(auto)]
 
+ghost use Rattle.std.specs.Prelude.{◌≡◌};
+ghost use Rattle.model.specs.Answers.{number_of};
+
 use entry::Entry;
 use path::Setup;
 
@@ -13,107 +16,87 @@ pub struct Walked {
     pub tables: [u32; 4],
 }
 
-// Format's answer.
-#[derive(Clone, Copy)]
-pub enum FormatAnswer {
-    Done,
-    Refused(u64),
+// Why a call refuses. Where nothing is mapped the refusal comes with the hole, the empty region around the address.
+#[derive(Clone, Copy, PartialEq, Eq, Debug)]
+pub enum Refusal {
+    Setup,
+    Size,
+    Attributes,
+    Address,
+    Alignment,
+    Overlap,
+    Tables,
+    Damage,
+    Hole { base: u64, size: u64 },
+    Inside,
+    Pool,
 }
 
-#[derive(Clone, Copy)]
-pub struct Formatted {
-    pub answer: FormatAnswer,
-    pub setup: Setup,
+impl Refusal {
+    // The number that the documents give a refusal.
+    pub fn number(self) -> u64
+        ensures { result ≡ number_of self }
+    {
+        match self {
+            Refusal::Setup => 1,
+            Refusal::Size => 2,
+            Refusal::Attributes => 3,
+            Refusal::Address => 4,
+            Refusal::Alignment => 5,
+            Refusal::Overlap => 6,
+            Refusal::Tables => 7,
+            Refusal::Damage => 8,
+            Refusal::Hole { .. } => 9,
+            Refusal::Inside => 10,
+            Refusal::Pool => 11,
+        }
+    }
 }
 
-// The adding call's answer.
-#[derive(Clone, Copy)]
-pub enum AddAnswer {
-    Done,
-    Refused(u64),
-}
-
-#[derive(Clone, Copy)]
-pub struct Added {
-    pub answer: AddAnswer,
-    pub setup: Setup,
-}
-
-// Map's answer, and that of its form for a range: the tables taken.
-#[derive(Clone, Copy)]
-pub enum MapAnswer {
-    Taken(u64),
-    Refused(u64),
-}
-
-#[derive(Clone, Copy)]
+// What map did, or its form for a range: the tables taken, and the setup after it.
+#[derive(Clone, Copy, PartialEq, Eq, Debug)]
 pub struct Mapped {
-    pub answer: MapAnswer,
+    pub tables: u64,
     pub setup: Setup,
 }
 
-// Unmap's answer: the frame removed, and the tables given back. Refusal 9 comes with the hole, the empty region around the address.
-#[derive(Clone, Copy)]
-pub enum UnmapAnswer {
-    Given {
-        frame: u64,
-        size: u64,
-        attributes: u64,
-        tables: u64,
-    },
-    Hole {
-        base: u64,
-        size: u64,
-    },
-    Refused(u64),
-}
-
-#[derive(Clone, Copy)]
+// What unmap did: the frame removed, the tables given back, and the setup after it.
+#[derive(Clone, Copy, PartialEq, Eq, Debug)]
 pub struct Unmapped {
-    pub answer: UnmapAnswer,
+    pub frame: u64,
+    pub size: u64,
+    pub attributes: u64,
+    pub tables: u64,
     pub setup: Setup,
 }
 
-// The answer of unmap's form for a range: the mappings removed, and the tables given back.
-#[derive(Clone, Copy)]
-pub enum UnmapRangeAnswer {
-    Removed { mappings: u64, tables: u64 },
-    Refused(u64),
-}
-
-#[derive(Clone, Copy)]
+// What unmap's form for a range did: the mappings removed, the tables given back, and the setup after it.
+#[derive(Clone, Copy, PartialEq, Eq, Debug)]
 pub struct RangeUnmapped {
-    pub answer: UnmapRangeAnswer,
+    pub mappings: u64,
+    pub tables: u64,
     pub setup: Setup,
 }
 
-// Query's answer: the mapping that holds the address. Refusal 9 comes with the hole.
-#[derive(Clone, Copy)]
-pub enum QueryAnswer {
-    Found {
-        base: u64,
-        frame: u64,
-        size: u64,
-        attributes: u64,
-    },
-    Hole {
-        base: u64,
-        size: u64,
-    },
-    Refused(u64),
+// What query found: the mapping that holds the address.
+#[derive(Clone, Copy, PartialEq, Eq, Debug)]
+pub struct Found {
+    pub base: u64,
+    pub frame: u64,
+    pub size: u64,
+    pub attributes: u64,
 }
 
-// The audit's answer: the counts of reached tables and of mappings.
-#[derive(Clone, Copy)]
-pub enum AuditAnswer {
-    Sound { tables: u64, mappings: u64 },
-    Refused(u64),
+// What the audit counted: reached tables, and mappings.
+#[derive(Clone, Copy, PartialEq, Eq, Debug)]
+pub struct Counts {
+    pub tables: u64,
+    pub mappings: u64,
 }
 
-// List's answer: how many mappings were written, where none was left out; or how many, and the base of the first that was.
-#[derive(Clone, Copy)]
-pub enum ListAnswer {
-    All(u64),
-    Some { written: u64, next: u64 },
-    Refused(u64),
+// What list wrote: how many mappings, and the base of the first that it left out, where it left one out.
+#[derive(Clone, Copy, PartialEq, Eq, Debug)]
+pub struct Excerpt {
+    pub written: u64,
+    pub next: Option<u64>,
 }

@@ -1,17 +1,18 @@
 -- What is told of an answer is told of an equal one.
-use Prim.Native.Nat.{ℕ}
+use Prim.Native.Nat.{ℕ, ◌+◌, ◌<◌, ◌^◌}
 use mathlib.Core.List.{List}
+use native.Mathlib.Omega.{arith}
 use mathlib.Core.Path.{◌≡◌, sym, ap, ◌∙◌, subst}
 use Rattle.path.specs.declared.Setup.{Setup}
 use Rattle.model.specs.Answers.{Answer, Done, left, Listed}
+use Rattle.std.specs.Prelude.{Bool, true, false, cond, ltb, Ok}
+use Rattle.path.specs.Geometry.{Granule, height_of}
+use Rattle.entry.specs.Words.{frame_at}
+use Rattle.entry.specs.Host.{sized_by, host_meaning, meaning_of}
+use Rattle.host.specs.declared.Meaning.{Meaning}
+use Rattle.host.specs.Says.{says_meaning}
+use Rattle.host.specs.HostLaws.{meaning_lt}
 use Rattle.oakabut.specs.Surface.{number_of, list_places, Told, Left, Wrote}
-
--- an answer of the code's that is known by its case
-pub tells : {X : Type 0} (says : X → Answer) (places_of : Answer → List ℕ) {a b : X} → a ≡ b → Told (says a) places_of (number_of (says b)) (places_of (says b))
-tells {X} says places_of e = record {
-  number_is = sym (ap (λ (x : X). number_of (says x)) e);
-  places_are = sym (ap (λ (x : X). places_of (says x)) e);
-}
 
 -- the paper's answer, which the code's is
 pub hears : {places_of : Answer → List ℕ} {a b : Answer} {n : ℕ} {p : List ℕ} → a ≡ b → Told a places_of n p → Told b places_of n p
@@ -40,3 +41,15 @@ writes q t = record {
   places_are = ap (λ (l : Listed). l.places) q;
   entries_are = ap (λ (l : Listed). l.entries) q;
 }
+
+-- a word's meaning fits a word
+meaning_below : (G : Granule) (w size : ℕ) → host_meaning G w size < 2 ^ 64
+unfolding host_meaning
+meaning_below G w size = go (ltb G.large (height_of G size))
+  where
+    go : (b : Bool) → cond b 2 (meaning_of (frame_at G (height_of G size) w)) < 2 ^ 64
+    go true = omega arith
+    go false = meaning_lt G (height_of G size) w
+
+pub number_lt : (m : Meaning) (w size : ℕ) → says_meaning (Ok m) ≡ host_meaning (sized_by size) w size → m.base + 16 + m.attributes < 2 ^ 64
+number_lt m w size e = subst (λ (n : ℕ). n < 2 ^ 64) (sym e) (meaning_below (sized_by size) w size)

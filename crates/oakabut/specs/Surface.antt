@@ -1,7 +1,7 @@
 -- The calls' answers in plain numbers, as a caller in C finds them: the returned number, and the places behind the pointer `answer`.
 use Rattle.std.specs.Prelude.{ℕ, List, [], ◌∷◌, ◌++◌, length, get_or, take, ◌≡◌}
 use Rattle.path.specs.Geometry.{Granule, granule_of}
-use Rattle.path.specs.Numbers.{setup}
+use Rattle.path.specs.Numbers.{setup_at}
 use Rattle.path.specs.declared.Setup.{Setup}
 use Rattle.model.specs.Answers.{Answer, answered, refusal, Pool, pool, Done, Listed}
 
@@ -23,10 +23,6 @@ carried_of (x ∷ l) = x ∷ l
 abbrev pub holed_of : (zeros : List ℕ) → Answer → List ℕ
 holed_of zeros (answered values) = values ++ (0 ∷ 0 ∷ [])
 holed_of zeros (refusal k values) = zeros ++ carried_of values
-
--- the setup numbers in seven places
-abbrev pub setup_at : List ℕ → Setup
-setup_at l = setup (get_or l 0 0) (get_or l 1 0) (get_or l 2 0) (get_or l 3 0) (get_or l 4 0) (get_or l 5 0) (get_or l 6 0)
 
 -- the granule of such a setup
 abbrev pub granule_at : List ℕ → Granule

@@ -1,22 +1,20 @@
 // The C surface: every call on plain numbers and pointers. include/oakabut.h declares it.
 #![tactic(auto)]
 
-ghost use Rattle.std.specs.Prelude.{◌≡◌, List, [], ◌++◌, ℕ, length, get_or};
+ghost use Rattle.std.specs.Prelude.{◌≡◌, List, ◌++◌, ℕ, ◌+◌, length, get_or};
 ghost use Rattle.path.specs.Geometry.{granule_of};
 ghost use Rattle.path.specs.Areas.{area_at};
 ghost use Rattle.entry.specs.Host.{sized_by, host_word, host_meaning};
-ghost use Rattle.model.specs.Answers.{pool, says_format, says_add, says_map, says_unmap, says_unmap_range, says_query, says_audit, says_list};
+ghost use Rattle.model.specs.Answers.{pool, setup_after, says_format, says_map, says_unmap, says_unmap_range, says_query, says_audit, says_list};
 ghost use Rattle.model.specs.Calls.{format_n, map_w, unmap_w, query_w};
 ghost use Rattle.model.specs.Ranges.{map_range_w, unmap_range_w};
 ghost use Rattle.model.specs.Adds.{add_w};
 ghost use Rattle.model.specs.Audit.{audit_w};
 ghost use Rattle.model.specs.Listing.{list_w, leaves};
-ghost use Rattle.oakabut.specs.Surface.{setup_at, granule_at, pool_at, after, setup_places, map_places, unmap_places, remove_places, query_places, audit_places, list_places, Told, Left, Wrote};
+ghost use Rattle.path.specs.Numbers.{setup_at};
+ghost use Rattle.oakabut.specs.Surface.{granule_at, pool_at, after, setup_places, map_places, unmap_places, remove_places, query_places, audit_places, list_places, Told, Left, Wrote};
 
-use model::{
-    AddAnswer, AuditAnswer, FormatAnswer, ListAnswer, MapAnswer, QueryAnswer, UnmapAnswer,
-    UnmapRangeAnswer,
-};
+use model::{Counts, Excerpt, Found, Mapped, RangeUnmapped, Refusal, Unmapped};
 use path::Setup;
 
 // The entry word of a frame, or a refusal: 2, 3, 4 or 5.
@@ -24,7 +22,7 @@ use path::Setup;
 pub extern "C" fn oak_frame_word(base: u64, size: u64, attributes: u64) -> u64
     ensures { result ≡ host_word (sized_by size) base size attributes }
 {
-    host::frame_word(base, size, attributes)
+    host::frame_word(base, size, attributes).unwrap_or_else(|r| r.number())
 }
 
 // The meaning of a word at a size: base + 16 + attributes, or a refusal: 2 or 8.
@@ -32,22 +30,17 @@ pub extern "C" fn oak_frame_word(base: u64, size: u64, attributes: u64) -> u64
 pub extern "C" fn oak_word_meaning(word: u64, size: u64) -> u64
     ensures { result ≡ host_meaning (sized_by size) word size }
 {
-    host::word_meaning(word, size)
+    match host::word_meaning(word, size) {
+        Ok(m) => m.base + 16 + m.attributes,
+        Err(r) => r.number(),
+    }
 }
 
 // The setup numbers in seven places.
 fn setup_at(s: &[u64; 7]) -> Setup
     ensures { result ≡ setup_at s.now }
 {
-    Setup {
-        levels: s[0],
-        base: s[1],
-        tables: s[2],
-        free: s[3],
-        base2: s[4],
-        tables2: s[5],
-        granule: s[6],
-    }
+    Setup::from(*s)
 }
 
 // The same where the granule is that of 4 KiB. A call that has found that goes on with the number written out, so that the compiler makes the call twice, and
@@ -55,161 +48,138 @@ fn setup_at(s: &[u64; 7]) -> Setup
 fn setup_of_four(s: &[u64; 7]) -> Setup
     ensures { get_or s.now 6 0 ≡ 4096 → result ≡ setup_at s.now }
 {
-    let p = setup_at(s);
     Setup {
-        levels: p.levels,
-        base: p.base,
-        tables: p.tables,
-        free: p.free,
-        base2: p.base2,
-        tables2: p.tables2,
         granule: path::KIB4,
+        ..setup_at(s)
     }
 }
 
-// And back.
-fn setup_places(s: Setup) -> [u64; 7]
-    ensures { result ≡ after s [] }
+// A setup, and what is told beside it, fill the places of `answer`.
+fn tell(s: Setup, told: &[u64], answer: &mut [u64])
+    requires { length answer.old ≡ 7 + length told.now }
+    ensures { answer.new ≡ after s told.now }
 {
-    [
-        s.levels, s.base, s.tables, s.free, s.base2, s.tables2, s.granule,
-    ]
+    answer[..7].copy_from_slice(&<[u64; 7]>::from(s));
+    answer[7..].copy_from_slice(told);
 }
 
-// Each answer of the page table becomes the returned number, which is 0 or the refusal, and the places of `answer`.
-fn formatted(a: FormatAnswer, s: Setup, answer: &mut [u64; 7]) -> u64
-    ensures { Told (says_format a) (setup_places s) result answer.new }
+// Each answer of the page table becomes the returned number, which is 0 or the refusal's, and the places of `answer`. A refused call tells the setup from before it.
+fn formatted(done: Result<Setup, Refusal>, before: Setup, answer: &mut [u64; 7]) -> u64
+    ensures { Told (says_format done) (setup_places (setup_after (λ s. s) before done)) result answer.new }
 {
-    *answer = setup_places(s);
-    match a {
-        FormatAnswer::Done => 0,
-        FormatAnswer::Refused(k) => k,
-    }
-}
-
-fn added(a: AddAnswer, s: Setup, answer: &mut [u64; 7]) -> u64
-    ensures { Told (says_add a) (setup_places s) result answer.new }
-{
-    *answer = setup_places(s);
-    match a {
-        AddAnswer::Done => 0,
-        AddAnswer::Refused(k) => k,
-    }
-}
-
-fn mapped(a: MapAnswer, s: Setup, answer: &mut [u64; 8]) -> u64
-    ensures { Told (says_map a) (map_places s) result answer.new }
-{
-    *answer = [
-        s.levels, s.base, s.tables, s.free, s.base2, s.tables2, s.granule, 0,
-    ];
-    match a {
-        MapAnswer::Taken(tables) => {
-            answer[7] = tables;
+    match done {
+        Ok(s) => {
+            *answer = <[u64; 7]>::from(s);
             0
         }
-        MapAnswer::Refused(k) => k,
+        Err(r) => {
+            *answer = <[u64; 7]>::from(before);
+            r.number()
+        }
     }
 }
 
-fn unmapped(a: UnmapAnswer, s: Setup, answer: &mut [u64; 13]) -> u64
-    ensures { Told (says_unmap a) (unmap_places s) result answer.new }
+fn mapped(done: Result<Mapped, Refusal>, before: Setup, answer: &mut [u64; 8]) -> u64
+    ensures { Told (says_map done) (map_places (setup_after (λ m. m.setup) before done)) result answer.new }
 {
-    *answer = [
-        s.levels, s.base, s.tables, s.free, s.base2, s.tables2, s.granule, 0, 0, 0, 0, 0, 0,
-    ];
-    match a {
-        UnmapAnswer::Given {
-            frame,
-            size,
-            attributes,
-            tables,
-        } => {
-            answer[7] = frame;
-            answer[8] = size;
-            answer[9] = attributes;
-            answer[10] = tables;
+    match done {
+        Ok(m) => {
+            tell(m.setup, &[m.tables], answer);
             0
         }
-        UnmapAnswer::Hole { base, size } => {
-            answer[11] = base;
-            answer[12] = size;
+        Err(r) => {
+            tell(before, &[0], answer);
+            r.number()
+        }
+    }
+}
+
+fn unmapped(done: Result<Unmapped, Refusal>, before: Setup, answer: &mut [u64; 13]) -> u64
+    ensures { Told (says_unmap done) (unmap_places (setup_after (λ u. u.setup) before done)) result answer.new }
+{
+    match done {
+        Ok(u) => {
+            tell(
+                u.setup,
+                &[u.frame, u.size, u.attributes, u.tables, 0, 0],
+                answer,
+            );
+            0
+        }
+        Err(Refusal::Hole { base, size }) => {
+            tell(before, &[0, 0, 0, 0, base, size], answer);
             9
         }
-        UnmapAnswer::Refused(k) => k,
+        Err(r) => {
+            tell(before, &[0, 0, 0, 0, 0, 0], answer);
+            r.number()
+        }
     }
 }
 
-fn removed(a: UnmapRangeAnswer, s: Setup, answer: &mut [u64; 9]) -> u64
-    ensures { Told (says_unmap_range a) (remove_places s) result answer.new }
+fn removed(done: Result<RangeUnmapped, Refusal>, before: Setup, answer: &mut [u64; 9]) -> u64
+    ensures { Told (says_unmap_range done) (remove_places (setup_after (λ u. u.setup) before done)) result answer.new }
 {
-    *answer = [
-        s.levels, s.base, s.tables, s.free, s.base2, s.tables2, s.granule, 0, 0,
-    ];
-    match a {
-        UnmapRangeAnswer::Removed { mappings, tables } => {
-            answer[7] = mappings;
-            answer[8] = tables;
+    match done {
+        Ok(u) => {
+            tell(u.setup, &[u.mappings, u.tables], answer);
             0
         }
-        UnmapRangeAnswer::Refused(k) => k,
+        Err(r) => {
+            tell(before, &[0, 0], answer);
+            r.number()
+        }
     }
 }
 
-fn found(a: QueryAnswer, answer: &mut [u64; 6]) -> u64
-    ensures { Told (says_query a) query_places result answer.new }
+fn found(done: Result<Found, Refusal>, answer: &mut [u64; 6]) -> u64
+    ensures { Told (says_query done) query_places result answer.new }
 {
-    match a {
-        QueryAnswer::Found {
-            base,
-            frame,
-            size,
-            attributes,
-        } => {
-            *answer = [base, frame, size, attributes, 0, 0];
+    match done {
+        Ok(f) => {
+            *answer = [f.base, f.frame, f.size, f.attributes, 0, 0];
             0
         }
-        QueryAnswer::Hole { base, size } => {
+        Err(Refusal::Hole { base, size }) => {
             *answer = [0, 0, 0, 0, base, size];
             9
         }
-        QueryAnswer::Refused(k) => {
+        Err(r) => {
             *answer = [0, 0, 0, 0, 0, 0];
-            k
+            r.number()
         }
     }
 }
 
-fn audited(a: AuditAnswer, answer: &mut [u64; 2]) -> u64
-    ensures { Told (says_audit a) audit_places result answer.new }
+fn audited(done: Result<Counts, Refusal>, answer: &mut [u64; 2]) -> u64
+    ensures { Told (says_audit done) audit_places result answer.new }
 {
-    match a {
-        AuditAnswer::Sound { tables, mappings } => {
-            *answer = [tables, mappings];
+    match done {
+        Ok(c) => {
+            *answer = [c.tables, c.mappings];
             0
         }
-        AuditAnswer::Refused(k) => {
+        Err(r) => {
             *answer = [0, 0];
-            k
+            r.number()
         }
     }
 }
 
-fn listed(a: ListAnswer, answer: &mut [u64; 3]) -> u64
-    ensures { (places : List ℕ) (entries : List ℕ) → Told (says_list a places entries) list_places result answer.new }
+fn listed(done: Result<Excerpt, Refusal>, answer: &mut [u64; 3]) -> u64
+    ensures { (places : List ℕ) (entries : List ℕ) → Told (says_list done places entries) list_places result answer.new }
 {
-    match a {
-        ListAnswer::All(written) => {
-            *answer = [written, 0, 0];
+    match done {
+        Ok(e) => {
+            *answer = match e.next {
+                None => [e.written, 0, 0],
+                Some(next) => [e.written, 1, next],
+            };
             0
         }
-        ListAnswer::Some { written, next } => {
-            *answer = [written, 1, next];
-            0
-        }
-        ListAnswer::Refused(k) => {
+        Err(r) => {
             *answer = [0, 0, 0];
-            k
+            r.number()
         }
     }
 }
@@ -231,11 +201,10 @@ pub extern "C" fn oak_format(
     ensures { Left (format_n granule levels (area_at base tables base2 tables2) (words.old ++ second.old) (length words.old) list.old)
         setup_places result answer.new words.new second.new list.new }
 {
-    let d = pagetable::format(
+    let made = pagetable::format(
         levels, base, tables, base2, tables2, granule, words, second, list,
     );
-    let a = d.answer;
-    formatted(a, d.setup, answer)
+    formatted(made, path::no_setup(), answer)
 }
 
 // Gives the pool a second region of tables, and answers its setup.
@@ -252,9 +221,9 @@ pub extern "C" fn oak_add(
     ensures { Left (add_w (granule_at s.now) (pool_at s.now (words.now ++ second.old) (length words.now) list.old) base2 tables2)
         setup_places result answer.new words.now second.new list.new }
 {
-    let d = pagetable::add(setup_at(s), words, second, list, base2, tables2);
-    let a = d.answer;
-    added(a, d.setup, answer)
+    let p = setup_at(s);
+    let done = pagetable::add(p, words, second, list, base2, tables2);
+    formatted(done, p, answer)
 }
 
 // Map by setup numbers.
@@ -272,9 +241,8 @@ fn map_by(
     ensures { Left (map_w (granule_of s.granule) (pool s (words.old ++ second.old) (length words.old) list.now) address frame size attributes)
         map_places result answer.new words.new second.new list.now }
 {
-    let d = pagetable::map(s, words, second, list, address, frame, size, attributes);
-    let a = d.answer;
-    mapped(a, d.setup, answer)
+    let done = pagetable::map(s, words, second, list, address, frame, size, attributes);
+    mapped(done, s, answer)
 }
 
 // Maps a frame at an address, and answers the setup and how many tables it took.
@@ -331,9 +299,8 @@ fn unmap_by(
     ensures { Left (unmap_w (granule_of s.granule) (pool s (words.old ++ second.old) (length words.old) list.old) address)
         unmap_places result answer.new words.new second.new list.new }
 {
-    let d = pagetable::unmap(s, words, second, list, address);
-    let a = d.answer;
-    unmapped(a, d.setup, answer)
+    let done = pagetable::unmap(s, words, second, list, address);
+    unmapped(done, s, answer)
 }
 
 // Removes the mapping that starts at an address, and answers the setup, its frame and how many tables came back; with 9 the hole.
@@ -372,9 +339,8 @@ pub extern "C" fn oak_map_range(
         map_places result answer.new words.new second.new list.now }
 {
     let p = setup_at(s);
-    let d = pagetable::map_range(p, words, second, list, address, frame, len, attributes);
-    let a = d.answer;
-    mapped(a, d.setup, answer)
+    let done = pagetable::map_range(p, words, second, list, address, frame, len, attributes);
+    mapped(done, p, answer)
 }
 
 // Removes every mapping that lies wholly in a range, and answers the setup, how many went and how many tables came back.
@@ -391,9 +357,9 @@ pub extern "C" fn oak_unmap_range(
     ensures { Left (unmap_range_w (granule_at s.now) (pool_at s.now (words.old ++ second.old) (length words.old) list.old) address len)
         remove_places result answer.new words.new second.new list.new }
 {
-    let d = pagetable::unmap_range(setup_at(s), words, second, list, address, len);
-    let a = d.answer;
-    removed(a, d.setup, answer)
+    let p = setup_at(s);
+    let done = pagetable::unmap_range(p, words, second, list, address, len);
+    removed(done, p, answer)
 }
 
 // Query by setup numbers.
@@ -408,8 +374,7 @@ fn query_by(
     ensures { Told (query_w (granule_of s.granule) (pool s (words.now ++ second.now) (length words.now) list.now) address)
         query_places result answer.new }
 {
-    let a = pagetable::query(s, words, second, list, address);
-    found(a, answer)
+    found(pagetable::query(s, words, second, list, address), answer)
 }
 
 // Answers the mapping that holds an address; with 9 the hole.
@@ -443,8 +408,8 @@ pub extern "C" fn oak_audit<'a>(
     ensures { Told (audit_w (granule_at s.now) (pool_at s.now (words.now ++ second.now) (length words.now) list.now))
         audit_places result answer.new }
 {
-    let a = pagetable::audit(setup_at(s), words, second, list);
-    audited(a, answer)
+    let done = pagetable::audit(setup_at(s), words, second, list);
+    audited(done, answer)
 }
 
 // Writes the mappings from a start on into two runs, as many as fit, and answers how many, and the base of the first left out.
@@ -464,6 +429,6 @@ pub extern "C" fn oak_list<'a>(
         result answer.new places.new entries.new }
 {
     let p = setup_at(s);
-    let a = pagetable::list(p, words, second, list, start, places, entries);
-    listed(a, answer)
+    let done = pagetable::list(p, words, second, list, start, places, entries);
+    listed(done, answer)
 }

@@ -15,12 +15,10 @@ ghost use Rattle.demand.specs.Demand3.{map_c, unmap_c, map_range_c, unmap_range_
 ghost use Rattle.demand.specs.Demand3 as question;
 ghost use Rattle.demand.specs.Clauses.{ByLedger, FormatByLedger, AddByLedger, AskedByLedger};
 
-use model::{
-    Added, AuditAnswer, Formatted, ListAnswer, Mapped, QueryAnswer, RangeUnmapped, Unmapped,
-};
+use model::{Counts, Excerpt, Found, Mapped, RangeUnmapped, Refusal, Unmapped};
 use path::Setup;
 
-// Empties the pool: all words 0, every table but the root free. Refused, it answers 1 and zero setup numbers, and changes nothing.
+// Empties the pool: all words 0, every table but the root free. Refused, it changes nothing.
 pub fn format(
     levels: u64,
     base: u64,
@@ -31,7 +29,7 @@ pub fn format(
     words: &mut [u64],
     second: &mut [u64],
     list: &mut [u32],
-) -> Formatted
+) -> Result<Setup, Refusal>
     ensures whole { format_did result words.new second.new list.new
         ≡ format_n granule levels (area_at base tables base2 tables2) (words.old ++ second.old) (length words.old) list.old }
     ensures ledger { FormatByLedger granule (words.old ++ second.old) (length words.old) list.old levels (area_at base tables base2 tables2)
@@ -43,7 +41,7 @@ pub fn format(
 }
 
 // Gives a pool of one region a second one, whose tables go to the end of the free numbers; the list that is lent has places for all tables. Refused, it changes
-// nothing and hands the setup back.
+// nothing.
 pub fn add(
     s: Setup,
     words: &[u64],
@@ -51,16 +49,16 @@ pub fn add(
     list: &mut [u32],
     base2: u64,
     tables2: u64,
-) -> Added
-    ensures whole { add_did result words.now second.new list.new
+) -> Result<Setup, Refusal>
+    ensures whole { add_did s result words.now second.new list.new
         ≡ add_w (granule_of s.granule) (pool s (words.now ++ second.old) (length words.now) list.old) base2 tables2 }
     ensures ledger { AddByLedger (granule_of s.granule) (pool s (words.now ++ second.old) (length words.now) list.old) base2 tables2
-        (add_did result words.now second.new list.new) }
+        (add_did s result words.now second.new list.new) }
 {
     adds::add(s, words, second, list, base2, tables2)
 }
 
-// Maps a frame at an address, and answers how many tables it took. Refused, it changes nothing and hands the setup back.
+// Maps a frame at an address, and answers how many tables it took. Refused, it changes nothing.
 pub fn map(
     s: Setup,
     words: &mut [u64],
@@ -70,34 +68,34 @@ pub fn map(
     frame: u64,
     size: u64,
     attributes: u64,
-) -> Mapped
-    ensures whole { map_did result words.new second.new list.now
+) -> Result<Mapped, Refusal>
+    ensures whole { map_did s result words.new second.new list.now
         ≡ map_w (granule_of s.granule) (pool s (words.old ++ second.old) (length words.old) list.now) address frame size attributes }
     ensures ledger { ByLedger (granule_of s.granule) (pool s (words.old ++ second.old) (length words.old) list.now) (map_c address frame size attributes)
-        (map_did result words.new second.new list.now) }
+        (map_did s result words.new second.new list.now) }
 {
     maps::map(s, words, second, list, address, frame, size, attributes)
 }
 
-// Removes the mapping that starts at an address, and answers its frame and how many tables came back. Refused, it changes nothing and hands the
-// setup back; 9 comes with the hole, the largest empty region around the address.
+// Removes the mapping that starts at an address, and answers its frame and how many tables came back. Refused, it changes nothing;
+// 9 comes with the hole, the largest empty region around the address.
 pub fn unmap(
     s: Setup,
     words: &mut [u64],
     second: &mut [u64],
     list: &mut [u32],
     address: u64,
-) -> Unmapped
-    ensures whole { unmap_did result words.new second.new list.new
+) -> Result<Unmapped, Refusal>
+    ensures whole { unmap_did s result words.new second.new list.new
         ≡ unmap_w (granule_of s.granule) (pool s (words.old ++ second.old) (length words.old) list.old) address }
     ensures ledger { ByLedger (granule_of s.granule) (pool s (words.old ++ second.old) (length words.old) list.old) (unmap_c address)
-        (unmap_did result words.new second.new list.new) }
+        (unmap_did s result words.new second.new list.new) }
 {
     unmaps::unmap(s, words, second, list, address)
 }
 
 // Maps a range of `len` bytes to the frames from `frame` on, each piece as large as it can be, and answers how many tables it took: the pieces one by one, or none of
-// them. Refused, it changes nothing and hands the setup back.
+// them. Refused, it changes nothing.
 pub fn map_range(
     s: Setup,
     words: &mut [u64],
@@ -107,17 +105,16 @@ pub fn map_range(
     frame: u64,
     len: u64,
     attributes: u64,
-) -> Mapped
-    ensures whole { map_did result words.new second.new list.now
+) -> Result<Mapped, Refusal>
+    ensures whole { map_did s result words.new second.new list.now
         ≡ map_range_w (granule_of s.granule) (pool s (words.old ++ second.old) (length words.old) list.now) address frame len attributes }
     ensures ledger { ByLedger (granule_of s.granule) (pool s (words.old ++ second.old) (length words.old) list.now) (map_range_c address frame len attributes)
-        (map_did result words.new second.new list.now) }
+        (map_did s result words.new second.new list.now) }
 {
     rangemaps::map_range(s, words, second, list, address, frame, len, attributes)
 }
 
-// Removes every mapping that lies wholly in a range of `len` bytes, and answers how many went and how many tables came back. Refused, it changes nothing and hands the
-// setup back.
+// Removes every mapping that lies wholly in a range of `len` bytes, and answers how many went and how many tables came back. Refused, it changes nothing.
 pub fn unmap_range(
     s: Setup,
     words: &mut [u64],
@@ -125,17 +122,23 @@ pub fn unmap_range(
     list: &mut [u32],
     address: u64,
     len: u64,
-) -> RangeUnmapped
-    ensures whole { unmap_range_did result words.new second.new list.new
+) -> Result<RangeUnmapped, Refusal>
+    ensures whole { unmap_range_did s result words.new second.new list.new
         ≡ unmap_range_w (granule_of s.granule) (pool s (words.old ++ second.old) (length words.old) list.old) address len }
     ensures ledger { ByLedger (granule_of s.granule) (pool s (words.old ++ second.old) (length words.old) list.old) (unmap_range_c address len)
-        (unmap_range_did result words.new second.new list.new) }
+        (unmap_range_did s result words.new second.new list.new) }
 {
     rangeunmaps::unmap_range(s, words, second, list, address, len)
 }
 
 // Answers the mapping that holds an address, or 9 and the hole around it.
-pub fn query(s: Setup, words: &[u64], second: &[u64], list: &[u32], address: u64) -> QueryAnswer
+pub fn query(
+    s: Setup,
+    words: &[u64],
+    second: &[u64],
+    list: &[u32],
+    address: u64,
+) -> Result<Found, Refusal>
     ensures whole { says_query result ≡ query_w (granule_of s.granule) (pool s (words.now ++ second.now) (length words.now) list.now) address }
     ensures ledger { AskedByLedger (granule_of s.granule) (pool s (words.now ++ second.now) (length words.now) list.now) (question.query address) (says_query result) }
 {
@@ -143,14 +146,19 @@ pub fn query(s: Setup, words: &[u64], second: &[u64], list: &[u32], address: u64
 }
 
 // Answers whether the pool keeps every rule, with the counts of its tables and mappings.
-pub fn audit<'a>(s: Setup, words: &'a [u64], second: &'a [u64], list: &[u32]) -> AuditAnswer
+pub fn audit<'a>(
+    s: Setup,
+    words: &'a [u64],
+    second: &'a [u64],
+    list: &[u32],
+) -> Result<Counts, Refusal>
     ensures whole { says_audit result ≡ audit_w (granule_of s.granule) (pool s (words.now ++ second.now) (length words.now) list.now) }
     ensures ledger { AskedByLedger (granule_of s.granule) (pool s (words.now ++ second.now) (length words.now) list.now) question.audit (says_audit result) }
 {
     audit::audit(s, words, second, list)
 }
 
-// Writes the mappings with base at or above a start into two runs of one length, in rising order and as many as fit: address plus power of two of the size, and entry
+// Writes the mappings with base at or above a start into two runs of one length (not one of pairs: so the C interface lends them), in rising order and as many as fit: address plus power of two of the size, and entry
 // word. Answers how many, and the base of the first left out, or that none is. Refused, both runs stay.
 pub fn list<'a>(
     s: Setup,
@@ -160,7 +168,7 @@ pub fn list<'a>(
     start: u64,
     places: &mut [u64],
     entries: &mut [u64],
-) -> ListAnswer
+) -> Result<Excerpt, Refusal>
     ensures whole { list_did result places.new entries.new
         ≡ leaves (list_w (granule_of s.granule) (pool s (words.now ++ second.now) (length words.now) list.now) start (length places.old) (length entries.old))
         places.old entries.old }

@@ -1,6 +1,6 @@
 -- The numbers of a granule, and the sizes that follow from them. An entry of the last level has height 0, one of the level above it height 1,
 -- and so on: the height is the number of levels left below an entry.
-use Rattle.std.specs.Prelude.{ℕ, zero, suc, ◌+◌, ◌*◌, ◌^◌, ◌≤◌, ◌<◌, ◌≡◌, Bool, cond, ◌&&◌, ◌||◌, ltb, leb, eqb}
+use Rattle.std.specs.Prelude.{ℕ, zero, suc, ◌+◌, ◌*◌, ◌^◌, ◌≤◌, ◌<◌, ◌≡◌, Bool, cond, ◌&&◌, ◌||◌, ltb, leb, eqb, Option, Some, None}
 
 pub record Granule : Type 0 where
   -- the bits of an address within a page: a page, and a table, has 2^page bytes
@@ -73,6 +73,10 @@ good_levels G levels = leb G.fewest levels && leb levels G.most
 unfoldable pub space_of : Granule → ℕ → ℕ
 space_of G levels = cond (good_levels G levels) (size_at G levels) 0
 
+-- the same where a tree may have so many levels, and else nothing
+unfoldable pub known_space : Granule → ℕ → Option ℕ
+known_space G levels = cond (good_levels G levels) (Some (space_of G levels)) None
+
 -- the first height from h on, of `tries` heights, whose size this is; else the height after them
 unfoldable pub seek : Granule → ℕ → ℕ → ℕ → ℕ
 seek G size h zero = h
@@ -81,3 +85,7 @@ seek G size h (suc tries) = cond (eqb size (size_at G h)) h (seek G size (suc h)
 -- the height of the frames of a size; `large + 1` where no frame has it
 unfoldable pub height_of : Granule → ℕ → ℕ
 height_of G size = seek G size 0 (suc G.large)
+
+-- the same where a frame has the size, and else nothing
+unfoldable pub frame_height : Granule → ℕ → Option ℕ
+frame_height G size = cond (leb (height_of G size) G.large) (Some (height_of G size)) None

@@ -1,8 +1,8 @@
 -- Laws of sizes, heights and setup numbers, over any granule.
 use Prim.Native.Nat.{ℕ, zero, suc, ◌+◌, ◌-◌, ◌*◌, ◌%◌, ◌^◌, ◌≤◌, ◌<◌, zero-le}
-use Rattle.std.specs.Prelude.{◌≡◌, ◌≢◌, ◌⊎◌, Bool, ◌&&◌, ◌||◌}
+use Rattle.std.specs.Prelude.{◌≡◌, ◌≢◌, ◌⊎◌, Bool, ◌&&◌, ◌||◌, Some, None}
 use Rattle.std.proofs.Math.Path.{refl, sym, ap}
-use Rattle.std.proofs.Common.{◌∙◌, mul_comm, mul-suc, mul-le-mul}
+use Rattle.std.proofs.Common.{◌∙◌, subst, mul_comm, mul-suc, mul-le-mul}
 use Rattle.std.proofs.Math.Logic.{inl, inr, ⊎_elim}
 use Rattle.std.proofs.Math.Bool.{true, false, cond, or-false}
 use Rattle.std.proofs.lemmas.Bool.{false≢true}
@@ -12,7 +12,7 @@ use native.Mathlib.Omega.{arith}
 use Rattle.std.proofs.Math.Dec.{ltb, leb, eqb}
 use Rattle.std.proofs.Math.Pow.{pow_pos, pow_mono, pow-lt, pow-add}
 use borrow.Author.Tests.{ltb-true, leb-true, leb-false, eqb-true, eqb-false, lt-ltb, le-ltb, le-leb, eq-eqb, ne_eqb}
-use Rattle.path.specs.Geometry.{Granule, Sane, four, sixteen, good_granule, granule_of, page_size, entries, size_at, physical, at_level, good_levels, space_of, seek, height_of}
+use Rattle.path.specs.Geometry.{Granule, Sane, four, sixteen, good_granule, granule_of, page_size, entries, size_at, physical, at_level, good_levels, space_of, known_space, seek, height_of, frame_height}
 use Rattle.path.specs.Areas.{Area, area_of, one_region, with_second, total, table_at, GoodArea, InRegion, Shares, meets_region, meets_area}
 use Rattle.path.specs.Numbers.{most_tables, good_area, good_numbers, good_setup, good_adding, GoodNumbers, GoodSetup, GoodAdding}
 use Rattle.path.specs.declared.Setup.{Setup}
@@ -275,9 +275,46 @@ unfolding space_of
 space_none G levels f = rw (levels_none G levels f)
 
 -- no space is empty
+pub known_gone : (G : Granule) (levels : ℕ) → (G.fewest ≤ levels → levels ≤ G.most → ⊥) → known_space G levels ≡ None
+unfolding known_space
+known_gone G levels f = rw (levels_none G levels f)
+
 pub space_gone : (G : Granule) (levels : ℕ) → space_of G levels ≡ 0 → good_levels G levels ≡ false
 unfolding space_of
 space_gone G levels e = untrue (good_levels G levels) (λ t. omega (arith, rw t at e, size_pos G levels))
+
+-- a space that is known, and a height that frames have
+pub known_some : (G : Granule) (levels space : ℕ) → known_space G levels ≡ Some space → (good_levels G levels ≡ true) × (space ≡ space_of G levels)
+unfolding known_space
+known_some G levels space = go (good_levels G levels)
+  where
+    go : (b : Bool) → cond b (Some (space_of G levels)) None ≡ Some space → (b ≡ true) × (space ≡ space_of G levels)
+    go true e = (refl, cc)
+    go false e = cc
+
+pub known_none : (G : Granule) (levels : ℕ) → known_space G levels ≡ None → good_levels G levels ≡ false
+unfolding known_space
+known_none G levels = go (good_levels G levels)
+  where
+    go : (b : Bool) → cond b (Some (space_of G levels)) None ≡ None → b ≡ false
+    go true e = cc
+    go false e = refl
+
+pub height_some : (G : Granule) (size h : ℕ) → frame_height G size ≡ Some h → (h ≡ height_of G size) × (h ≤ G.large)
+unfolding frame_height
+height_some G size h e = go (leb (height_of G size) G.large) refl e
+  where
+    go : (b : Bool) → leb (height_of G size) G.large ≡ b → cond b (Some (height_of G size)) None ≡ Some h → (h ≡ height_of G size) × (h ≤ G.large)
+    go true l e = let same : height_of G size ≡ h = cc in (sym same, subst (λ (n : ℕ). n ≤ G.large) same (leb-true (height_of G size) G.large l))
+    go false l e = cc
+
+pub height_none : (G : Granule) (size : ℕ) → frame_height G size ≡ None → G.large < height_of G size
+unfolding frame_height
+height_none G size e = go (leb (height_of G size) G.large) refl e
+  where
+    go : (b : Bool) → leb (height_of G size) G.large ≡ b → cond b (Some (height_of G size)) None ≡ None → G.large < height_of G size
+    go true l e = cc
+    go false l e = leb-false (height_of G size) G.large l
 
 pub space_there : (G : Granule) (levels : ℕ) → space_of G levels ≢ 0 → good_levels G levels ≡ true
 unfolding space_of

@@ -1,5 +1,5 @@
 -- The setup numbers and their rules: refusal 1.
-use Rattle.std.specs.Prelude.{ℕ, ◌+◌, ◌*◌, ◌%◌, ◌≤◌, ◌<◌, ◌≡◌, Bool, ◌&&◌, ◌||◌, ltb, leb, eqb}
+use Rattle.std.specs.Prelude.{ℕ, ◌+◌, ◌*◌, ◌%◌, ◌≤◌, ◌<◌, ◌≡◌, Bool, ◌&&◌, ◌||◌, ltb, leb, eqb, List, [], ◌∷◌, get_or}
 use Rattle.path.specs.Geometry.{Granule, page_size, entries, physical, good_levels}
 use Rattle.path.specs.Areas.{Area, area_of, with_second, total, GoodArea}
 use Rattle.path.specs.declared.Setup.{Setup}
@@ -87,3 +87,10 @@ pub record GoodAdding (G : Granule) (levels : ℕ) (area : Area) (q m cut words 
   pub one_yet : (area.base₂ ≡ 0) × (area.tables₂ ≡ 0)
   pub some_new : 1 ≤ m
   pub numbers : GoodNumbers G levels (with_second area q m) cut words places
+
+-- setup numbers in seven places, and back
+abbrev pub setup_at : List ℕ → Setup
+setup_at l = setup (get_or l 0 0) (get_or l 1 0) (get_or l 2 0) (get_or l 3 0) (get_or l 4 0) (get_or l 5 0) (get_or l 6 0)
+
+abbrev pub places_of : Setup → List ℕ
+places_of s = s.levels ∷ s.base ∷ s.tables ∷ s.free ∷ s.base2 ∷ s.tables2 ∷ s.granule ∷ []

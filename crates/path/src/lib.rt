@@ -1,10 +1,11 @@
 // Setup numbers, granules and sizes. A granule is a number: 16384 is that of 16 KiB pages, and every other number is read as
-// that of 4 KiB pages.
+// that of 4 KiB pages. It stays a number: a setup may hold any, these functions promise an answer for each, and an enum would ask more of callers.
+// What follows from a granule has a function for each number: one function for them all would be no plainer.
 #![tactic(auto)]
 
 ghost use Rattle.std.specs.Prelude.{◌≡◌, ◌+◌, ◌/◌, ◌%◌, ◌&&◌, leb};
-ghost use Rattle.path.specs.Geometry.{good_granule, granule_of, page_size, entries, good_levels, space_of, height_of};
-ghost use Rattle.path.specs.Numbers.{no_setup, with_free};
+ghost use Rattle.path.specs.Geometry.{good_granule, granule_of, page_size, entries, good_levels, space_of, known_space, frame_height};
+ghost use Rattle.path.specs.Numbers.{no_setup, with_free, setup_at, places_of};
 
 // The bytes of a page, and of a table, of each granule; and the granule's number.
 pub const KIB4: u64 = 4096;
@@ -27,7 +28,7 @@ pub const PHYSICAL: u64 = 281474976710656;
 // The most tables that a pool may have.
 pub const MOST_TABLES: u64 = 512;
 
-#[derive(Clone, Copy)]
+#[derive(Clone, Copy, PartialEq, Eq, Debug)]
 pub struct Setup {
     pub levels: u64,
     pub base: u64,
@@ -57,14 +58,34 @@ pub fn no_setup() -> Setup
 pub fn with_free(s: Setup, free: u64) -> Setup
     ensures { result ≡ with_free s free }
 {
-    Setup {
-        levels: s.levels,
-        base: s.base,
-        tables: s.tables,
-        free,
-        base2: s.base2,
-        tables2: s.tables2,
-        granule: s.granule,
+    Setup { free, ..s }
+}
+
+// Setup numbers in seven places, and back.
+impl From<[u64; 7]> for Setup {
+    ghost from_gives = { λ places s. s ≡ setup_at places };
+
+    fn from(places: [u64; 7]) -> Setup {
+        let [levels, base, tables, free, base2, tables2, granule] = places;
+        Setup {
+            levels,
+            base,
+            tables,
+            free,
+            base2,
+            tables2,
+            granule,
+        }
+    }
+}
+
+impl From<Setup> for [u64; 7] {
+    ghost from_gives = { λ s places. places ≡ places_of s };
+
+    fn from(s: Setup) -> [u64; 7] {
+        [
+            s.levels, s.base, s.tables, s.free, s.base2, s.tables2, s.granule,
+        ]
     }
 }
 
@@ -142,60 +163,48 @@ pub fn good_levels(granule: u64, levels: u64) -> bool
     granule != KIB16
 }
 
-// The addresses of a tree of so many levels are below this; 0 where no tree has so many.
-fn space_of(granule: u64, levels: u64) -> u64
-    ensures { result ≡ space_of (granule_of granule) levels }
+// The addresses of a tree of so many levels are below this, where a tree may have so many.
+fn space_of(granule: u64, levels: u64) -> Option<u64>
+    ensures { result ≡ known_space (granule_of granule) levels }
 {
     if granule == KIB16 {
-        if levels != 3 {
-            return 0;
-        }
-        return TIB128;
+        return match levels {
+            3 => Some(TIB128),
+            _ => None,
+        };
     }
-    if levels == 3 {
-        return GIB512;
+    match levels {
+        3 => Some(GIB512),
+        4 => Some(PHYSICAL),
+        _ => None,
     }
-    if levels == 4 {
-        return PHYSICAL;
-    }
-    0
 }
 
 // Whether so many addresses from one on are all in the space of a tree of so many levels.
 pub fn in_space(granule: u64, levels: u64, address: u64, size: u64) -> bool
     ensures { result ≡ (good_levels (granule_of granule) levels && leb (address + size) (space_of (granule_of granule) levels)) }
 {
-    let space = space_of(granule, levels);
-    if space == 0 {
+    let Some(space) = space_of(granule, levels) else {
         return false;
-    }
-    if size > space {
-        return false;
-    }
-    address <= space - size
+    };
+    size <= space && address <= space - size
 }
 
-// The height of the frames of a size; one more than the greatest where no frame has it.
-pub fn height_of(granule: u64, size: u64) -> usize
-    ensures { result ≡ height_of (granule_of granule) size }
+// The height of the frames of a size, where frames have it.
+pub fn height_of(granule: u64, size: u64) -> Option<usize>
+    ensures { result ≡ frame_height (granule_of granule) size }
 {
     if granule == KIB16 {
-        if size == KIB16 {
-            return 0;
-        }
-        if size == MIB32 {
-            return 1;
-        }
-        return 2;
+        return match size {
+            KIB16 => Some(0),
+            MIB32 => Some(1),
+            _ => None,
+        };
     }
-    if size == KIB4 {
-        return 0;
+    match size {
+        KIB4 => Some(0),
+        MIB2 => Some(1),
+        GIB => Some(2),
+        _ => None,
     }
-    if size == MIB2 {
-        return 1;
-    }
-    if size == GIB {
-        return 2;
-    }
-    3
 }

@@ -32,8 +32,7 @@ fn step_list(list: &mut [u32], s: Step)
 {
     match s {
         Step::Give { place, table } => pool::give(list, place, table),
-        Step::Store { .. } => {}
-        Step::Wipe { .. } => {}
+        Step::Store { .. } | Step::Wipe { .. } => {}
     }
 }
 

@@ -1,14 +1,23 @@
 -- What zeroing a part does.
 use Prim.Native.Nat.{ℕ, ◌+◌, ◌-◌, ◌*◌, ◌≤◌, ◌<◌}
-use mathlib.Core.Path.{◌≡◌, sym, ap, ◌∙◌}
-use mathlib.Core.List.{List, ◌++◌}
+use mathlib.Core.Path.{◌≡◌, refl, sym, ap, ◌∙◌}
+use mathlib.Core.Bool.{Bool, ◌||◌}
+use mathlib.Core.List.{List, [], ◌∷◌, ◌++◌}
+use Rattle.std.specs.List.{list_any}
+use lib.Dec.{eqb}
 use native.Mathlib.Decide.{dec_lt}
 use native.Mathlib.Nat.{mul-le-mul_left}
 use native.Mathlib.Omega.{arith}
 use lib.ListN.{length, take, drop, replicate}
-use Rattle.laws.specs.Lists.{part, zeroed}
+use Rattle.laws.specs.Lists.{part, zeroed, among}
 use Rattle.laws.specs.ListLaws.{zeroed_first, zeroed_later, length_part, zeroed_is}
 use Rattle.path.specs.Laws.{table_ends}
+
+-- whether c is among the numbers, as the library's search says it
+pub among_any : (c : ℕ) (xs : List ℕ) → list_any (λ y. eqb y c) xs ≡ among c xs
+unfolding among
+among_any c [] = refl
+among_any c (x ∷ xs) = ap (λ (b : Bool). eqb x c || b) (among_any c xs)
 
 pub span : (at k : ℕ) → at + k - at ≡ k
 span at k = omega arith

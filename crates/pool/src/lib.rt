@@ -1,5 +1,7 @@
 // The lent memory: the words of the tables, in two runs, and the places of the free list. What is past the end reads as 0 and is not written. Contracts
 // speak of the two runs put together, in which the tables stand one after the other; that a table is in one of the runs is known where the first is of whole tables.
+// The two runs stay two parameters: a struct that holds a `&mut` asks of each function that takes it a clause for each field, that it keeps its reference, and a
+// struct for readers alone would make two forms of one thing. Neither is plainer.
 #![tactic(auto)]
 
 ghost use Rattle.std.specs.Prelude.{◌≡◌, ◌++◌, ℕ, ◌*◌, length, get_or, set, replicate};
@@ -61,11 +63,7 @@ pub fn give(list: &mut [u32], i: usize, t: u32)
 pub fn clear(words: &mut [u64])
     ensures { words.new ≡ replicate (length words.old) 0 }
 {
-    let mut i = 0;
-    while i < words.len() {
-        words[i] = 0;
-        i += 1;
-    }
+    words.fill(0);
 }
 
 // So many words from a place of one run on become 0, where there are so many.
@@ -73,11 +71,9 @@ fn wipe_from(words: &mut [u64], start: usize, count: usize)
     ensures { words.new ≡ zeroed words.old start count }
 {
     let n = words.len();
-    if start <= n {
-        if n - start >= count {
-            let end = start + count;
-            clear(&mut words[start..end]);
-        }
+    if start <= n && count <= n - start {
+        let end = start + count;
+        clear(&mut words[start..end]);
     }
 }
 
@@ -101,14 +97,5 @@ pub fn wipe(granule: u64, words: &mut [u64], second: &mut [u64], t: u32)
 pub fn among_four(tables: [u32; 4], c: u32) -> bool
     ensures { result ≡ among c tables }
 {
-    if tables[0] == c {
-        return true;
-    }
-    if tables[1] == c {
-        return true;
-    }
-    if tables[2] == c {
-        return true;
-    }
-    tables[3] == c
+    tables.contains(&c)
 }

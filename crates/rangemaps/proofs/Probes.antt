@@ -1,12 +1,11 @@
 -- What the walks of a row come to, by what the code finds of them.
-use Prim.Native.Nat.{ℕ, zero, suc, ◌+◌, ◌-◌, ◌/◌, ◌%◌, ◌≤◌, ◌<◌}
+use Prim.Native.Nat.{ℕ, zero, suc, ◌+◌, ◌-◌, ◌≤◌, ◌<◌}
 use mathlib.Core.Path.{◌≡◌, refl, ap, sym, ◌∙◌, subst}
 use mathlib.Core.Logic.{◌≢◌, ⊎_elim}
 use mathlib.Core.Bool.{Bool, true, false, cond, false≢true, true≢false}
 use mathlib.Core.List.Memᴰ
 use mathlib.Core.List.{List, [], ◌∷◌, ◌++◌, Memᴰ}
 use native.Mathlib.Omega.{arith}
-use native.Mathlib.Decide.{ℕ_discrete, dec_lt}
 use lib.Dec.{ltb}
 use lib.ListN.{length, get_or}
 use lib.Seq.{drop-cons}
@@ -21,36 +20,41 @@ use Rattle.path.specs.PathLaws.{path_of_at}
 use Rattle.entry.specs.Words.{entry_at}
 use Rattle.entry.specs.declared.Entry.{Entry}
 use Rattle.entry.specs.declared.Entry.TheVariants.{Empty, Table, Frame, Damaged}
+use Rattle.std.specs.Prelude.{Result, Ok, Err}
 use Rattle.model.specs.declared.Walked.{Walked}
+use Rattle.model.specs.declared.Refusal.{Refusal}
+use Rattle.model.specs.declared.Refusal.TheVariants.{Overlap, Damage}
 use Rattle.model.specs.Answers.{Pool}
 use Rattle.model.specs.Walk.{slot, at_height, stop}
 use Rattle.model.specs.Calls.{good_pool, walk_to}
 use Rattle.model.proofs.DescentLaws.{clash}
 use Rattle.model.specs.Ranges.{Probe, probe, any_ends, is_damaged, is_taken, Standing, on_way, on_ways}
 use Rattle.model.proofs.RangeWalks.{walk_stopped, came_target, came_low, stopped_in}
-use Rattle.lookup.specs.Reaches.{Came, came_again, came_word}
+use Rattle.lookup.specs.Reaches.{Came, came_again, came_word, came_place}
+use Rattle.lookup.specs.declared.Reached.{Reached}
+use Rattle.lookup.specs.declared.Lost.{Lost}
 use Rattle.marks.specs.Marks.{Noted, noted, note_way}
 use Rattle.marks.specs.MarkLaws.{Marked, Clash, clash_like, marked_like, Noting, agreed, clashes, Within, on_ways_append, note_walk}
 use Rattle.rangemaps.specs.Rows.{row_walks, any_says, met_in, met_at, row_found}
 use Rattle.ranges.specs.RowWalks.{row_above, row_here}
 use Rattle.rangemaps.proofs.Rows.{row_ends, row_some, row_says, row_within}
 
--- the walks of a row, where those before it are noted, and what they come to: a number, and the marks then
-pub data Probed (G : Granule) (p : Pool) (before : List Probe) (h a n : ℕ) : ℕ → List ℕ → Type 0 where
-  finds_damage : {M : List ℕ} → any_ends is_damaged (row_walks G p h a n) ≡ true → Probed G p before h a n 8 M
-  finds_clash : {M : List ℕ} → Clash (on_ways G p.numbers.levels (before ++ row_walks G p h a n)) → Probed G p before h a n 8 M
+-- the walks of a row, where those before it are noted, and what they come to: the tables that the first lacks or a refusal, and the marks then
+pub data Probed (G : Granule) (p : Pool) (before : List Probe) (h a n : ℕ) : Result ℕ Refusal → List ℕ → Type 0 where
+  finds_damage : {M : List ℕ} → any_ends is_damaged (row_walks G p h a n) ≡ true → Probed G p before h a n (Err Damage) M
+  finds_clash : {M : List ℕ} → Clash (on_ways G p.numbers.levels (before ++ row_walks G p h a n)) → Probed G p before h a n (Err Damage) M
   finds_taken : {M : List ℕ}
       → any_ends is_damaged (row_walks G p h a n) ≡ false
       → any_ends is_taken (row_walks G p h a n) ≡ true
       → Marked G M (on_ways G p.numbers.levels (before ++ row_walks G p h a n))
-      → Probed G p before h a n 6 M
+      → Probed G p before h a n (Err Overlap) M
   finds_empty : {r : ℕ} {M : List ℕ}
       → r ≡ (walk_to G p h a).left - h
       → (walk_to G p h a).entry ≡ Empty
       → any_ends is_damaged (row_walks G p h a n) ≡ false
       → any_ends is_taken (row_walks G p h a n) ≡ false
       → Marked G M (on_ways G p.numbers.levels (before ++ row_walks G p h a n))
-      → Probed G p before h a n r M
+      → Probed G p before h a n (Ok r) M
 
 undamaged : (e : Entry) → is_damaged e ≡ false → e ≢ Damaged
 undamaged e q z = false≢true (sym q ∙ ap is_damaged z)
@@ -155,7 +159,7 @@ module _ (G : Granule) (Z : Sane G) (p : Pool) (good : good_pool G p ≡ true) (
       abbrev words : List ℕ
       words = part p.words (slot G (at_height o.tables h) (index_at G a h)) n
 
-      here : o.left ≡ h → note.fine ≡ true → Probed G p before h a n (met_in G area h 0 words) note.marks
+      here : o.left ≡ h → note.fine ≡ true → Probed G p before h a n (met_in G area h (Ok 0) words) note.marks
       unfolding met_in
       here e f = at (any_says is_damaged G area h words) refl (any_says is_taken G area h words) refl
         where
@@ -182,17 +186,16 @@ module _ (G : Granule) (Z : Sane G) (p : Pool) (good : good_pool G p ≡ true) (
           empty (Frame b k) u v = absurd (true≢false v)
 
           at : (x : Bool) → any_says is_damaged G area h words ≡ x → (y : Bool) → any_says is_taken G area h words ≡ y
-              → Probed G p before h a n (cond x 8 (cond y 6 0)) note.marks
+              → Probed G p before h a n (cond x (Err Damage) (cond y (Err Overlap) (Ok 0))) note.marks
           at true q y z = finds_damage (each is_damaged ∙ q)
           at false q true z = finds_taken (each is_damaged ∙ q) (each is_taken ∙ z) (fine_note f)
           at false q false z = let none : 0 ≡ o.left - h = omega arith in finds_empty none (empty o.entry d (untaken (each is_taken ∙ z))) (each is_damaged ∙ q) (each is_taken ∙ z) (fine_note f)
 
-  -- what is found of a row says what its walks come to
-  pub row_probed : {M N : List ℕ} {r : ℕ} → Marked G M (on_ways G levels before) → total area ≤ length M → r ≡ row_found G p M h a n
-      → (r ≢ 8 → N ≡ (note_way G M a o.tables o.left levels).marks) → Probed G p before h a n r N
+  -- what is found of a row says what its walks come to; where it is damage the marks do not matter
+  pub row_probed : {M N : List ℕ} {r : Result ℕ Refusal} → Marked G M (on_ways G levels before) → total area ≤ length M → r ≡ row_found G p M h a n
+      → (r ≢ Err Damage → N ≡ (note_way G M a o.tables o.left levels).marks) → Probed G p before h a n r N
   unfolding row_found
-  row_probed {M} {N} {r} K long e marks =
-      at (ℕ_discrete r 8) (subst (λ (x : ℕ). Probed G p before h a n x note.marks) (sym e) (go (is_damaged o.entry) refl))
+  row_probed {M} {N} {r} K long e marks = with_marks (subst (λ (x : Result ℕ Refusal). Probed G p before h a n x note.marks) (sym e) (go (is_damaged o.entry) refl)) marks
     where
       note : Noted
       note = note_way G M a o.tables o.left levels
@@ -200,10 +203,10 @@ module _ (G : Granule) (Z : Sane G) (p : Pool) (good : good_pool G p ≡ true) (
       words : List ℕ
       words = part p.words (slot G (at_height o.tables h) (index_at G a h)) n
 
-      found : Bool → Bool → Bool → ℕ
-      found x y z = cond x 8 (cond y (cond z (met_at o.entry (o.left - h)) (met_in G area h 0 words)) 8)
+      found : Bool → Bool → Bool → Result ℕ Refusal
+      found x y z = cond x (Err Damage) (cond y (cond z (met_at o.entry (o.left - h)) (met_in G area h (Ok 0) words)) (Err Damage))
 
-      Goal : ℕ → Type 0
+      Goal : Result ℕ Refusal → Type 0
       Goal x = Probed G p before h a n x note.marks
 
       go : (x : Bool) → is_damaged o.entry ≡ x → Goal (found x note.fine (ltb h o.left))
@@ -218,21 +221,16 @@ module _ (G : Granule) (Z : Sane G) (p : Pool) (good : good_pool G p ≡ true) (
           on true f true l = above d K long (ltb-true h o.left l) f
           on true f false l = here d K long (omega (arith, low d, ltb-false h o.left l)) f
 
-      -- where it is 8 the marks do not matter
-      eight : {x : ℕ} → Probed G p before h a n x note.marks → x ≡ 8 → Probed G p before h a n x N
-      eight (finds_damage q) z = finds_damage q
-      eight (finds_clash q) z = finds_clash q
-      eight (finds_taken u v w) z = absurd (omega arith)
-      eight (finds_empty u v w x y) z = absurd (omega (arith, left_top (λ b. clash (cc)), few))
+      with_marks : {x : Result ℕ Refusal} → Probed G p before h a n x note.marks → (x ≢ Err Damage → N ≡ note.marks) → Probed G p before h a n x N
+      with_marks (finds_damage q) m = finds_damage q
+      with_marks (finds_clash q) m = finds_clash q
+      with_marks (finds_taken u v w) m = subst (Probed G p before h a n (Err Overlap)) (sym (m (λ z. cc))) (finds_taken u v w)
+      with_marks (finds_empty {r} u v w x y) m = subst (Probed G p before h a n (Ok r)) (sym (m (λ z. cc))) (finds_empty u v w x y)
 
-      at : Dec (r ≡ 8) → Probed G p before h a n r note.marks → Probed G p before h a n r N
-      at (yes z) P = eight P z
-      at (no z) P = subst (Probed G p before h a n r) (sym (marks z)) P
-
--- where a row finds neither 8 nor 6, its height and the tables that it lacks are heights of a path
-pub found_few : (G : Granule) (p : Pool) → p.numbers.levels ≤ 4 → (h a : ℕ) (M : List ℕ) (n : ℕ) {r : ℕ} → h ≤ p.numbers.levels - 1 → r ≡ row_found G p M h a n → r ≢ 8 → r ≢ 6 → h + r ≤ 3
+-- where a row is not refused, its height and the tables that it lacks are heights of a path
+pub found_few : (G : Granule) (p : Pool) → p.numbers.levels ≤ 4 → (h a : ℕ) (M : List ℕ) (n : ℕ) {r : ℕ} → h ≤ p.numbers.levels - 1 → Ok r ≡ row_found G p M h a n → h + r ≤ 3
 unfolding row_found met_in
-found_few G p few h a M n {r} top e f g =
+found_few G p few h a M n {r} top e =
     go (is_damaged o.entry) refl (note_way G M a o.tables o.left p.numbers.levels).fine (ltb h o.left) (any_says is_damaged G (area_of p.numbers) h words) (any_says is_taken G (area_of p.numbers) h words) e
   where
     o : Walked
@@ -241,61 +239,61 @@ found_few G p few h a M n {r} top e f g =
     words : List ℕ
     words = part p.words (slot G (at_height o.tables h) (index_at G a h)) n
 
-    met : (x : Entry) → o.left ≤ p.numbers.levels - 1 → r ≡ met_at x (o.left - h) → h + r ≤ 3
-    met Damaged l e = absurd (f e)
-    met Empty l e = omega arith
-    met (Table c) l e = absurd (g e)
-    met (Frame b k) l e = absurd (g e)
+    met : (x : Entry) → o.left ≤ p.numbers.levels - 1 → Ok r ≡ met_at x (o.left - h) → h + r ≤ 3
+    met Damaged l e = clash (cc)
+    met Empty l e = let z : r ≡ o.left - h = cc in omega arith
+    met (Table c) l e = clash (cc)
+    met (Frame b k) l e = clash (cc)
 
-    go : (d : Bool) → is_damaged o.entry ≡ d → (y z u v : Bool) → r ≡ cond d 8 (cond y (cond z (met_at o.entry (o.left - h)) (cond u 8 (cond v 6 0))) 8) → h + r ≤ 3
-    go true q y z u v e = absurd (f e)
-    go false q false z u v e = absurd (f e)
+    go : (d : Bool) → is_damaged o.entry ≡ d → (y z u v : Bool) → Ok r ≡ cond d (Err Damage) (cond y (cond z (met_at o.entry (o.left - h)) (cond u (Err Damage) (cond v (Err Overlap) (Ok 0)))) (Err Damage)) → h + r ≤ 3
+    go true q y z u v e = clash (cc)
+    go false q false z u v e = clash (cc)
     go false q true true u v e = met o.entry (came_low (walk_stopped G p few h a (undamaged o.entry q)).came) e
-    go false q true false true v e = absurd (f e)
-    go false q true false false true e = absurd (g e)
-    go false q true false false false e = omega arith
+    go false q true false true v e = clash (cc)
+    go false q true false false true e = clash (cc)
+    go false q true false false false e = let z : r ≡ 0 = cc in omega arith
 
 -- ---- what the code finds of a row, by where the first walk ended
 
 module _ (G : Granule) (p : Pool) (h a : ℕ) (M : List ℕ) (n : ℕ) {e : Entry} {left : ℕ} {way : List ℕ} (q : stop e left way ≡ walk_to G p h a) where
-  abbrev says : Walked → ℕ
+  abbrev says : Walked → Result ℕ Refusal
   says o =
-      cond (is_damaged o.entry) 8
+      cond (is_damaged o.entry) (Err Damage)
       (cond (note_way G M a o.tables o.left p.numbers.levels).fine
       (cond (ltb h o.left) (met_at o.entry (o.left - h))
-      (met_in G (area_of p.numbers) h 0 (part p.words (slot G (at_height o.tables h) (index_at G a h)) n)))
-      8)
+      (met_in G (area_of p.numbers) h (Ok 0) (part p.words (slot G (at_height o.tables h) (index_at G a h)) n)))
+      (Err Damage))
 
   found_by : row_found G p M h a n ≡ says (stop e left way)
   unfolding row_found
   found_by = sym (ap says q)
 
-  pub found_damaged : is_damaged e ≡ true → 8 ≡ row_found G p M h a n
+  pub found_damaged : is_damaged e ≡ true → Err Damage ≡ row_found G p M h a n
   found_damaged d = sym (found_by ∙ rw d)
 
   module _ {N : List ℕ} where
-    pub found_clash : noted false N ≡ note_way G M a way left p.numbers.levels → 8 ≡ row_found G p M h a n
+    pub found_clash : noted false N ≡ note_way G M a way left p.numbers.levels → Err Damage ≡ row_found G p M h a n
     found_clash f = sym (found_by ∙ rw (← f) (go (is_damaged e)))
       where
-        go : (y : Bool) → ◌≡◌ {A = ℕ} (cond y 8 8) 8
+        go : (y : Bool) → ◌≡◌ {A = Result ℕ Refusal} (cond y (Err Damage) (Err Damage)) (Err Damage)
         go true = refl
         go false = refl
 
     module _ (f : noted true N ≡ note_way G M a way left p.numbers.levels) where
-      pub found_above : h < left → {r : ℕ} → r ≡ met_at e (left - h) → r ≡ row_found G p M h a n
+      pub found_above : h < left → {r : Result ℕ Refusal} → r ≡ met_at e (left - h) → r ≡ row_found G p M h a n
       found_above l z = z ∙ sym (found_by ∙ rw (← f, lt-ltb h left l) (go e))
         where
-          go : (x : Entry) → cond (is_damaged x) 8 (met_at x (left - h)) ≡ met_at x (left - h)
+          go : (x : Entry) → cond (is_damaged x) (Err Damage) (met_at x (left - h)) ≡ met_at x (left - h)
           go Damaged = refl
           go Empty = refl
           go (Table c) = refl
           go (Frame b k) = refl
 
-      pub found_here : left ≤ h → {r : ℕ} → r ≡ met_in G (area_of p.numbers) h 0 (part p.words (slot G (at_height way h) (index_at G a h)) n) → (is_damaged e ≡ true → r ≡ 8)
+      pub found_here : left ≤ h → {r : Result ℕ Refusal} → r ≡ met_in G (area_of p.numbers) h (Ok 0) (part p.words (slot G (at_height way h) (index_at G a h)) n) → (is_damaged e ≡ true → r ≡ Err Damage)
           → r ≡ row_found G p M h a n
       found_here l {r} z d = sym (found_by ∙ rw (← f, le-ltb h left l, ← z) (go (is_damaged e) d))
         where
-          go : (y : Bool) → (y ≡ true → r ≡ 8) → cond y 8 r ≡ r
+          go : (y : Bool) → (y ≡ true → r ≡ Err Damage) → cond y (Err Damage) r ≡ r
           go true d = sym (d refl)
           go false d = refl
 
@@ -304,25 +302,23 @@ module _ (G : Granule) (p : Pool) (h a : ℕ) (M : List ℕ) (n : ℕ) {e : Entr
 
 -- the first word of a row is damaged
 pub first_damaged : (G : Granule) (area : Area) (h : ℕ) (ws : List ℕ) (i n : ℕ) → 0 < n → i < length ws → is_damaged (entry_at G area h (get_or ws i 0)) ≡ true
-    → met_in G area h 0 (part ws i n) ≡ 8
+    → met_in G area h (Ok 0) (part ws i n) ≡ Err Damage
 unfolding met_in any_says part
 first_damaged G area h ws i zero l m d = absurd (omega arith)
 first_damaged G area h ws i (suc n) l m d = rw (drop-cons ws i 0 m, d)
 
 -- ---- the place of a row in a table that is there
 
--- a walk that ended at an empty entry of its height: the place of that entry
-pub row_place : (G : Granule) (p : Pool) (h a r : ℕ) (way : List ℕ) → Came G p h a r way → (walk_to G p h a).entry ≡ Empty → (walk_to G p h a).left ≡ h → h < 4
-    → (r / 4 < length p.words) × (r / 4 ≡ slot G (at_height (walk_to G p h a).tables h) (index_at G a h))
-row_place G p h a r way C e l low = go (dec_lt (r / 4) (length p.words))
-  where
-    go : Dec (r / 4 < length p.words) → (r / 4 < length p.words) × (r / 4 ≡ slot G (at_height (walk_to G p h a).tables h) (index_at G a h))
-    go (no m) = let z = came_again C (omega arith) in clash (cc (ap (λ (o : Walked). o.entry) z ∙ e))
-    go (yes m) =
-        let q = came_word C m refl in
-        let left_is : r % 4 ≡ h = ap (λ (o : Walked). o.left) q ∙ l in (
-          m,
-          C.place m
-              ∙ (λ i. slot G (at_height (ap (λ (o : Walked). o.tables) q i) (left_is i)) (at_height (path_of G a) (left_is i)))
-              ∙ ap (slot G (at_height (walk_to G p h a).tables h)) (path_of_at G a {h = h} low),
-        )
+-- a walk that ends at an empty entry of its height does not come to a table again,
+pub row_came : (G : Granule) (p : Pool) (h a : ℕ) {l : Lost} {way : List ℕ} → Came G p h a (Err l) way → (walk_to G p h a).entry ≡ Empty → ⊥
+row_came G p h a C e = let z : Damaged ≡ Empty = ap (λ (o : Walked). o.entry) (came_again C) ∙ e in cc
+
+-- and the place of that entry
+pub row_place : (G : Granule) (p : Pool) (h a : ℕ) {r : Reached} {way : List ℕ} → Came G p h a (Ok r) way → (walk_to G p h a).left ≡ h → h < 4
+    → r.place ≡ slot G (at_height (walk_to G p h a).tables h) (index_at G a h)
+row_place G p h a {r} {way} C l low =
+    let q = came_word C refl in
+    let left_is : r.height ≡ h = ap (λ (o : Walked). o.left) q ∙ l in
+    came_place C
+    ∙ (λ i. slot G (at_height (ap (λ (o : Walked). o.tables) q i) (left_is i)) (at_height (path_of G a) (left_is i)))
+    ∙ ap (slot G (at_height (walk_to G p h a).tables h)) (path_of_at G a {h = h} low)

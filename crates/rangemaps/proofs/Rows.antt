@@ -26,7 +26,7 @@ use Rattle.model.specs.Walk.{at_height, no_way}
 use Rattle.model.specs.Calls.{walk_to}
 use Rattle.model.specs.Ledger.{region}
 use Rattle.model.specs.Ranges.{Probe, probe, piece_walks, any_ends, Standing, standing, on_ways}
-use Rattle.model.proofs.RangeWalks.{came_low, came_kept, stopped_long, walk_stopped, walk_region, walk_table}
+use Rattle.model.proofs.RangeWalks.{came_low, came_kept, stopped_long, walk_stopped}
 use Rattle.model.specs.RangeWalks.{Came, Stopped}
 use Rattle.model.specs.RangeWalks as walks
 use Rattle.model.proofs.RangeMapped.{ways_has}

@@ -2,7 +2,7 @@
 use Prim.Native.Nat.{ℕ, suc, ◌+◌, ◌-◌, ◌*◌, ◌≤◌, ◌<◌}
 use mathlib.Core.Path.{◌≡◌, refl, ap, sym, ◌∙◌, subst, subst₂}
 use mathlib.Core.Logic.{◌≢◌, ⊎_elim}
-use mathlib.Core.Bool.{Bool, true, false, cond, ◌||◌, not, false≢true}
+use mathlib.Core.Bool.{Bool, true, false, cond, ◌||◌, not, false≢true, true≢false}
 use mathlib.Core.List.Memᴰ
 use mathlib.Core.List.{List, [], ◌∷◌, ◌++◌, append_assoc, append-nil, Memᴰ}
 use native.Mathlib.Omega.{arith}
@@ -19,6 +19,10 @@ use Rattle.path.specs.Numbers.{GoodSetup}
 use Rattle.path.specs.declared.Setup.{Setup}
 use Rattle.entry.specs.declared.Entry.{Entry}
 use Rattle.entry.specs.declared.Entry.TheVariants.{Damaged}
+use Rattle.std.specs.Prelude.{Result, Ok, Err}
+use Rattle.model.specs.declared.Refusal.{Refusal}
+use Rattle.model.specs.declared.Refusal.TheVariants.{Overlap, Damage}
+use Rattle.model.proofs.DescentLaws.{clash}
 use Rattle.model.specs.Answers.{Mapping, Pool}
 use Rattle.model.specs.Calls.{good_pool, walk_to}
 use Rattle.model.specs.Ranges.{map_range_tests, piece_at, pieces, Probe, piece_walk, piece_walks, any_ends, is_damaged, is_taken, on_ways, spoiled, ways}
@@ -175,18 +179,18 @@ range_near G Z levels area a b len k e =
 -- ---- what is found
 
 -- the walks of the pieces before address x are neither damaged nor clash, and what they found
-pub record Sofar (G : Granule) (p : Pool) (a b len k x y left no need : ℕ) (M : List ℕ) : Type 0 where
+pub record Sofar (G : Granule) (p : Pool) (a b len k x y left : ℕ) (overlaps : Bool) (need : ℕ) (M : List ℕ) : Type 0 where
   pub before : List Mapping
   pub rest : List Mapping
   pub is : pieces G a b len k ≡ before ++ rest
   pub tiled : Tiles G k x y left rest
   pub undamaged : any_ends is_damaged (piece_walks G p before) ≡ false
   pub marked : Marked G M (on_ways G p.numbers.levels (piece_walks G p before))
-  pub taken : no ≡ cond (any_ends is_taken (piece_walks G p before)) 6 0
-  pub count : no ≡ 0 → Counted G p a x before need
+  pub taken : overlaps ≡ any_ends is_taken (piece_walks G p before)
+  pub count : overlaps ≡ false → Counted G p a x before need
 
 pub sofar_first : (G : Granule) (p : Pool) (a b len k : ℕ) (M : List ℕ) → map_range_tests G p.numbers.levels (area_of p.numbers) a b len k ≡ 0
-    → ((t : ℕ) → get_or M t 0 ≡ 0) → Sofar G p a b len k a b len 0 0 M
+    → ((t : ℕ) → get_or M t 0 ≡ 0) → Sofar G p a b len k a b len false 0 M
 unfolding any_ends on_ways
 sofar_first G p a b len k M e zeros = record {
   before = [];
@@ -199,13 +203,13 @@ sofar_first G p a b len k M e zeros = record {
   count = λ z. counted_none G p a;
 }
 
--- how the code goes on from what a row finds: 6 is remembered; the tables that the first row lacks are counted all, those of another where they begin
-pub data Went (G : Granule) (a x h no need met : ℕ) : ℕ → ℕ → Type 0 where
-  went_taken : met ≡ 6 → Went G a x h no need met 6 need
-  went_first : met ≢ 6 → x ≡ a → Went G a x h no need met no met
-  went_later : {new : ℕ} → met ≢ 6 → x ≢ a → (h + met < G.most → new ≡ begun_at G x h met) → Went G a x h no need met no (need + new)
+-- how the code goes on from what a row finds: an overlap is remembered; the tables that the first row lacks are counted all, those of another where they begin
+pub data Went (G : Granule) (a x h : ℕ) (overlaps : Bool) (need : ℕ) (met : Result ℕ Refusal) : Bool → ℕ → Type 0 where
+  went_taken : met ≡ Err Overlap → Went G a x h overlaps need met true need
+  went_first : {lack : ℕ} → met ≡ Ok lack → x ≡ a → Went G a x h overlaps need met overlaps lack
+  went_later : {lack new : ℕ} → met ≡ Ok lack → x ≢ a → (h + lack < G.most → new ≡ begun_at G x h lack) → Went G a x h overlaps need met overlaps (need + new)
 
-module _ (G : Granule) (Z : Sane G) (p : Pool) (good : good_pool G p ≡ true) {a b len k x y left no need : ℕ} {M : List ℕ} (F : Sofar G p a b len k x y left no need M)
+module _ (G : Granule) (Z : Sane G) (p : Pool) (good : good_pool G p ≡ true) {a b len k x y left need : ℕ} {overlaps : Bool} {M : List ℕ} (F : Sofar G p a b len k x y left overlaps need M)
     (some : left ≢ 0) where
   abbrev h : ℕ
   h = piece_at G x y left G.large
@@ -248,27 +252,27 @@ module _ (G : Granule) (Z : Sane G) (p : Pool) (good : good_pool G p ≡ true) {
   all_walked = ap (piece_walks G p) all ∙ walks_append G p (F.before ++ in_row s k x y n) T.row.rest ∙ ap (λ (l : List Probe). l ++ piece_walks G p T.row.rest) walked
 
   -- what the code finds of the row
-  pub sofar_found : {met : ℕ} {N : List ℕ} → total (area_of p.numbers) ≤ length M → x < physical → met ≡ row_found G p M h x n
-      → (met ≢ 8 → N ≡ (note_way G M x (walk_to G p h x).tables (walk_to G p h x).left levels).marks) → Probed G p W h x n met N
+  pub sofar_found : {met : Result ℕ Refusal} {N : List ℕ} → total (area_of p.numbers) ≤ length M → x < physical → met ≡ row_found G p M h x n
+      → (met ≢ Err Damage → N ≡ (note_way G M x (walk_to G p h x).tables (walk_to G p h x).left levels).marks) → Probed G p W h x n met N
   sofar_found long near e m = row_probed G Z p good W h x n T.low T.some T.room near F.marked long e m
 
-  -- a row that finds 8 spoils the range
-  pub sofar_stops : {met need' : ℕ} {N : List ℕ} → Probed G p W h x n met N → met ≡ 8 → Surveyed G p (pieces G a b len k) 8 need' N
-  sofar_stops (finds_damage q) z =
-      is_spoiled (ap (spoiled G levels) all_walked
+  -- a row that is refused, but not by an overlap, spoils the range
+  pub sofar_stops : {met : Result ℕ Refusal} {r : Refusal} {N : List ℕ} → Probed G p W h x n met N → met ≡ Err r → r ≢ Overlap → Surveyed G p (pieces G a b len k) (Err r) N
+  sofar_stops {met} {r} {N} (finds_damage q) z f =
+      subst (λ (e : Result ℕ Refusal). Surveyed G p (pieces G a b len k) e N) z (is_spoiled (ap (spoiled G levels) all_walked
       ∙ or_left (any_ends is_damaged ((W ++ row) ++ piece_walks G p T.row.rest)) _
-      (ends_append is_damaged (W ++ row) (piece_walks G p T.row.rest) ∙ or_left (any_ends is_damaged (W ++ row)) _ (ends_append is_damaged W row ∙ or_right (any_ends is_damaged W) _ q)))
-  sofar_stops (finds_clash q) z =
-      is_spoiled (ap (spoiled G levels) all_walked
-      ∙ or_right (any_ends is_damaged ((W ++ row) ++ piece_walks G p T.row.rest)) _ (ap not (clash_more G levels (W ++ row) (piece_walks G p T.row.rest) q)))
-  sofar_stops (finds_taken u v w) z = absurd (omega arith)
-  sofar_stops (finds_empty u v w r q) z = absurd (omega (arith, few, came_low (walk_stopped G p few h x (λ e. false≢true (sym (ap is_damaged v) ∙ ap is_damaged e))).came))
+      (ends_append is_damaged (W ++ row) (piece_walks G p T.row.rest) ∙ or_left (any_ends is_damaged (W ++ row)) _ (ends_append is_damaged W row ∙ or_right (any_ends is_damaged W) _ q))))
+  sofar_stops {met} {r} {N} (finds_clash q) z f =
+      subst (λ (e : Result ℕ Refusal). Surveyed G p (pieces G a b len k) e N) z (is_spoiled (ap (spoiled G levels) all_walked
+      ∙ or_right (any_ends is_damaged ((W ++ row) ++ piece_walks G p T.row.rest)) _ (ap not (clash_more G levels (W ++ row) (piece_walks G p T.row.rest) q))))
+  sofar_stops {met} {r} (finds_taken u v w) z f = let same : r ≡ Overlap = cc in absurd (f same)
+  sofar_stops (finds_empty u v w r q) z f = clash (cc)
 
-  next : {no' need' bytes : ℕ} {N : List ℕ} → bytes ≡ n * s → any_ends is_damaged row ≡ false → Marked G N (on_ways G levels (W ++ row))
-      → no' ≡ cond (any_ends is_taken W || any_ends is_taken row) 6 0 → (no' ≡ 0 → Counted G p a (x + n * s) (F.before ++ in_row s k x y n) need')
-      → Sofar G p a b len k (x + bytes) (y + bytes) (left - bytes) no' need' N
-  next {no'} {need'} {bytes} {N} e d K t c =
-      subst (λ (z : ℕ). Sofar G p a b len k (x + z) (y + z) (left - z) no' need' N) (sym e)
+  next : {overlaps' : Bool} {need' bytes : ℕ} {N : List ℕ} → bytes ≡ n * s → any_ends is_damaged row ≡ false → Marked G N (on_ways G levels (W ++ row))
+      → overlaps' ≡ (any_ends is_taken W || any_ends is_taken row) → (overlaps' ≡ false → Counted G p a (x + n * s) (F.before ++ in_row s k x y n) need')
+      → Sofar G p a b len k (x + bytes) (y + bytes) (left - bytes) overlaps' need' N
+  next {overlaps'} {need'} {bytes} {N} e d K t c =
+      subst (λ (z : ℕ). Sofar G p a b len k (x + z) (y + z) (left - z) overlaps' need' N) (sym e)
       (record {
         before = F.before ++ in_row s k x y n;
         rest = T.row.rest;
@@ -276,19 +280,23 @@ module _ (G : Granule) (Z : Sane G) (p : Pool) (good : good_pool G p ≡ true) {
         tiled = T.row.tiled;
         undamaged = ap (any_ends is_damaged) walked ∙ ends_append is_damaged W row ∙ or_nothing (any_ends is_damaged W) _ d ∙ F.undamaged;
         marked = subst (λ (l : List Probe). Marked G N (on_ways G levels l)) (sym walked) K;
-        taken = t ∙ ap (λ (z : Bool). cond z 6 0) (sym (ap (any_ends is_taken) walked ∙ ends_append is_taken W row));
+        taken = t ∙ sym (ap (any_ends is_taken) walked ∙ ends_append is_taken W row);
         count = c;
       })
 
   -- else the loop goes on
-  pub sofar_next : {met no' need' bytes : ℕ} {N : List ℕ} → bytes ≡ n * s → Probed G p W h x n met N → met ≢ 8 → Went G a x h no need met no' need'
-      → Sofar G p a b len k (x + bytes) (y + bytes) (left - bytes) no' need' N
-  sofar_next e (finds_damage q) f w = absurd (f refl)
-  sofar_next e (finds_clash q) f w = absurd (f refl)
-  sofar_next e (finds_taken u v K) f (went_taken z) = next e u K (sym (ap (λ (z : Bool). cond z 6 0) (or_right (any_ends is_taken W) _ v))) (λ z. absurd (omega arith))
-  sofar_next e (finds_taken u v K) f (went_first z q) = absurd (z refl)
-  sofar_next e (finds_taken u v K) f (went_later z q g) = absurd (z refl)
-  sofar_next {met} {no'} {need'} {bytes} {N} e (finds_empty r q u v K) f w = on w
+  pub sofar_next : {met : Result ℕ Refusal} {overlaps' : Bool} {need' bytes : ℕ} {N : List ℕ} → bytes ≡ n * s → Probed G p W h x n met N → Went G a x h overlaps need met overlaps' need'
+      → Sofar G p a b len k (x + bytes) (y + bytes) (left - bytes) overlaps' need' N
+  sofar_next e (finds_damage q) (went_taken z) = clash (cc)
+  sofar_next e (finds_damage q) (went_first z g) = clash (cc)
+  sofar_next e (finds_damage q) (went_later z g w) = clash (cc)
+  sofar_next e (finds_clash q) (went_taken z) = clash (cc)
+  sofar_next e (finds_clash q) (went_first z g) = clash (cc)
+  sofar_next e (finds_clash q) (went_later z g w) = clash (cc)
+  sofar_next e (finds_taken u v K) (went_taken z) = next e u K (sym (or_right (any_ends is_taken W) _ v)) (λ z. absurd (true≢false z))
+  sofar_next e (finds_taken u v K) (went_first z g) = clash (cc)
+  sofar_next e (finds_taken u v K) (went_later z g w) = clash (cc)
+  sofar_next {met} {overlaps'} {need'} {bytes} {N} e (finds_empty {r} i q u v K) w = on w
     where
       d : (walk_to G p h x).entry ≢ Damaged
       d z = false≢true (sym (ap is_damaged q) ∙ ap is_damaged z)
@@ -299,45 +307,46 @@ module _ (G : Granule) (Z : Sane G) (p : Pool) (good : good_pool G p ≡ true) {
       least : h ≤ (walk_to G p h x).left
       least = came_target (walk_stopped G p few h x d).came (omega (arith, T.low, deep))
 
-      same : no ≡ cond (any_ends is_taken W || any_ends is_taken row) 6 0
-      same = F.taken ∙ ap (λ (z : Bool). cond z 6 0) (sym (or_nothing (any_ends is_taken W) _ v))
+      same : overlaps ≡ (any_ends is_taken W || any_ends is_taken row)
+      same = F.taken ∙ sym (or_nothing (any_ends is_taken W) _ v)
 
-      on : {i j : ℕ} → Went G a x h no need met i j → Sofar G p a b len k (x + bytes) (y + bytes) (left - bytes) i j N
-      on (went_taken z) = absurd (omega (arith, few, low))
-      on (went_first z g) = next e u K same
-          (λ o. subst (Counted G p a (x + n * s) (F.before ++ in_row s k x y n)) (sym r)
+      on : {t : Bool} {j : ℕ} → Went G a x h overlaps need (Ok r) t j → Sofar G p a b len k (x + bytes) (y + bytes) (left - bytes) t j N
+      on (went_taken z) = clash (cc)
+      on (went_first {lack} z g) = next e u K same
+          (λ o. let l : r ≡ lack = cc in subst (Counted G p a (x + n * s) (F.before ++ in_row s k x y n)) (sym i ∙ l)
           (counted_first G Z p few (omega (arith, S.numbers.enough, Z.large_below)) deep (F.count o) h k y n T.low T.some T.room T.address q g))
-      on (went_later {new} z g w) = next e u K same
-          (λ o. subst (Counted G p a (x + n * s) (F.before ++ in_row s k x y n)) (ap (λ (z : ℕ). need + z) (ap (begun_at G x h) (sym r) ∙ sym (w (omega (arith, low, least, S.numbers.not_more, S.numbers.enough, Z.large_below)))))
+      on (went_later {lack} {new} z g w) = next e u K same
+          (λ o. let l : r ≡ lack = cc in
+          subst (Counted G p a (x + n * s) (F.before ++ in_row s k x y n)) (ap (λ (z : ℕ). need + z) (ap (begun_at G x h) (sym i ∙ l) ∙ sym (w (omega (arith, low, least, S.numbers.not_more, S.numbers.enough, Z.large_below)))))
           (counted_later G Z p few (omega (arith, S.numbers.enough, Z.large_below)) deep (F.count o) h k y n T.low T.some T.room T.address q g))
 
 -- a turn of the loop, in the code's numbers
-module _ (G : Granule) (Z : Sane G) (p : Pool) (good : good_pool G p ≡ true) {a b len k x y left num need : ℕ} {M : List ℕ} (F : Sofar G p a b len k x y left num need M)
+module _ (G : Granule) (Z : Sane G) (p : Pool) (good : good_pool G p ≡ true) {a b len k x y left need : ℕ} {overlaps : Bool} {M : List ℕ} (F : Sofar G p a b len k x y left overlaps need M)
     (some : left ≢ 0) {tall wide : ℕ} (u : tall ≡ piece_at G x y left G.large) (v : wide ≡ stretch_at G x left tall)
-    (long : total (area_of p.numbers) ≤ length M) (near : x < physical) {met : ℕ} {N : List ℕ} (e : met ≡ row_found G p M tall x wide)
-    (m : met ≢ 8 → N ≡ (note_way G M x (walk_to G p tall x).tables (walk_to G p tall x).left p.numbers.levels).marks) where
+    (long : total (area_of p.numbers) ≤ length M) (near : x < physical) {met : Result ℕ Refusal} {N : List ℕ} (e : met ≡ row_found G p M tall x wide)
+    (m : met ≢ Err Damage → N ≡ (note_way G M x (walk_to G p tall x).tables (walk_to G p tall x).left p.numbers.levels).marks) where
   probed : Probed G p (piece_walks G p F.before) (piece_at G x y left G.large) x (stretch_at G x left (piece_at G x y left G.large)) met N
   probed =
       sofar_found G Z p good F some long near (from_row G x y left u v (λ i j. met ≡ row_found G p M i x j) e)
-      (from_row G x y left u v (λ i j. met ≢ 8 → N ≡ (note_way G M x (walk_to G p i x).tables (walk_to G p i x).left p.numbers.levels).marks) m)
+      (from_row G x y left u v (λ i j. met ≢ Err Damage → N ≡ (note_way G M x (walk_to G p i x).tables (walk_to G p i x).left p.numbers.levels).marks) m)
 
-  pub turn_stops : {need' : ℕ} → met ≡ 8 → Surveyed G p (pieces G a b len k) 8 need' N
-  turn_stops z = sofar_stops G Z p good F some probed z
+  pub turn_stops : {r : Refusal} → met ≡ Err r → r ≢ Overlap → Surveyed G p (pieces G a b len k) (Err r) N
+  turn_stops z f = sofar_stops G Z p good F some probed z f
 
-  pub turn_next : {num' need' bytes : ℕ} → met ≢ 8 → bytes ≡ wide * size_at G tall → Went G a x tall num need met num' need'
-      → Sofar G p a b len k (x + bytes) (y + bytes) (left - bytes) num' need' N
-  turn_next {num'} {need'} {bytes} f q w =
-      sofar_next G Z p good F some (from_row G x y left u v (λ i j. bytes ≡ j * size_at G i) q) probed f (from_row G x y left u v (λ i j. Went G a x i num need met num' need') w)
+  pub turn_next : {overlaps' : Bool} {need' bytes : ℕ} → bytes ≡ wide * size_at G tall → Went G a x tall overlaps need met overlaps' need'
+      → Sofar G p a b len k (x + bytes) (y + bytes) (left - bytes) overlaps' need' N
+  turn_next {overlaps'} {need'} {bytes} q w =
+      sofar_next G Z p good F some (from_row G x y left u v (λ i j. bytes ≡ j * size_at G i) q) probed (from_row G x y left u v (λ i j. Went G a x i overlaps need met overlaps' need') w)
 
 -- at the end
 pub tiles_none : {G : Granule} {k x y left : ℕ} {ms : List Mapping} → Tiles G k x y left ms → left ≡ 0 → ms ≡ []
 tiles_none over e = refl
 tiles_none {G} (piece {h = h} F more T) e = absurd (omega (arith, F.small, size_pos G h))
 
-pub sofar_ends : (G : Granule) → Sane G → (p : Pool) → good_pool G p ≡ true → {a b len k x y left num need : ℕ} {M : List ℕ} → Sofar G p a b len k x y left num need M → left ≡ 0
-    → Surveyed G p (pieces G a b len k) num need M
-sofar_ends G Z p good {a} {b} {len} {k} {x} {y} {left} {num} {need} {M} F e =
-    subst (λ (ms : List Mapping). Surveyed G p ms num need M) (sym whole) (go (any_ends is_taken W) refl F.taken)
+pub sofar_ends : (G : Granule) → Sane G → (p : Pool) → good_pool G p ≡ true → {a b len k x y left need : ℕ} {overlaps : Bool} {M : List ℕ} → Sofar G p a b len k x y left overlaps need M → left ≡ 0
+    → Surveyed G p (pieces G a b len k) (cond overlaps (Err Overlap) (Ok need)) M
+sofar_ends G Z p good {a} {b} {len} {k} {x} {y} {left} {need} {overlaps} {M} F e =
+    subst (λ (ms : List Mapping). Surveyed G p ms (cond overlaps (Err Overlap) (Ok need)) M) (sym whole) (go overlaps refl)
   where
     whole : pieces G a b len k ≡ F.before
     whole = F.is ∙ ap (λ (l : List Mapping). F.before ++ l) (tiles_none F.tiled e) ∙ append-nil F.before
@@ -368,6 +377,6 @@ sofar_ends G Z p good {a} {b} {len} {k} {x} {y} {left} {num} {need} {M} F e =
         at (yes z) = unmarked few W F.marked placed t f z ∙ rw (eq-eqb _ _ z)
         at (no z) = marked_way few W F.marked placed t z ∙ rw (ne_eqb _ _ z)
 
-    go : (v : Bool) → any_ends is_taken W ≡ v → num ≡ cond v 6 0 → Surveyed G p F.before num need M
-    go true q z = subst (λ (m : ℕ). Surveyed G p F.before m need M) (sym z) (is_taken_lem unspoiled q)
-    go false q z = subst (λ (m : ℕ). Surveyed G p F.before m need M) (sym z) (is_free unspoiled q (F.count z).is marks)
+    go : (v : Bool) → overlaps ≡ v → Surveyed G p F.before (cond v (Err Overlap) (Ok need)) M
+    go true q = is_taken_lem unspoiled (sym F.taken ∙ q)
+    go false q = is_free unspoiled (sym F.taken ∙ q) (F.count q).is marks

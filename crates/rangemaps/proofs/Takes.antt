@@ -1,7 +1,7 @@
 -- Taking tables from the end of the free list, where those that may not be taken are marked.
 use Prim.Native.Nat.{ℕ, ◌+◌, ◌-◌, ◌≤◌, ◌<◌}
 use mathlib.Core.Path.{◌≡◌, sym, ap, ◌∙◌}
-use mathlib.Core.Logic.{◌≢◌}
+use mathlib.Core.Logic.{◌≢◌, ◌⊎◌, ⊎_elim}
 use mathlib.Core.Bool.{true, false, ◌||◌, not}
 use mathlib.Core.List.{List, ◌∷◌}
 use native.Mathlib.Nat.{sub-zero}
@@ -35,13 +35,12 @@ module _ (list : List ℕ) (n : ℕ) where
       at_end : c ≡ get_or list (free - i - 1) 0
       at_end = e ∙ ap (λ (j : ℕ). get_or list j 0) (omega arith)
 
-      pub taking_none : c ≡ 0 → false ≡ may_take list n seen free need
-      taking_none z = sym (T.same ∙ take_none list n T.now (free - i) (need - i) (omega arith) at_end z)
+      pub taking_refused : (c ≡ 0) ⊎ ((c ≢ 0) × (n ≤ c)) → false ≡ may_take list n seen free need
+      taking_refused r =
+          ⊎_elim (λ z. sym (T.same ∙ take_none list n T.now (free - i) (need - i) (omega arith) at_end z))
+          (λ q. sym (T.same ∙ take_out list n T.now (free - i) (need - i) (omega arith) at_end (omega arith) q.1)) r
 
       module _ (p : c ≢ 0) where
-        pub taking_out : n ≤ c → false ≡ may_take list n seen free need
-        taking_out q = sym (T.same ∙ take_out list n T.now (free - i) (need - i) (omega arith) at_end (omega arith) q)
-
         module _ (q : c < n) where
           pub taking_marked : get_or M c 0 ≢ 0 → false ≡ may_take list n seen free need
           taking_marked r =

@@ -1,25 +1,29 @@
 -- What the words of a row say, one after the other.
 use Prim.Native.Nat.{ℕ, zero, suc, ◌+◌, ◌-◌, ◌*◌, ◌%◌, ◌^◌, ◌≤◌, ◌<◌}
 use mathlib.Core.Path.{◌≡◌, refl, sym, ap, ◌∙◌}
-use mathlib.Core.Logic.{◌≢◌}
+use mathlib.Core.Logic.{◌≢◌, ◌⊎◌, ⊎_elim}
 use mathlib.Core.Bool.{Bool, true, false, cond}
 use mathlib.Core.List.{List, [], ◌∷◌, ◌++◌}
 use native.Mathlib.Numerals.{add-one, sub-one}
 use native.Mathlib.Nat.{mul_comm, mul-le-mul_left}
 use native.Mathlib.Decide.{dec_lt}
 use native.Mathlib.Omega.{arith}
-use lib.ListN.{length, get_or, set, take, drop, length-set}
+use lib.ListN.{length, length-append, get_or, set, take, drop, length-set}
 use lib.Seq.{drop-cons, drop-length}
+use Rattle.std.specs.Prelude.{Result, Ok, Err}
 use borrow.Author.Tests.{eqb-true, eq-eqb, ne_eqb}
 use lib.Dec.{eqb}
 use Rattle.laws.specs.Lists.{part, all_zero}
 use Rattle.laws.specs.ListLaws.{drop_part, take_part, set_first, set_later}
 use Rattle.path.specs.Geometry.{Granule, entries, size_at, physical}
 use Rattle.path.specs.Areas.{Area}
+use Rattle.path.specs.Laws.{level_some}
 use Rattle.entry.specs.Words.{entry_at, attr_word, type_at, frame_word}
 use Rattle.entry.proofs.Laws.{entry_zero, and-true}
 use Rattle.entry.specs.declared.Entry.{Entry}
-use Rattle.entry.specs.declared.Entry.TheVariants.{Empty, Damaged}
+use Rattle.entry.specs.declared.Entry.TheVariants.{Empty, Table, Frame, Damaged}
+use Rattle.model.specs.declared.Refusal.{Refusal}
+use Rattle.model.specs.declared.Refusal.TheVariants.{Overlap, Damage}
 use Rattle.model.specs.Walk.{slot}
 use Rattle.model.specs.Ranges.{is_damaged, is_taken}
 use Rattle.rangemaps.specs.Rows.{any_says, met_in, begun_at, filled}
@@ -33,43 +37,62 @@ module _ (G : Granule) (area : Area) (h : ℕ) where
       let (a, b) = and-true (eqb w 0) (all_zero ws) e in
       rw (eqb-true w 0 a, entry_zero G area h, f) (says_none such f ws b)
 
-  pub met_none : (ws : List ℕ) → all_zero ws ≡ true → 0 ≡ met_in G area h 0 ws
+  pub met_none : (ws : List ℕ) → all_zero ws ≡ true → Ok 0 ≡ met_in G area h (Ok 0) ws
   unfolding met_in
   met_none ws e = sym (rw (says_none is_damaged refl ws e, says_none is_taken refl ws e))
 
-  pub met_end : (met : ℕ) (ws : List ℕ) (i : ℕ) → i ≡ length ws → met_in G area h met (drop i ws) ≡ met
+  -- what was met, at the end,
+  pub met_end : (met : Result ℕ Refusal) (ws : List ℕ) → met_in G area h met (drop (length ws) ws) ≡ met
   unfolding met_in any_says
-  met_end met ws i e = rw (e, drop-length ws)
+  met_end met ws = rw (drop-length ws)
 
-  module _ (met : ℕ) (ws : List ℕ) (i : ℕ) (l : i < length ws) {e : Entry} (q : e ≡ entry_at G area h (get_or ws i 0)) where
-    next : met_in G area h met (drop i ws) ≡ met_in G area h met (get_or ws i 0 ∷ drop (i + 1) ws)
-    next = ap (met_in G area h met) (drop-cons ws i 0 l ∙ ap (λ (j : ℕ). get_or ws i 0 ∷ drop j ws) (sym (add-one i)))
+  -- and before it by the next word's entry
+  abbrev by_next : Entry → Result ℕ Refusal → List ℕ → Result ℕ Refusal
+  by_next Damaged met ws = Err Damage
+  by_next Empty met ws = met_in G area h met ws
+  by_next (Table c) met ws = met_in G area h (Err Overlap) ws
+  by_next (Frame b k) met ws = met_in G area h (Err Overlap) ws
 
-    pub met_damaged : e ≡ Damaged → 8 ≡ met_in G area h met (drop i ws)
-    unfolding met_in any_says
-    met_damaged z = sym (next ∙ rw (sym q ∙ z))
+  met_cons : (met : Result ℕ Refusal) (w : ℕ) (ws : List ℕ) (e : Entry) → e ≡ entry_at G area h w → met_in G area h met (w ∷ ws) ≡ by_next e met ws
+  unfolding met_in any_says
+  met_cons met w ws e q = at e q
+    where
+      same : (x y : Bool) → ◌≡◌ {A = Result ℕ Refusal} (cond x (Err Damage) (cond y (Err Overlap) (Err Overlap))) (cond x (Err Damage) (Err Overlap))
+      same true y = refl
+      same false true = refl
+      same false false = refl
 
-    pub met_empty : e ≡ Empty → met_in G area h met (drop i ws) ≡ met_in G area h met (drop (i + 1) ws)
-    unfolding met_in any_says
-    met_empty z = next ∙ rw (sym q ∙ z)
+      at : (e : Entry) → e ≡ entry_at G area h w → met_in G area h met (w ∷ ws) ≡ by_next e met ws
+      at Damaged q = rw (sym q) refl
+      at Empty q = rw (sym q) refl
+      at (Table c) q = rw (sym q) (sym (same (any_says is_damaged G area h ws) (any_says is_taken G area h ws)))
+      at (Frame b k) q = rw (sym q) (sym (same (any_says is_damaged G area h ws) (any_says is_taken G area h ws)))
 
-    pub met_taken : is_taken e ≡ true → is_damaged e ≡ false → met_in G area h met (drop i ws) ≡ met_in G area h 6 (drop (i + 1) ws)
-    unfolding met_in any_says
-    met_taken z d = next ∙ rw (← q, z, d) (same (any_says is_damaged G area h (drop (i + 1) ws)) (any_says is_taken G area h (drop (i + 1) ws)))
-      where
-        same : (x y : Bool) → ◌≡◌ {A = ℕ} (cond x 8 6) (cond x 8 (cond y 6 6))
-        same true y = refl
-        same false true = refl
-        same false false = refl
+  pub met_next : (met : Result ℕ Refusal) (ws : List ℕ) (i : ℕ) → i < length ws → {e : Entry} → e ≡ entry_at G area h (get_or ws i 0)
+      → met_in G area h met (drop i ws) ≡ by_next e met (drop (i + 1) ws)
+  met_next met ws i l {e} q =
+      ap (met_in G area h met) (drop-cons ws i 0 l ∙ ap (λ (j : ℕ). get_or ws i 0 ∷ drop j ws) (sym (add-one i)))
+      ∙ met_cons met (get_or ws i 0) (drop (i + 1) ws) e q
+
+  pub met_used : (met : Result ℕ Refusal) (ws : List ℕ) (i : ℕ) → i < length ws → {e : Entry} → e ≡ entry_at G area h (get_or ws i 0)
+      → ((c : ℕ) × (e ≡ Table c)) ⊎ ((b : ℕ) × (k : ℕ) × (e ≡ Frame b k)) → met_in G area h met (drop i ws) ≡ met_in G area h (Err Overlap) (drop (i + 1) ws)
+  met_used met ws i l q u = ⊎_elim (λ t. let (c, z) = t in met_next met ws i l (sym z ∙ q)) (λ f. let (b, k, z) = f in met_next met ws i l (sym z ∙ q)) u
 
 pub filled_length : (ws : List ℕ) (place first size n : ℕ) → length (filled ws place first size n) ≡ length ws
 unfolding filled
 filled_length ws place first size zero = refl
 filled_length ws place first size (suc n) = length-set (filled ws place first size n) (place + n) (first + size * n) ∙ filled_length ws place first size n
 
+pub filled_none : (ws : List ℕ) (place first size : ℕ) → filled ws place first size 0 ≡ ws
+unfolding filled
+filled_none ws place first size = refl
+
 pub filled_more : (ws : List ℕ) (place first size n : ℕ) → set (filled ws place first size n) (place + n) (first + size * n) ≡ filled ws place first size (n + 1)
 unfolding filled
 filled_more ws place first size n = rw (add-one n)
+
+-- what `fill_run` needs
+pub ruleset fills = (filled_length, filled_none, filled_more, mul-le-mul_left)
 
 begun_suc : (G : Granule) (a h n : ℕ) → begun_at G a h (suc n) ≡ cond (eqb (a % size_at G (h + suc n)) 0) (suc n) (begun_at G a h n)
 unfolding begun_at
@@ -95,6 +118,9 @@ module _ (G : Granule) (a h n : ℕ) (l : 0 < n) where
       go zero l e = absurd (omega arith)
       go (suc n) l e = begun_suc G a h n ∙ rw (ne_eqb _ _ e) (ap (begun_at G a h) (sym (sub-one (suc n))))
 
+-- what `begun` needs
+pub ruleset begun_laws = (begun_none, begun_here, begun_below, level_some)
+
 -- words of one of two runs put together
 pub filled_left : (a b : List ℕ) (place first size n : ℕ) → place + n ≤ length a → filled (a ++ b) place first size n ≡ filled a place first size n ++ b
 unfolding filled
@@ -111,6 +137,9 @@ filled_right a b place first size (suc n) l =
     ap (λ (x : List ℕ). set x (place + n) (first + size * n)) (filled_right a b place first size n l)
     ∙ set_later a (filled b (place - length a) first size n) (place + n) (first + size * n) (omega arith)
     ∙ ap (λ (i : ℕ). a ++ set (filled b (place - length a) first size n) i (first + size * n)) e
+
+-- what `fill` needs
+pub ruleset two_runs = (filled_left, filled_right, length-append)
 
 -- the words of a row, by the part of their table
 pub row_part : (G : Granule) (ws : List ℕ) (t i n : ℕ) → i + n ≤ entries G → part ws (slot G t i) n ≡ take n (drop i (part ws (slot G t 0) (entries G)))

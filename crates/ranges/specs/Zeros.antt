@@ -3,6 +3,7 @@ use Rattle.std.specs.Prelude.{◌≡◌, refl, ℕ, zero, suc, ◌+◌, ◌*◌,
 use Rattle.std.proofs.Common.{sym, ap, ◌∙◌, zero-le, suc-le-suc, not-suc-le-zero, le_of_suc-le-suc, add-one, arith}
 use Rattle.std.proofs.Math.Nat.{mod-one}
 use Rattle.std.proofs.lemmas.Nat.{mod-pow-add}
+use Rattle.std.proofs.lemmas.Bool.Decides.{nat_tests}
 use Rattle.std.specs.Int.Count.{count_trailing_zeros, under}
 
 halve : (n k : ℕ) → n % 2 ^ suc k ≡ (n / 2 % 2 ^ k) * 2 + n % 2
@@ -28,3 +29,6 @@ divide_zeros (suc w) n (suc k) h e =
     let odd : n % 2 ≡ 0 = omega (arith, halve n k) in
     let half : n / 2 % 2 ^ k ≡ 0 = omega (arith, halve n k) in
     rw odd (suc-le-suc (divide_zeros w (n / 2) k (le_of_suc-le-suc h) half))
+
+-- what `fits` needs
+pub ruleset zero_tests = (nat_tests, zeros_divide, divide_zeros)

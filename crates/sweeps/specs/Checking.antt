@@ -33,7 +33,7 @@ use Rattle.model.proofs.RangeUnmapLaws.{few_levels}
 use Rattle.model.proofs.RangeSkips.{pages_append}
 use Rattle.marks.specs.Marks.{Noted, noted, note_way}
 use Rattle.marks.specs.MarkLaws.{Marked, Clash, Noting, agreed, clashes, marked_none, marked_like, marked_each, clash_like, clash_each, on_ways_append, note_walk, ways_from, Within}
-use Rattle.sweeps.specs.Parts.{lesser, Rest, walks_say, AllNoted, Meets, cut_or}
+use Rattle.sweeps.specs.Parts.{until_end, Rest, walks_say, AllNoted, Meets, cuts}
 use Rattle.sweeps.specs.Pages.{pages_between, pages_some, Ends, ends_at}
 use Rattle.sweeps.specs.Removing.{pages_whole}
 
@@ -100,16 +100,16 @@ first_page G x (suc k) l = (pages_from G (x + page_size G) k, refl)
 
 -- ---- what is checked so far
 
-pub record Checked (G : Granule) (p : Pool) (a len x : ℕ) (M : List ℕ) (no : ℕ) : Type 0 where
+pub record Checked (G : Granule) (p : Pool) (a len x : ℕ) (M : List ℕ) (cut : Bool) : Type 0 where
   pub pages : ℕ
   pub next_is : x ≡ a + pages * page_size G
   pub whole : x % page_size G ≡ 0
   pub long : length M ≡ 512
   pub undamaged : any_ends is_damaged (page_walks G p (pages_from G a pages)) ≡ false
   pub marked : Marked G M (on_ways G p.numbers.levels (page_walks G p (pages_from G a pages)))
-  pub cut_is : cond (any_cut_by G a len (page_walks G p (pages_from G a pages))) 10 0 ≡ no
+  pub cut_is : any_cut_by G a len (page_walks G p (pages_from G a pages)) ≡ cut
 
-pub checked_none : (G : Granule) (p : Pool) (a len : ℕ) (M : List ℕ) → M ≡ replicate 512 0 → length M ≡ 512 → a % page_size G ≡ 0 → Checked G p a len a M 0
+pub checked_none : (G : Granule) (p : Pool) (a len : ℕ) (M : List ℕ) → M ≡ replicate 512 0 → length M ≡ 512 → a % page_size G ≡ 0 → Checked G p a len a M false
 unfolding pages_from any_ends on_ways any_cut_by
 checked_none G p a len M e l w = record {
   whole = w;
@@ -122,8 +122,8 @@ checked_none G p a len M e l w = record {
 }
 
 -- no free list is read
-pub checked_like : (G : Granule) (s : Setup) (ws : List ℕ) (cut : ℕ) (k l : List ℕ) {a len x : ℕ} {M : List ℕ} {no : ℕ}
-    → Checked G (pool s ws cut k) a len x M no → Checked G (pool s ws cut l) a len x M no
+pub checked_like : (G : Granule) (s : Setup) (ws : List ℕ) (cut : ℕ) (k l : List ℕ) {a len x : ℕ} {M : List ℕ} {so : Bool}
+    → Checked G (pool s ws cut k) a len x M so → Checked G (pool s ws cut l) a len x M so
 checked_like G s ws cut k l C =
     record { pages = C.pages; next_is = C.next_is; whole = C.whole; long = C.long; undamaged = C.undamaged; marked = C.marked; cut_is = C.cut_is }
 
@@ -164,7 +164,7 @@ module _ (G : Granule) (Z : Sane G) (p : Pool) (a len : ℕ) (R : Rest G p a (a 
       ends_some is_damaged (page_walks G p (pages_of G a len)) (page_walk G p x) (mathlib.Core.List.Memᴰ.map (page_walk G p) (all_in x e l m)) (ap is_damaged d) in
       rw s
 
-  module _ {x : ℕ} {M : List ℕ} {no : ℕ} (C : Checked G p a len x M no) (m : x < end) where
+  module _ {x : ℕ} {M : List ℕ} {was : Bool} (C : Checked G p a len x M was) (m : x < end) where
     abbrev o : Walked
     o = walk_to G p 0 x
 
@@ -258,9 +258,9 @@ module _ (G : Granule) (Z : Sane G) (p : Pool) (a len : ℕ) (R : Rest G p a (a 
         beside : (l r s : List Standing) → Within r s → Within (l ++ r) (l ++ s)
         beside l r s f q i = ⊎_elim (λ j. mathlib.Core.List.Memᴰ.append_left s j) (λ j. mathlib.Core.List.Memᴰ.append_right l (f q j)) (mathlib.Core.List.Memᴰ.append_cases l i)
 
-        pub checks_some : {N : List ℕ} → length N ≡ 512 → Marked G N (on_ways G levels (done_walks ++ (page_walk G p x ∷ []))) → {no' : ℕ} → cond (cut_at G a len x o.left o.entry) 10 no ≡ no'
-            → Checked G p a len (x + count * W) N no'
-        checks_some {N} long K {no'} e = record {
+        pub checks_some : {N : List ℕ} → length N ≡ 512 → Marked G N (on_ways G levels (done_walks ++ (page_walk G p x ∷ []))) → {now : Bool} → (was || cut_at G a len x o.left o.entry) ≡ now
+            → Checked G p a len (x + count * W) N now
+        checks_some {N} long K {now} e = record {
           pages = C.pages + count;
           next_is = omega (arith, C.next_is, add-mul C.pages count W);
           whole = pages_whole G count x C.whole;
@@ -274,16 +274,9 @@ module _ (G : Granule) (Z : Sane G) (p : Pool) (a len : ℕ) (R : Rest G p a (a 
               (marked_like (subst (Marked G N) (on_ways_append G levels done_walks (page_walk G p x ∷ [])) K)
               (beside (on_ways G levels done_walks) (on_ways G levels (page_walk G p x ∷ [])) (on_ways G levels (page_walks G p (pages_from G x count))) one_within)
               (beside (on_ways G levels done_walks) (on_ways G levels (page_walks G p (pages_from G x count))) (on_ways G levels (page_walk G p x ∷ [])) within_one)));
-          cut_is = ap (λ (l : List Probe). cond (any_cut_by G a len l) 10 0) more_walks
-              ∙ ap (λ (y : Bool). cond y 10 0) (cuts_append G a len done_walks (page_walks G p (pages_from G x count)) ∙ ap (λ (y : Bool). any_cut_by G a len done_walks || y) cuts_so)
-              ∙ turn (any_cut_by G a len done_walks) (cut_at G a len x o.left o.entry) ∙ ap (λ (n : ℕ). cond (cut_at G a len x o.left o.entry) 10 n) C.cut_is ∙ e;
+          cut_is = ap (any_cut_by G a len) more_walks ∙ cuts_append G a len done_walks (page_walks G p (pages_from G x count))
+              ∙ (λ i. C.cut_is i || cuts_so i) ∙ e;
         }
-          where
-            turn : (u v : Bool) → ◌≡◌ {A = ℕ} (cond (u || v) 10 0) (cond v 10 (cond u 10 0))
-            turn true true = refl
-            turn true false = refl
-            turn false true = refl
-            turn false false = refl
 
       -- the pages up to where the walk's region ends are
       module _ {next : ℕ} (E : Ends G x o.left end next) where
@@ -326,32 +319,32 @@ module _ (G : Granule) (Z : Sane G) (p : Pool) (a len : ℕ) (R : Rest G p a (a 
             same_cut y r (Table c) = refl
             same_cut y r Damaged = refl
 
-        pub checks_on : {N : List ℕ} → length N ≡ 512 → Marked G N (on_ways G levels (done_walks ++ (page_walk G p x ∷ []))) → {no' : ℕ} → cond (cut_at G a len x o.left o.entry) 10 no ≡ no'
-            → Checked G p a len next N no'
-        checks_on {N} long K {no'} e = subst (λ (z : ℕ). Checked G p a len z N no') (sym count_is) (checks_some count (pages_some G count count_is E.further) like_this cuts_so long K e)
+        pub checks_on : {N : List ℕ} → length N ≡ 512 → Marked G N (on_ways G levels (done_walks ++ (page_walk G p x ∷ []))) → {now : Bool} → (was || cut_at G a len x o.left o.entry) ≡ now
+            → Checked G p a len next N now
+        checks_on {N} long K {now} e = subst (λ (z : ℕ). Checked G p a len z N now) (sym count_is) (checks_some count (pages_some G count count_is E.further) like_this cuts_so long K e)
 
   -- all are checked
-  pub checked_all : {x : ℕ} {M : List ℕ} {no : ℕ} → Checked G p a len x M no → x ≡ end → no ≡ walks_say G p a len
+  pub checked_all : {x : ℕ} {M : List ℕ} {cut : Bool} → Checked G p a len x M cut → x ≡ end → cond cut 10 0 ≡ walks_say G p a len
   unfolding walks_say
-  checked_all {x} {M} {no} C e =
+  checked_all {x} {M} {cut} C e =
       let s : len ≡ C.pages * W = omega (arith, C.next_is) in
       let k : len / W ≡ C.pages = ap (λ (z : ℕ). z / W) s ∙ mul-div_cancel C.pages (page_pos G) in
-      subst (λ (i : ℕ). no ≡ cond (spoiled G levels (page_walks G p (pages_from G a i))) 8 (cond (any_cut_by G a len (page_walks G p (pages_from G a i))) 10 0)) (sym k)
-      (rw (C.undamaged, marked_each C.marked) (sym C.cut_is))
+      subst (λ (i : ℕ). ◌≡◌ {A = ℕ} (cond cut 10 0) (cond (spoiled G levels (page_walks G p (pages_from G a i))) 8 (cond (any_cut_by G a len (page_walks G p (pages_from G a i))) 10 0))) (sym k)
+      (rw (C.undamaged, marked_each C.marked) (ap (λ (y : Bool). cond y 10 0) (sym C.cut_is)))
 
   -- and every table on their ways is marked
-  pub checked_noted : {x : ℕ} {M : List ℕ} {no : ℕ} → Checked G p a len x M no → x ≡ end → AllNoted G p a len M
-  checked_noted {x} {M} {no} C e y i j u v z =
+  pub checked_noted : {x : ℕ} {M : List ℕ} {cut : Bool} → Checked G p a len x M cut → x ≡ end → AllNoted G p a len M
+  checked_noted {x} {M} {cut} C e y i j u v z =
       let s : len ≡ C.pages * W = omega (arith, C.next_is) in
       let k : len / W ≡ C.pages = ap (λ (z : ℕ). z / W) s ∙ mul-div_cancel C.pages (page_pos G) in
       let m : Memᴰ y (pages_from G a C.pages) = subst (λ (n : ℕ). Memᴰ y (pages_from G a n)) k i in
       let S = C.marked.shown (standing_at G y (walk_to G p 0 y).tables j) (ways_has G levels (page_walks G p (pages_from G a C.pages)) (page_walk G p y) (mathlib.Core.List.Memᴰ.map (page_walk G p) m) j u v) in
       omega (arith, S.mark, z)
 
--- the number that the code has of a cut
-pub cut_or_lem : (G : Granule) (a len x was : ℕ) {o : Walked} {met : ℕ} {way : List ℕ} → Meets o met way → met < 8
-    → cond (cut_at G a len x o.left o.entry) 10 was ≡ cut_or was met a (a + len) (base_at G x o.left) (size_at G o.left)
-cut_or_lem G a len x was {o} {met} K l = go (dec_lt met 4)
+-- what the code has of a cut
+pub cuts_lem : (G : Granule) (a len x : ℕ) {o : Walked} {frame : Bool} {left : ℕ} {way : List ℕ} → Meets o frame left way
+    → cut_at G a len x o.left o.entry ≡ cuts frame (base_at G x o.left) (size_at G o.left) a (a + len)
+cuts_lem G a len x {o} {frame} K = go frame refl
   where
     b : ℕ
     b = base_at G x o.left
@@ -359,58 +352,53 @@ cut_or_lem G a len x was {o} {met} K l = go (dec_lt met 4)
     s : ℕ
     s = size_at G o.left
 
-    cut : Dec (b < a) → Dec (a + len < b + s) → cond (not (inside a len b s)) 10 was ≡ cond (ltb b a) 10 (cond (ltb (a + len) (b + s)) 10 was)
+    cut : Dec (b < a) → Dec (a + len < b + s) → not (inside a len b s) ≡ (ltb b a || ltb (a + len) (b + s))
     cut (yes u) v = rw (lt-leb a b u, lt-ltb b a u)
     cut (no u) (yes v) = rw (le-leb a b (omega arith), le-ltb b a (omega arith), lt-leb (b + s) (a + len) v, lt-ltb (a + len) (b + s) v)
     cut (no u) (no v) = rw (le-leb a b (omega arith), le-ltb b a (omega arith), le-leb (b + s) (a + len) (omega arith), le-ltb (a + len) (b + s) (omega arith))
 
-    go : Dec (met < 4) → cond (cut_at G a len x o.left o.entry) 10 was ≡ cut_or was met a (a + len) b s
-    go (yes m) = rw (lt-ltb met 4 m) (ap (λ (e : Entry). cond (cut_at G a len x o.left e) 10 was) (K.empty m))
-    go (no m) =
-        let (f, k, e) = K.frame (omega arith) l in
-        rw (le-ltb met 4 (omega arith)) (ap (λ (e : Entry). cond (cut_at G a len x o.left e) 10 was) e ∙ cut (dec_lt b a) (dec_lt (a + len) (b + s)))
+    go : (y : Bool) → frame ≡ y → cut_at G a len x o.left o.entry ≡ cuts y b s a (a + len)
+    go false e = ap (cut_at G a len x o.left) (K.empty e)
+    go true e = let (f, k, q) = K.framed e in ap (cut_at G a len x o.left) q ∙ cut (dec_lt b a) (dec_lt (a + len) (b + s))
+
+-- a walk that met a hole or a frame met no damage
+pub met_sound : {o : Walked} {frame : Bool} {left : ℕ} {way : List ℕ} → Meets o frame left way → o.entry ≢ Damaged
+met_sound {o} {frame} K d = go frame refl
+  where
+    go : (y : Bool) → frame ≡ y → ⊥
+    go false e = let q = K.empty e in clash (cc)
+    go true e = let (b, k, q) = K.framed e in clash (cc)
 
 -- a turn of the check, by what the code has of it
-module _ (G : Granule) (Z : Sane G) (p : Pool) (a len : ℕ) (R : Rest G p a (a + len)) {x : ℕ} {M : List ℕ} {was : ℕ} (C : Checked G p a len x M was) (more : x < a + len)
-    {met : ℕ} {way : List ℕ} (K : Meets (walk_to G p 0 x) met way) where
+module _ (G : Granule) (Z : Sane G) (p : Pool) (a len : ℕ) (R : Rest G p a (a + len)) {x : ℕ} {M : List ℕ} {was : Bool} (C : Checked G p a len x M was) (more : x < a + len) where
   abbrev walk : Walked
   walk = walk_to G p 0 x
 
-  pub turn_damaged : 8 ≤ met → 8 ≡ walks_say G p a len
-  turn_damaged l = walk_spoils G Z p a len R x C.whole (omega (arith, C.next_is)) more (K.damage l)
+  pub turn_damaged : walk.entry ≡ Damaged → 8 ≡ walks_say G p a len
+  turn_damaged d = walk_spoils G Z p a len R x C.whole (omega (arith, C.next_is)) more d
 
-  pub turn_sound : met < 8 → walk.entry ≢ Damaged
-  turn_sound l d = go (dec_lt met 4)
-    where
-      go : Dec (met < 4) → ⊥
-      go (yes m) = let e = K.empty m in clash (cc)
-      go (no m) = let (b, k, e) = K.frame (omega arith) l in clash (cc)
+  module _ {frame : Bool} {left : ℕ} {way : List ℕ} (K : Meets walk frame left way) where
+    pub noting : Noting G (on_ways G p.numbers.levels (page_walks G p (pages_from G a C.pages) ++ (page_walk G p x ∷ []))) (note_way G M x way left p.numbers.levels)
+    noting =
+        subst (Noting G (on_ways G p.numbers.levels (page_walks G p (pages_from G a C.pages) ++ (page_walk G p x ∷ []))))
+        ((λ i. note_way G M x (K.tables_are i) (K.left_is i) p.numbers.levels)) (notes G Z p a len R C more (met_sound K))
 
-  pub noting : (l : met < 8) → Noting G (on_ways G p.numbers.levels (page_walks G p (pages_from G a C.pages) ++ (page_walk G p x ∷ []))) (note_way G M x way (met % 4) p.numbers.levels)
-  noting l =
-      subst (Noting G (on_ways G p.numbers.levels (page_walks G p (pages_from G a C.pages) ++ (page_walk G p x ∷ []))))
-      ((λ i. note_way G M x (K.tables_are l i) (K.left_is l i) p.numbers.levels)) (notes G Z p a len R C more (turn_sound l))
+    pub turn_clash : {N : List ℕ} → noted false N ≡ note_way G M x way left p.numbers.levels → 8 ≡ walks_say G p a len
+    turn_clash {N} e = go (note_way G M x way left p.numbers.levels) noting e
+      where
+        go : (n : Noted) → Noting G (on_ways G p.numbers.levels (page_walks G p (pages_from G a C.pages) ++ (page_walk G p x ∷ []))) n → noted false N ≡ n → 8 ≡ walks_say G p a len
+        go n (agreed Q) e = clash (cc (ap (λ (y : Noted). y.fine) e))
+        go n (clashes Q) e = clash_spoils G Z p a len R C more (met_sound K) Q
 
-  pub turn_clash : met < 8 → {N : List ℕ} → noted false N ≡ note_way G M x way (met % 4) p.numbers.levels → 8 ≡ walks_say G p a len
-  turn_clash l {N} e = go (note_way G M x way (met % 4) p.numbers.levels) (noting l) e
-    where
-      go : (n : Noted) → Noting G (on_ways G p.numbers.levels (page_walks G p (pages_from G a C.pages) ++ (page_walk G p x ∷ []))) n → noted false N ≡ n → 8 ≡ walks_say G p a len
-      go n (agreed Q) e = clash (cc (ap (λ (y : Noted). y.fine) e))
-      go n (clashes Q) e = clash_spoils G Z p a len R C more (turn_sound l) Q
-
-  pub turn_on : met < 8 → {N : List ℕ} → length N ≡ length M → noted true N ≡ note_way G M x way (met % 4) p.numbers.levels
-      → {base size no' next : ℕ} → base ≡ base_at G x (met % 4) → size ≡ size_at G (met % 4) → no' ≡ cut_or was met a (a + len) base size → next ≡ lesser (base + size) (a + len)
-      → Checked G p a len next N no' × (x < next) × (next ≤ a + len)
-  turn_on l {N} long e {base} {size} {no'} {next} b s c n =
-      let h : walk.left ≡ met % 4 = K.left_is l in
-      let b' : base ≡ base_at G x walk.left = b ∙ ap (base_at G x) (sym h) in
-      let s' : size ≡ size_at G walk.left = s ∙ ap (size_at G) (sym h) in
-      let E : Ends G x walk.left (a + len) next = subst (Ends G x walk.left (a + len)) (sym (n ∙ (λ i. lesser (b' i + s' i) (a + len)))) (ends_at G x walk.left (a + len) more R.ends) in
-      let d : cond (cut_at G a len x walk.left walk.entry) 10 was ≡ no' = cut_or_lem G a len x was K l ∙ sym (c ∙ (λ i. cut_or was met a (a + len) (b' i) (s' i))) in
-      (go (note_way G M x way (met % 4) p.numbers.levels) (noting l) e E d, E.further, E.in_range)
-    where
-      go : (n : Noted) → Noting G (on_ways G p.numbers.levels (page_walks G p (pages_from G a C.pages) ++ (page_walk G p x ∷ []))) n → noted true N ≡ n
-          → Ends G x walk.left (a + len) next → cond (cut_at G a len x walk.left walk.entry) 10 was ≡ no' → Checked G p a len next N no'
-      go n (agreed Q) e E d =
-          checks_on G Z p a len R C more (turn_sound l) E (long ∙ C.long) (subst (λ (y : List ℕ). Marked G y (on_ways G p.numbers.levels (page_walks G p (pages_from G a C.pages) ++ (page_walk G p x ∷ [])))) (sym (ap (λ (y : Noted). y.marks) e)) Q) d
-      go n (clashes Q) e E d = clash (cc (ap (λ (y : Noted). y.fine) e))
+    pub turn_on : {N : List ℕ} → length N ≡ length M → noted true N ≡ note_way G M x way left p.numbers.levels
+        → {now : Bool} → (was || cut_at G a len x walk.left walk.entry) ≡ now → Checked G p a len (until_end G x left (a + len)) N now × (x < until_end G x left (a + len)) × (until_end G x left (a + len) ≤ a + len)
+    turn_on {N} long e {now} d =
+        let E : Ends G x walk.left (a + len) (until_end G x left (a + len)) =
+        subst (λ (h : ℕ). Ends G x walk.left (a + len) (until_end G x h (a + len))) K.left_is (ends_at G x walk.left (a + len) more R.ends) in
+        (go (note_way G M x way left p.numbers.levels) noting e E, E.further, E.in_range)
+      where
+        go : (n : Noted) → Noting G (on_ways G p.numbers.levels (page_walks G p (pages_from G a C.pages) ++ (page_walk G p x ∷ []))) n → noted true N ≡ n
+            → {next : ℕ} → Ends G x walk.left (a + len) next → Checked G p a len next N now
+        go n (agreed Q) e E =
+            checks_on G Z p a len R C more (met_sound K) E (long ∙ C.long) (subst (λ (y : List ℕ). Marked G y (on_ways G p.numbers.levels (page_walks G p (pages_from G a C.pages) ++ (page_walk G p x ∷ [])))) (sym (ap (λ (y : Noted). y.marks) e)) Q) d
+        go n (clashes Q) e E = clash (cc (ap (λ (y : Noted). y.fine) e))

@@ -1,19 +1,19 @@
 -- Laws of addresses that are multiples of a page, and of how many pages there are between two.
-use Rattle.std.specs.Prelude.{ℕ, zero, suc, ◌+◌, ◌-◌, ◌*◌, ◌/◌, ◌%◌, ◌≤◌, ◌<◌, ◌≡◌, refl}
-use Rattle.std.proofs.Common.{ap, sym, ◌∙◌, subst, add-mul, div-add-mod', le_of_mul-le-mul_right, arith, lt-ltb, le-ltb}
+use Rattle.std.specs.Prelude.{ℕ, zero, suc, ◌+◌, ◌-◌, ◌*◌, ◌/◌, ◌%◌, ◌≤◌, ◌<◌, ◌≡◌, refl, min}
+use Rattle.std.proofs.Common.{ap, sym, ◌∙◌, subst, add-mul, div-add-mod', le_of_mul-le-mul_right, arith}
 use Rattle.std.proofs.Math.Decide.{dec_lt}
 use Rattle.path.specs.Geometry.{Granule, page_size, size_at}
 use Rattle.path.specs.Laws.{page_pos, size_zero}
 use Rattle.path.specs.Paths.{base_at}
 use Rattle.path.specs.RegionLaws.{base_aligned, base_end, end_aligned}
-use Rattle.sweeps.specs.Parts.{lesser, until_end}
+use Rattle.sweeps.specs.Parts.{until_end}
 
-pub lesser_is : (P : ℕ → Type 0) (a b : ℕ) → (a ≤ b → P a) → (b ≤ a → P b) → P (lesser a b)
-lesser_is P a b f g = go (dec_lt a b)
+pub min_is : (P : ℕ → Type 0) (a b : ℕ) → (a ≤ b → P a) → (b ≤ a → P b) → P (min a b)
+min_is P a b f g = go (dec_lt a b)
   where
-    go : Dec (a < b) → P (lesser a b)
-    go (yes l) = rw (lt-ltb a b l) (f (omega arith))
-    go (no l) = rw (le-ltb a b (omega arith)) (g (omega arith))
+    go : Dec (a < b) → P (min a b)
+    go (yes l) = let e : min a b ≡ a = omega arith in subst P (sym e) (f (omega arith))
+    go (no l) = let e : min a b ≡ b = omega arith in subst P (sym e) (g (omega arith))
 
 module _ (G : Granule) where
   abbrev W : ℕ
@@ -42,7 +42,7 @@ module _ (G : Granule) where
 
   pub ends_at : (x h end : ℕ) → x < end → end % W ≡ 0 → Ends x h end (until_end G x h end)
   ends_at x h end l e =
-      lesser_is (Ends x h end) (base_at G x h + size_at G h) end
+      min_is (Ends x h end) (base_at G x h + size_at G h) end
       (λ m. record {
         further = base_end G x h;
         in_range = m;

@@ -1,5 +1,5 @@
 -- Parts of unmapping a range, as its code is divided.
-use Rattle.std.specs.Prelude.{ℕ, zero, suc, ◌+◌, ◌-◌, ◌*◌, ◌%◌, ◌≤◌, ◌<◌, ◌≡◌, ◌≢◌, ◌⊎◌, Bool, true, cond, ◌||◌, not, ltb, eqb, length, get_or, set}
+use Rattle.std.specs.Prelude.{ℕ, zero, suc, ◌+◌, ◌-◌, ◌*◌, ◌%◌, ◌≤◌, ◌<◌, ◌≡◌, ◌≢◌, ◌⊎◌, Bool, true, false, cond, ◌&&◌, ◌||◌, not, Option, Some, None, min, ltb, eqb, length, get_or, set}
 use mathlib.Core.List.{List, [], ◌∷◌, Memᴰ}
 use Rattle.laws.specs.Lists.{part}
 use Rattle.path.specs.Geometry.{Granule, page_size, entries, size_at, physical, space_of}
@@ -13,13 +13,9 @@ use Rattle.model.specs.Calls.{good_pool, walk_to, unmap_w}
 use Rattle.model.specs.Ranges.{unmap_range_tests, pages_from, pages_of, page_walks, is_damaged, spoiled, any_cut_by, left_by, answers_of, sum_of, accepted_in}
 use Rattle.ranges.specs.Stretches.{stretch_at}
 
--- the lesser of two numbers
-abbrev pub lesser : ℕ → ℕ → ℕ
-lesser a b = cond (ltb a b) a b
-
 -- the end of the region of height h that holds an address, or of the range
 abbrev pub until_end : Granule → ℕ → ℕ → ℕ → ℕ
-until_end G x h end = lesser (base_at G x h + size_at G h) end
+until_end G x h end = min (base_at G x h + size_at G h) end
 
 -- a good pool and a part of a range that is left, of whole pages, in the space
 pub record Rest (G : Granule) (p : Pool) (a end : ℕ) : Type 0 where
@@ -59,17 +55,16 @@ abbrev pub AllNoted : Granule → Pool → ℕ → ℕ → List ℕ → Type 0
 AllNoted G p a len M =
     (x : ℕ) → Memᴰ x (pages_of G a len) → (j : ℕ) → (walk_to G p 0 x).left ≤ j → j < p.numbers.levels → get_or M (at_height (walk_to G p 0 x).tables j) 0 ≢ 0
 
--- what a walk met, as a number: below 4 a hole, below 8 a frame, and the height is added; else damage
-pub record Meets (o : Walked) (met : ℕ) (way : List ℕ) : Type 0 where
-  pub damage : 8 ≤ met → o.entry ≡ Damaged
-  pub frame : 4 ≤ met → met < 8 → (b : ℕ) × (k : ℕ) × (o.entry ≡ Frame b k)
-  pub empty : met < 4 → o.entry ≡ Empty
-  pub left_is : met < 8 → o.left ≡ met % 4
-  pub tables_are : met < 8 → o.tables ≡ way
+-- a walk met no damage but a frame, or where `frame` is false a hole; the height where it ended, and the tables on the way
+pub record Meets (o : Walked) (frame : Bool) (left : ℕ) (way : List ℕ) : Type 0 where
+  pub framed : frame ≡ true → (b : ℕ) × (k : ℕ) × (o.entry ≡ Frame b k)
+  pub empty : frame ≡ false → o.entry ≡ Empty
+  pub left_is : o.left ≡ left
+  pub tables_are : o.tables ≡ way
 
--- 10 where a walk met a frame and the range up to `end` cuts its mapping, else the number from before
-abbrev pub cut_or : ℕ → ℕ → ℕ → ℕ → ℕ → ℕ → ℕ
-cut_or before met a end base size = cond (ltb met 4) before (cond (ltb base a) 10 (cond (ltb end (base + size)) 10 before))
+-- whether a walk met a frame and the range up to `end` cuts its mapping
+abbrev pub cuts : Bool → ℕ → ℕ → ℕ → ℕ → Bool
+cuts frame base size a end = frame && (ltb base a || ltb end (base + size))
 
 -- how many numbers are not 0
 unfoldable pub in_use : List ℕ → ℕ
@@ -93,11 +88,11 @@ misfits_in G (w ∷ ws) = cond (is_fine G w) 0 1 + misfits_in G ws
 abbrev pub row_of : Granule → List ℕ → ℕ → ℕ → ℕ → List ℕ
 row_of G ws t x end = part ws (slot G t (index_at G x 0)) (stretch_at G x (end - x) 0)
 
--- where walks go on after one for x that ended at a height: past its region, or at the last level past its row, and 0 where the row has a damaged word
-pub record Beyond (G : Granule) (ws : List ℕ) (t x left end next : ℕ) : Type 0 where
-  pub past_region : 0 < left → next ≡ until_end G x left end
-  pub faulty : left ≡ 0 → misfits_in G (row_of G ws t x end) ≢ 0 → next ≡ 0
-  pub past_row : left ≡ 0 → misfits_in G (row_of G ws t x end) ≡ 0 → next ≡ x + stretch_at G x (end - x) 0 * page_size G
+-- where walks go on after one for x that ended at a height: past its region, or at the last level past its row, unless the row has a damaged word
+pub record Beyond (G : Granule) (ws : List ℕ) (t x left end : ℕ) (next : Option ℕ) : Type 0 where
+  pub past_region : 0 < left → next ≡ Some (until_end G x left end)
+  pub faulty : left ≡ 0 → misfits_in G (row_of G ws t x end) ≢ 0 → next ≡ None
+  pub past_row : left ≡ 0 → misfits_in G (row_of G ws t x end) ≡ 0 → next ≡ Some (x + stretch_at G x (end - x) 0 * page_size G)
 
 -- how many words of table t are
 abbrev pub used_in : Granule → List ℕ → ℕ → ℕ

@@ -1,6 +1,6 @@
 -- Laws of unmapping from page to page: what an unmap finds, a mapping or a hole, is done with it.
 use Prim.Native.Nat.{ℕ, zero, suc, ◌+◌, ◌-◌, ◌*◌, ◌%◌, ◌≤◌, ◌<◌}
-use Rattle.std.specs.Prelude.{◌≡◌, true, ltb, eqb}
+use Rattle.std.specs.Prelude.{◌≡◌, true, min, ltb, eqb}
 use Rattle.std.proofs.Math.Path.{refl, ap}
 use Rattle.std.proofs.Common.{sym, ◌∙◌, subst, add-mul, le-mul_of_pos_right, eqb-true}
 use mathlib.Core.List.{List, ◌++◌, Memᴰ}
@@ -26,7 +26,7 @@ use Rattle.model.proofs.RangeUnmapLaws.{few_levels}
 use Rattle.model.proofs.RangeUnmapLaws.{given_at, removed_at}
 use Rattle.model.proofs.RangeSkips.{left_append, answers_append, sum_append, pages_append, hole_skip, frame_skip}
 use Rattle.model.specs.RangeSkips.{Passed}
-use Rattle.sweeps.specs.Parts.{Rest, Removes, until_end, lesser}
+use Rattle.sweeps.specs.Parts.{Rest, Removes, until_end}
 use Rattle.sweeps.specs.Pages.{pages_between, pages_some, Ends, ends_at}
 
 -- ---- what one unmap comes to, of any pool
@@ -167,11 +167,11 @@ module _ (G : Granule) (Z : Sane G) (p : Pool) (x end : ℕ) (R : Rest G p x end
   within y i e z m = let (a, b, _) = pages_from_lem G i x z R.starts m in (a, omega arith)
 
   -- a hole is passed over whole
-  pub hole_step : o.entry ≡ Empty → {b s next : ℕ} → b ≡ base_at G x o.left → s ≡ size_at G o.left → next ≡ lesser (b + s) end
+  pub hole_step : o.entry ≡ Empty → {b s next : ℕ} → b ≡ base_at G x o.left → s ≡ size_at G o.left → next ≡ min (b + s) end
       → Removes G p x next 0 0 p × (x < next) × (next ≤ end)
   hole_step e {b} {s} {next} u v n =
       let h = o.left in
-      let E : Ends G x h end next = subst (Ends G x h end) (sym (n ∙ (λ i. lesser (u i + v i) end))) (ends_at G x h end l R.ends) in
+      let E : Ends G x h end next = subst (Ends G x h end) (sym (n ∙ (λ i. min (u i + v i) end))) (ends_at G x h end l R.ends) in
       let (i, q) = pages_between G x next R.starts E.whole (omega (arith, E.further)) in (
         passed_removes G i q (hole_skip G p few x e (pages_from G x i) (λ y m. let (a, c) = within next i q y m in
             base_region G x y h (sym (base_inside G (base_at G x h) y h (base_aligned G x h) (omega (arith, base_le G x h)) (omega (arith, E.in_region)))))),
@@ -181,12 +181,12 @@ module _ (G : Granule) (Z : Sane G) (p : Pool) (x end : ℕ) (R : Rest G p x end
 
   -- so is a mapping that is removed
   pub frame_step : (f k : ℕ) → o.entry ≡ Frame f k → x % size_at G o.left ≡ 0 → {s t next : ℕ} → s ≡ size_at G o.left
-      → unmap_w G p x ≡ done (gave f s k t) (removed_at G p x) → next ≡ lesser (x + s) end
+      → unmap_w G p x ≡ done (gave f s k t) (removed_at G p x) → next ≡ min (x + s) end
       → Removes G p x next 1 t (removed_at G p x) × (x < next) × (next ≤ end)
   frame_step f k e a {s} {t} {next} v c n =
       let h = o.left in
       let b : base_at G x h ≡ x = aligned_base G x h a in
-      let E : Ends G x h end next = subst (Ends G x h end) (sym (n ∙ (λ i. lesser (sym b i + v i) end))) (ends_at G x h end l R.ends) in
+      let E : Ends G x h end next = subst (Ends G x h end) (sym (n ∙ (λ i. min (sym b i + v i) end))) (ends_at G x h end l R.ends) in
       let first = one_removes G c in
       let (i, q) = pages_between G (x + w₁) next (page_next G x R.starts) E.whole (start next E.further E.whole) in
       let rest : Passed G (removed_at G p x) (pages_from G (x + w₁) i) =

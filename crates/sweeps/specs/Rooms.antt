@@ -76,8 +76,7 @@ sweep_none G Z {p} {a} {len} A l f = swept_none G Z p a len (allowed_ok G Z A) (
 
 -- ---- a turn of the sweep
 
-module _ (G : Granule) (Z : Sane G) (p : Pool) (a len : ℕ) (R : Rest G p a (a + len)) {x : ℕ} {C : List ℕ} {free : ℕ} (S : Swept G p a len x C free) (more : x < a + len)
-    {met : ℕ} {way : List ℕ} (K : Meets (walk_to G p 0 x) met way) where
+module _ (G : Granule) (Z : Sane G) (p : Pool) (a len : ℕ) (R : Rest G p a (a + len)) {x : ℕ} {C : List ℕ} {free : ℕ} (S : Swept G p a len x C free) (more : x < a + len) where
   abbrev o : Walked
   o = walk_to G p 0 x
 
@@ -87,50 +86,46 @@ module _ (G : Granule) (Z : Sane G) (p : Pool) (a len : ℕ) (R : Rest G p a (a 
   x_in : Memᴰ x (pages_from G x S.rest)
   x_in = pages_has G S.rest x x S.ok.aligned S.ok.aligned (omega arith) (omega (arith, S.next_is, S.all_pages, add-mul S.pages S.rest (page_size G)))
 
-  pub sweep_sound : met < 8
-  sweep_sound = go (dec_lt met 8)
-    where
-      go : Dec (met < 8) → met < 8
-      go (yes l) = l
-      go (no l) =
-          let d : o.entry ≡ Damaged = K.damage (omega arith) in
-          absurd (⊎_elim (λ e. S.ok.undamaged x x_in (ap (λ (w : Walked). w.entry) e ∙ d)) (λ e. let z = e.0 in clash (cc)) (S.along x x_in))
+  -- it meets no damage
+  pub sweep_sound : o.entry ≢ Damaged
+  sweep_sound d = ⊎_elim (λ e. S.ok.undamaged x x_in (ap (λ (w : Walked). w.entry) e ∙ d)) (λ e. let z = e.0 in clash (cc)) (S.along x x_in)
 
-  ends : {next : ℕ} → next ≡ until_end G x (met % 4) (a + len) → Ends G x o.left (a + len) next
-  ends n = subst (Ends G x o.left (a + len)) (sym (n ∙ ap (λ (h : ℕ). until_end G x h (a + len)) (sym (K.left_is sweep_sound)))) (ends_at G x o.left (a + len) more R.ends)
-
-  pub sweep_on : {next : ℕ} → next ≡ until_end G x (met % 4) (a + len) → (x < next) × (next ≤ a + len)
-  sweep_on n = ((ends n).further, (ends n).in_range)
-
-  pub sweep_hole : met < 4 → {next : ℕ} → next ≡ until_end G x (met % 4) (a + len) → Swept G p a len next C free
-  sweep_hole l n = hole_swept G Z p a len S few more (ends n) (K.empty l)
-
-  module _ (l : 4 ≤ met) {f : ℕ} {D : List ℕ} (e : lowered f D ≡ lower_from C way (met % 4) (p.numbers.levels - 1 - met % 4)) where
-    same : lower_from C o.tables o.left (p.numbers.levels - 1 - o.left) ≡ lowered f D
-    same = (λ i. lower_from C (K.tables_are sweep_sound i) (K.left_is sweep_sound i) (p.numbers.levels - 1 - K.left_is sweep_sound i)) ∙ sym e
-
-    pub sweep_full : total (area_of p.numbers) - 1 < free + f → any_refused 8 (answers_of (unmap_w G) p (pages_of G a len)) ≡ true
-    sweep_full m =
-        let (b, c, z) = K.frame l sweep_sound in
-        full_swept G Z p a len S few more (ends refl) b c z (subst (λ (w : Lowered). total (area_of p.numbers) - 1 < free + w.freed) (sym same) m)
-
-    pub sweep_frame : free + f ≤ total (area_of p.numbers) - 1 → {next : ℕ} → next ≡ until_end G x (met % 4) (a + len) → Swept G p a len next D (free + f)
-    sweep_frame m {next} n =
-        let (b, c, z) = K.frame l sweep_sound in
-        subst (λ (w : Lowered). Swept G p a len next w.counts (free + w.freed)) same
-        (frame_swept G Z p a len S few more (ends n) b c z (subst (λ (w : Lowered). free + w.freed ≤ total (area_of p.numbers) - 1) (sym same) m))
-
-    -- no more tables come back than there are heights
-    pub sweep_few : f ≤ p.numbers.levels
-    sweep_few = omega (arith, ap (λ (w : Lowered). w.freed) e, lower_most way (p.numbers.levels - 1 - met % 4) (met % 4) C)
-
-  -- the height where a look ended is one of the tree's
-  pub sweep_height : met % 4 ≤ p.numbers.levels - 1
-  sweep_height = omega (arith, K.left_is sweep_sound, left_low G (area_of p.numbers) p.words 0 (path_of G x) (p.numbers.levels - 1) no_way 0)
-
-  -- and a free count is one of the pool's
+  -- a free count is one of the pool's
   pub sweep_free : free < 512
   sweep_free = omega (arith, S.free_is, good_setup_lem S.ok.good)
+
+  module _ {frame : Bool} {left : ℕ} {way : List ℕ} (K : Meets (walk_to G p 0 x) frame left way) where
+    ends : Ends G x o.left (a + len) (until_end G x left (a + len))
+    ends = subst (λ (h : ℕ). Ends G x o.left (a + len) (until_end G x h (a + len))) K.left_is (ends_at G x o.left (a + len) more R.ends)
+
+    pub sweep_on : (x < until_end G x left (a + len)) × (until_end G x left (a + len) ≤ a + len)
+    sweep_on = (ends.further, ends.in_range)
+
+    pub sweep_hole : frame ≡ false → Swept G p a len (until_end G x left (a + len)) C free
+    sweep_hole f = hole_swept G Z p a len S few more ends (K.empty f)
+
+    module _ (l : frame ≡ true) {f : ℕ} {D : List ℕ} (e : lowered f D ≡ lower_from C way left (p.numbers.levels - 1 - left)) where
+      same : lower_from C o.tables o.left (p.numbers.levels - 1 - o.left) ≡ lowered f D
+      same = (λ i. lower_from C (K.tables_are i) (K.left_is i) (p.numbers.levels - 1 - K.left_is i)) ∙ sym e
+
+      pub sweep_full : total (area_of p.numbers) - 1 < free + f → any_refused 8 (answers_of (unmap_w G) p (pages_of G a len)) ≡ true
+      sweep_full m =
+          let (b, c, z) = K.framed l in
+          full_swept G Z p a len S few more ends b c z (subst (λ (w : Lowered). total (area_of p.numbers) - 1 < free + w.freed) (sym same) m)
+
+      pub sweep_frame : free + f ≤ total (area_of p.numbers) - 1 → Swept G p a len (until_end G x left (a + len)) D (free + f)
+      sweep_frame m =
+          let (b, c, z) = K.framed l in
+          subst (λ (w : Lowered). Swept G p a len (until_end G x left (a + len)) w.counts (free + w.freed)) same
+          (frame_swept G Z p a len S few more ends b c z (subst (λ (w : Lowered). free + w.freed ≤ total (area_of p.numbers) - 1) (sym same) m))
+
+      -- no more tables come back than there are heights
+      pub sweep_few : f ≤ p.numbers.levels
+      sweep_few = omega (arith, ap (λ (w : Lowered). w.freed) e, lower_most way (p.numbers.levels - 1 - left) left C)
+
+    -- the height where a look ended is one of the tree's
+    pub sweep_height : left ≤ p.numbers.levels - 1
+    sweep_height = omega (arith, K.left_is, left_low G (area_of p.numbers) p.words 0 (path_of G x) (p.numbers.levels - 1) no_way 0)
 
 pub sweep_same : (G : Granule) {p : Pool} {a len x : ℕ} {C D : List ℕ} {f g : ℕ} → Swept G p a len x C f → D ≡ C → g ≡ f → Swept G p a len x D g
 sweep_same G {p} {a} {len} {x} {C} {D} {f} {g} S u v = subst (λ (n : ℕ). Swept G p a len x D n) (sym v) (subst (λ (z : List ℕ). Swept G p a len x z f) (sym u) S)

@@ -1,5 +1,5 @@
 -- Laws of the check of a row: where none of its words is damaged, the walks of all its pages are checked with the first.
-use Rattle.std.specs.Prelude.{ℕ, zero, suc, ◌+◌, ◌-◌, ◌*◌, ◌/◌, ◌%◌, ◌≤◌, ◌<◌, ◌≡◌, refl, ◌≢◌, Bool, true, false, cond, ◌||◌, not, ltb, eqb, length, get_or}
+use Rattle.std.specs.Prelude.{ℕ, zero, suc, ◌+◌, ◌-◌, ◌*◌, ◌/◌, ◌%◌, ◌≤◌, ◌<◌, ◌≡◌, refl, ◌≢◌, Bool, true, false, cond, ◌||◌, not, Option, Some, None, ltb, eqb, length, get_or}
 use Rattle.std.proofs.Common.{ap, sym, ◌∙◌, subst, true≢false, suc-mul, mul-le-mul_right, le-div_iff_mul-le, lt_of_mul-lt-mul_right, arith, le-leb}
 use Rattle.std.proofs.lemmas.Bool.{false≢true}
 use mathlib.Core.List.{List, [], ◌∷◌, ◌++◌, Memᴰ}
@@ -27,10 +27,10 @@ use Rattle.marks.specs.MarkLaws.{Marked, Noting, agreed, clashes}
 use Rattle.model.proofs.DescentLaws.{clash}
 use Rattle.ranges.specs.Stretches.{stretch_at}
 use Rattle.ranges.specs.RowWalks.{same_table, row_here}
-use Rattle.sweeps.specs.Parts.{Rest, walks_say, Meets, cut_or, lesser, until_end, is_fine, misfits_in, row_of, Beyond}
-use Rattle.sweeps.specs.Pages.{pages_between, ends_at}
+use Rattle.sweeps.specs.Parts.{Rest, walks_say, Meets, cuts, is_fine, misfits_in, row_of, Beyond}
+use Rattle.sweeps.specs.Pages.{pages_between}
 use Rattle.sweeps.specs.Removing.{pages_whole}
-use Rattle.sweeps.specs.Checking.{Checked, Like, mem_map, cuts_alike, first_page, walk_spoils, checks_some, cut_or_lem, turn_sound, noting, turn_on}
+use Rattle.sweeps.specs.Checking.{Checked, Like, mem_map, cuts_alike, first_page, walk_spoils, checks_some, cuts_lem, met_sound, noting, turn_on}
 use Rattle.sweeps.specs.Clearing.{stretch_room, stretch_fits}
 
 -- ---- words
@@ -86,8 +86,8 @@ stretch_some G x left l = go (ltb (left / size_at G 0) (entries G - index_at G x
 
 -- ---- a row
 
-module _ (G : Granule) (Z : Sane G) (p : Pool) (a len : ℕ) (R : Rest G p a (a + len)) {x : ℕ} {M : List ℕ} {was : ℕ} (C : Checked G p a len x M was) (more : x < a + len)
-    {met : ℕ} {way : List ℕ} (K : Meets (walk_to G p 0 x) met way) (l : met < 8) where
+module _ (G : Granule) (Z : Sane G) (p : Pool) (a len : ℕ) (R : Rest G p a (a + len)) {x : ℕ} {M : List ℕ} {was : Bool} (C : Checked G p a len x M was) (more : x < a + len)
+    {frame : Bool} {left : ℕ} {way : List ℕ} (K : Meets (walk_to G p 0 x) frame left way) where
   abbrev W : ℕ
   W = page_size G
 
@@ -104,7 +104,7 @@ module _ (G : Granule) (Z : Sane G) (p : Pool) (a len : ℕ) (R : Rest G p a (a 
   t = at_height way 0
 
   sound : o.entry ≢ Damaged
-  sound = turn_sound G Z p a len R C more K l
+  sound = met_sound K
 
   few : p.numbers.levels ≤ 4
   few = few_levels G Z p R.good
@@ -131,15 +131,15 @@ module _ (G : Granule) (Z : Sane G) (p : Pool) (a len : ℕ) (R : Rest G p a (a 
   row_further : x < x + n * W
   row_further = omega (arith, mul-le-mul_right {m = 1} {n = n} W row_some, suc-mul 0 W, page_pos G)
 
-  module _ (z : met % 4 ≡ 0) where
+  module _ (z : left ≡ 0) where
     low : o.left ≡ 0
-    low = K.left_is l ∙ z
+    low = K.left_is ∙ z
 
     abbrev place : ℕ
     place = slot G t (index_at G x 0)
 
     table_is : at_height o.tables 0 ≡ t
-    table_is = ap (λ (w : List ℕ). at_height w 0) (K.tables_are l)
+    table_is = ap (λ (w : List ℕ). at_height w 0) K.tables_are
 
     pub row_in : t < total (area_of p.numbers)
     row_in =
@@ -179,9 +179,9 @@ module _ (G : Granule) (Z : Sane G) (p : Pool) (a len : ℕ) (R : Rest G p a (a 
     uncut y w u v (Table c) = refl
     uncut y w u v Damaged = refl
 
-    pub row_on : misfits_in G (row_of G p.words t x end) ≡ 0 → {N : List ℕ} → length N ≡ length M → noted true N ≡ note_way G M x way (met % 4) p.numbers.levels
-        → {no' : ℕ} → cond (cut_at G a len x o.left o.entry) 10 was ≡ no' → Checked G p a len (x + n * W) N no'
-    row_on f {N} long e {no'} d = go (note_way G M x way (met % 4) p.numbers.levels) (noting G Z p a len R C more K l) e
+    pub row_on : misfits_in G (row_of G p.words t x end) ≡ 0 → {N : List ℕ} → length N ≡ length M → noted true N ≡ note_way G M x way left p.numbers.levels
+        → {now : Bool} → (was || cut_at G a len x o.left o.entry) ≡ now → Checked G p a len (x + n * W) N now
+    row_on f {N} long e {now} d = go (note_way G M x way left p.numbers.levels) (noting G Z p a len R C more K) e
       where
         like : (y : ℕ) → Memᴰ y (pages_from G x n) → Like G Z p a len R C more sound y
         like y i =
@@ -213,44 +213,45 @@ module _ (G : Granule) (Z : Sane G) (p : Pool) (a len : ℕ) (R : Rest G p a (a 
             ap (λ (s : Probe). cut_at G a len s.at s.end.left s.end.entry) z ∙ cut_none y (subst (Memᴰ y) (sym q) m))
             ∙ sym (cut_none x (subst (Memᴰ x) (sym q) (Memᴰ.head refl)))
 
-        go : (m : Noted) → Noting G (on_ways G p.numbers.levels (page_walks G p (pages_from G a C.pages) ++ (page_walk G p x ∷ []))) m → noted true N ≡ m → Checked G p a len (x + n * W) N no'
+        go : (m : Noted) → Noting G (on_ways G p.numbers.levels (page_walks G p (pages_from G a C.pages) ++ (page_walk G p x ∷ []))) m → noted true N ≡ m → Checked G p a len (x + n * W) N now
         go m (agreed Q) e =
             checks_some G Z p a len R C more sound n row_some like cuts (long ∙ C.long) (subst (λ (y : List ℕ). Marked G y (on_ways G p.numbers.levels (page_walks G p (pages_from G a C.pages) ++ (page_walk G p x ∷ [])))) (sym (ap (λ (y : Noted). y.marks) e)) Q) d
         go m (clashes Q) e = clash (cc (ap (λ (y : Noted). y.fine) e))
 
   -- ---- where the walks go on
 
-  module _ {next : ℕ} (B : Beyond G p.words t x (met % 4) end next) where
-    until_further : x < until_end G x (met % 4) end
-    until_further = (ends_at G x (met % 4) end more R.ends).further
-
-    pub turn_fault : next ≡ 0 → 8 ≡ walks_say G p a len
-    turn_fault e = go (ℕ_discrete (met % 4) 0)
+  module _ {next : Option ℕ} (B : Beyond G p.words t x left end next) where
+    pub turn_fault : next ≡ None → 8 ≡ walks_say G p a len
+    turn_fault e = go (ℕ_discrete left 0)
       where
-        go : Dec (met % 4 ≡ 0) → 8 ≡ walks_say G p a len
+        go : Dec (left ≡ 0) → 8 ≡ walks_say G p a len
         go (yes z) = by (ℕ_discrete (misfits_in G (row_of G p.words t x end)) 0)
           where
             by : Dec (misfits_in G (row_of G p.words t x end) ≡ 0) → 8 ≡ walks_say G p a len
-            by (yes f) = absurd (omega (arith, e, B.past_row z f, row_further))
+            by (yes f) = let q = B.past_row z f in clash (cc)
             by (no f) = fault_spoils z f
-        go (no z) = absurd (omega (arith, e, B.past_region (omega arith), until_further))
+        go (no z) = let q = B.past_region (omega arith) in clash (cc)
 
-    pub turn_next : next ≢ 0 → {N : List ℕ} → length N ≡ length M → noted true N ≡ note_way G M x way (met % 4) p.numbers.levels
-        → {base size no' : ℕ} → base ≡ base_at G x (met % 4) → size ≡ size_at G (met % 4) → no' ≡ cut_or was met a end base size
-        → Checked G p a len next N no' × (x < next) × (next ≤ end)
-    turn_next m {N} long e {base} {size} {no'} b s c = go (ℕ_discrete (met % 4) 0)
+    pub turn_next : {y : ℕ} → next ≡ Some y → {N : List ℕ} → length N ≡ length M → noted true N ≡ note_way G M x way left p.numbers.levels
+        → {base size : ℕ} → base ≡ base_at G x left → size ≡ size_at G left → {now : Bool} → (was || cuts frame base size a end) ≡ now
+        → Checked G p a len y N now × (x < y) × (y ≤ end)
+    turn_next {y} m {N} long e {base} {size} b s {now} c = go (ℕ_discrete left 0)
       where
-        d : cond (cut_at G a len x o.left o.entry) 10 was ≡ no'
-        d =
-            let h : o.left ≡ met % 4 = K.left_is l in
-            cut_or_lem G a len x was K l ∙ sym (c ∙ (λ i. cut_or was met a end ((b ∙ ap (base_at G x) (sym h)) i) ((s ∙ ap (size_at G) (sym h)) i)))
+        Goal : ℕ → Type 0
+        Goal y = Checked G p a len y N now × (x < y) × (y ≤ end)
 
-        go : Dec (met % 4 ≡ 0) → Checked G p a len next N no' × (x < next) × (next ≤ end)
+        d : (was || cut_at G a len x o.left o.entry) ≡ now
+        d =
+            let h : o.left ≡ left = K.left_is in
+            ap (λ (u : Bool). was || u) (cuts_lem G a len x K ∙ sym (λ i. cuts frame ((b ∙ ap (base_at G x) (sym h)) i) ((s ∙ ap (size_at G) (sym h)) i) a end)) ∙ c
+
+        at : {z : ℕ} → next ≡ Some z → z ≡ y
+        at q = cc
+
+        go : Dec (left ≡ 0) → Goal y
         go (yes z) = by (ℕ_discrete (misfits_in G (row_of G p.words t x end)) 0)
           where
-            by : Dec (misfits_in G (row_of G p.words t x end) ≡ 0) → Checked G p a len next N no' × (x < next) × (next ≤ end)
-            by (yes f) =
-                let q = B.past_row z f in
-                (subst (λ (y : ℕ). Checked G p a len y N no') (sym q) (row_on z f long e d), omega (arith, q, row_further), omega (arith, q, row_fits))
-            by (no f) = absurd (m (B.faulty z f))
-        go (no z) = turn_on G Z p a len R C more K l long e b s c (B.past_region (omega arith) ∙ (λ i. lesser (sym b i + sym s i) end))
+            by : Dec (misfits_in G (row_of G p.words t x end) ≡ 0) → Goal y
+            by (yes f) = subst Goal (at (B.past_row z f)) (row_on z f long e d, row_further, row_fits)
+            by (no f) = let q = B.faulty z f in clash (cc)
+        go (no z) = subst Goal (at (B.past_region (omega arith))) (turn_on G Z p a len R C more K long e d)

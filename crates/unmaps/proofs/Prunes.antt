@@ -10,9 +10,9 @@ use lib.ListN.{length, get_or, take, drop}
 use lib.Seq.{take_all}
 use Rattle.path.specs.Geometry.{Granule}
 use Rattle.model.specs.Walk.{slot, at_height}
-use Rattle.model.specs.Writes.{Write, store, give, Memory, perform, perform_all, prune_writes, unmap_writes}
+use Rattle.model.specs.Writes.{store, give, prune_writes, unmap_writes}
 use Rattle.plans.specs.Plan.{IsWrite}
-use Rattle.plans.specs.Steps.{starts_with, goes_on, both_next}
+use Rattle.plans.specs.Steps.{starts_with, goes_on}
 
 module _ (G : Granule) (way path : List ℕ) where
   -- the parent's entry is cleared, then the table goes on the free list
@@ -87,24 +87,3 @@ module _ (G : Granule) (way path : List ℕ) where
         (ap (λ (j : ℕ). drop j (unmap_writes G way path h f n)) twice
         ∙ goes_on (unmap_writes G way path h f n) (2 * k + 1) (from_next k (omega arith))
         ∙ (λ j. give (sym (p ∙ next) j) (sym (t ∙ ap (λ (g : ℕ). get_or way g 0) own) j) ∷ prune_writes G way path (suc (h + k)) (suc (f + k)) (n - k - 1)))
-
--- carrying the writes out, two for each table
-module _ (G : Granule) (ws : List Write) (m₀ : Memory) where
-  -- the memory once k tables are gone
-  abbrev pub Pruned : ℕ → Memory → Type 0
-  Pruned k m = m ≡ perform_all G (take (2 * k + 1) ws) m₀
-
-  -- the frame's word is first
-  pub pruned_none : {w : Write} {n : Memory} → IsWrite ws 0 w → n ≡ perform G w m₀ → Pruned 0 n
-  unfolding perform_all
-  pruned_none i e = both_next G ws 0 i m₀ refl e
-
-  pub pruned_more : (k : ℕ) {w x : Write} {m n o : Memory} → IsWrite ws (2 * k + 1) w → IsWrite ws (2 * k + 2) x → Pruned k m
-      → n ≡ perform G w m → o ≡ perform G x n → Pruned (k + 1) o
-  pruned_more k i j before one two =
-      let next : 2 * k + 2 ≡ 2 * k + 1 + 1 = omega arith in
-      let more : 2 * (k + 1) + 1 ≡ 2 * k + 1 + 1 + 1 = omega arith in
-      rw more (both_next G ws (2 * k + 1 + 1) (rw next at j) m₀ (both_next G ws (2 * k + 1) i m₀ before one) two)
-
-  pub pruned_all : (n k : ℕ) {m : Memory} → k ≡ n → take (2 * n + 1) ws ≡ ws → Pruned k m → m ≡ perform_all G ws m₀
-  pruned_all n k e all before = (rw e at before) ∙ ap (λ (x : List Write). perform_all G x m₀) all

@@ -1,7 +1,7 @@
 -- What unmap does, by what its tests and its walk found.
 use Prim.Native.Nat.{ℕ, ◌+◌, ◌-◌, ◌*◌, ◌/◌, ◌%◌, ◌≤◌, ◌<◌}
 use mathlib.Core.Path.{◌≡◌, refl, sym, ap, ◌∙◌}
-use mathlib.Core.Logic.{◌≢◌}
+use mathlib.Core.Logic.{◌≢◌, ◌⊎◌, inl, inr}
 use mathlib.Core.Bool.{Bool, true, false, not, ◌||◌, false≢true}
 use mathlib.Core.List.{List}
 use native.Mathlib.Nat.{mul_comm, div-lt_iff_lt-mul}
@@ -9,7 +9,8 @@ use native.Mathlib.Omega.{arith}
 use borrow.Author.Tests.{not-true, not-false, lt-ltb, le-ltb, leb-true, leb-false, eq-eqb, ne_eqb}
 use lib.Arith.{digits_div, digits_mod}
 use lib.Dec.{leb}
-use lib.ListN.{length, get_or, set}
+use lib.ListN.{get_or, set}
+use Rattle.std.specs.Prelude.{Ok, Err}
 use Rattle.path.specs.Geometry.{Granule, Sane, entries, size_at, at_level}
 use Rattle.path.specs.Areas.{area_of, total}
 use Rattle.path.specs.Numbers.{with_free, GoodSetup}
@@ -19,14 +20,18 @@ use Rattle.path.specs.PathLaws.{path_of_path}
 use Rattle.path.specs.declared.Setup.{Setup}
 use Rattle.entry.specs.Words.{entry_at}
 use Rattle.entry.specs.declared.Entry.{Entry}
-use Rattle.entry.specs.declared.Entry.TheVariants.{Frame}
+use Rattle.entry.specs.declared.Entry.TheVariants.{Table, Frame, Damaged}
 use Rattle.model.specs.declared.Walked.{Walked}
-use Rattle.model.specs.Answers.{gave, Pool, pool, Done, done, refuse}
+use Rattle.model.specs.declared.Refusal.{Refusal}
+use Rattle.model.proofs.TestedLaws.{tested_err, tested_refused}
+use Rattle.model.specs.Answers.{Answer, says_refusal, tested, gave, Pool, pool, Done, done, refuse}
 use Rattle.model.specs.Walk.{slot, at_height, no_way, stop}
 use Rattle.model.specs.Writes.{memory, perform_all, only_entry, freed, prune_writes, unmap_writes}
 use Rattle.model.specs.Calls.{good_pool, walk_to, unmap_tests, unmap_here, unmap_at, unmap_w}
 use Rattle.model.proofs.Refusing.{passed}
 use Rattle.lookup.specs.WalkLaws.{walk_within}
+use Rattle.lookup.specs.declared.Reached.{Reached}
+use Rattle.lookup.specs.declared.Lost.{Lost}
 use Rattle.lookup.specs.Reaches.{Came, came_again, came_word}
 use Rattle.unmaps.proofs.Frees.{freed_stop, freed_more, freed_end}
 
@@ -35,33 +40,39 @@ module _ (G : Granule) (p : Pool) (a : ℕ) {r : Bool} (e : r ≡ good_pool G p)
   unfolding unmap_w
   unmap_bad n = rw (sym e ∙ not-true _ n)
 
-  module _ (n : not r ≡ false) {no : ℕ} (t : no ≡ unmap_tests G p.numbers.levels a) where
-    pub unmap_refuses : no ≢ 0 → refuse no p ≡ unmap_w G p a
-    unfolding unmap_w
-    unmap_refuses z = rw (passed e n, ← t, ne_eqb no 0 z)
+  pub unmap_refuses :
+      not r ≡ false → (q : Refusal) → says_refusal q ≡ tested (unmap_tests G p.numbers.levels a) → done (says_refusal q) p ≡ unmap_w G p a
+  unfolding unmap_w
+  unmap_refuses n q t =
+      let k = unmap_tests G p.numbers.levels a in
+      rw (passed e n, tested_err k q t) (ap (λ (x : Answer). done x p) (tested_refused k q t))
 
--- no test refused, and the walk is done and answered r
-module _
-    {G : Granule} {p : Pool} {a r : ℕ} {way : List ℕ} (g : good_pool G p ≡ true) (t : unmap_tests G p.numbers.levels a ≡ 0) (C : Came G p 0 a r way)
-  where
-    unmap_from : {o : Walked} → o ≡ walk_to G p 0 a → unmap_at G p a o o.entry ≡ unmap_w G p a
-    unfolding unmap_w
-    unmap_from e = ap (λ (o : Walked). unmap_at G p a o o.entry) e ∙ rw (g, t)
+-- no test refused
+unmap_from : (G : Granule) (p : Pool) (a : ℕ) → good_pool G p ≡ true → unmap_tests G p.numbers.levels a ≡ 0 → {o : Walked} → o ≡ walk_to G p 0 a → unmap_at G p a o o.entry ≡ unmap_w G p a
+unfolding unmap_w
+unmap_from G p a g t e = ap (λ (o : Walked). unmap_at G p a o o.entry) e ∙ rw (g, t)
 
-    pub came_past : length p.words ≤ r / 4 → refuse 8 p ≡ unmap_w G p a
+-- and the walk is done
+module _ {G : Granule} {p : Pool} {a : ℕ} {way : List ℕ} (g : good_pool G p ≡ true) (t : unmap_tests G p.numbers.levels a ≡ 0) where
+  -- it came to a table again
+  pub came_lost : {l : Lost} → Came G p 0 a (Err l) way → refuse 8 p ≡ unmap_w G p a
+  unfolding unmap_at
+  came_lost C = unmap_from G p a g t (came_again C)
+
+  -- or it ended at the entry that was read
+  module _ {r : Reached} (C : Came G p 0 a (Ok r) way) {w : ℕ} {e : Entry} (q : w ≡ get_or p.words r.place 0) (d : e ≡ entry_at G (area_of p.numbers) r.height w) where
+    pub came_at : {x : Entry} → e ≡ x → unmap_at G p a (stop x r.height way) x ≡ unmap_w G p a
+    came_at f = unmap_from G p a g t (ap (λ (x : Entry). stop x r.height way) (sym f ∙ d) ∙ came_word C q)
+
+    pub came_bad : ((c : ℕ) × (e ≡ Table c)) ⊎ (e ≡ Damaged) → refuse 8 p ≡ unmap_w G p a
     unfolding unmap_at
-    came_past l = unmap_from (came_again C l)
+    came_bad (inl (c, f)) = came_at f
+    came_bad (inr f) = came_at f
 
-    module _ (l : r / 4 < length p.words) where
-      pub came_left : r % 4 ≤ p.numbers.levels - 1
-      came_left =
-          rw (ap (λ (o : Walked). o.left) (came_word C l refl))
-          (walk_within G p.words (area_of p.numbers) 0 (path_of G a) (p.numbers.levels - 1) no_way 0)
-
-      -- what unmap does at the entry that was read
-      pub came_at : {w : ℕ} {e x : Entry} → w ≡ get_or p.words (r / 4) 0 → e ≡ entry_at G (area_of p.numbers) (r % 4) w → e ≡ x
-          → unmap_at G p a (stop x (r % 4) way) x ≡ unmap_w G p a
-      came_at q d f = unmap_from (ap (λ (x : Entry). stop x (r % 4) way) (sym f ∙ d) ∙ came_word C l q)
+pub came_left : {G : Granule} {p : Pool} {a : ℕ} {r : Reached} {way : List ℕ} → Came G p 0 a (Ok r) way → r.height ≤ p.numbers.levels - 1
+came_left {G} {p} {a} C =
+    rw (ap (λ (o : Walked). o.left) (came_word C refl))
+    (walk_within G p.words (area_of p.numbers) 0 (path_of G a) (p.numbers.levels - 1) no_way 0)
 
 -- what the code has by the height of the entry where a walk ended
 module _ {G : Granule} {s : Setup} {cut w l left : ℕ} (S : Sane G) (g : GoodSetup G s cut w l) (m : left ≤ s.levels - 1) where

@@ -1,32 +1,16 @@
 // The hardware's walk, run: pools are made by the page table's calls, and a line for each address says what the walk translates it to.
 #![tactic(auto)]
 
+use path::{GIB, KIB4, KIB16, MIB2, MIB32, Setup};
 use std::io;
 
 mod show;
 
-use armwalk::Seen;
-use path::Setup;
+use show::Seen;
 
 const BASE: u64 = 0x4000_0000;
 
 const FRAME: u64 = 0x8000_0000;
-
-const MIB2: u64 = 0x20_0000;
-
-const GIB: u64 = 0x4000_0000;
-
-const MIB32: u64 = 0x200_0000;
-
-// The numbers of the granules.
-const KIB4: u64 = 4096;
-
-const KIB16: u64 = 16384;
-
-type List = [u32; 4];
-
-// There is no second region.
-const NO_WORDS: [u64; 0] = [0; 0];
 
 // The word of the block of 1 GiB below, and the access flag in it.
 const BLOCK: u64 = 0x8000_07FD;
@@ -72,65 +56,71 @@ const SIXTEEN: [u64; 12] = [
     0x8000_0000_0000,
 ];
 
-// What an address is translated to.
-fn walk(granule: u64, words: &[u64], levels: u64, address: u64) -> Seen {
-    armwalk::stage2(granule, words, &NO_WORDS, BASE, 0, levels, address)
+// A pool of four tables in so many words. It has no second region.
+#[derive(Clone, Copy)]
+struct Pool<const N: usize> {
+    setup: Setup,
+    words: [u64; N],
+    list: [u32; 4],
 }
 
-// What each address of a list is translated to.
-fn lines(
-    rt: &impl Print,
-    title: &[u8],
-    addresses: &[u64],
-    granule: u64,
-    words: &[u64],
-    levels: u64,
-) -> io::Result<()> {
-    show::title(rt, title)?;
-    let mut i = 0;
-    while i < addresses.len() {
-        let a = addresses[i];
-        show::line(rt, a, walk(granule, words, levels, a))?;
-        i += 1;
+impl<const N: usize> Pool<N> {
+    fn new() -> Pool<N> {
+        Pool {
+            setup: path::no_setup(),
+            words: [0; N],
+            list: [0; 4],
+        }
     }
-    Ok(())
-}
 
-// A map, of which the setup goes on.
-fn map(
-    s: Setup,
-    words: &mut [u64],
-    list: &List,
-    address: u64,
-    frame: u64,
-    size: u64,
-    attributes: u64,
-) -> Setup {
-    let mut second = NO_WORDS;
-    let d = pagetable::map(
-        s,
-        words,
-        &mut second,
-        list,
-        address,
-        frame,
-        size,
-        attributes,
-    );
-    d.setup
-}
+    fn format(&mut self, granule: u64, levels: u64) {
+        let (words, list) = (&mut self.words, &mut self.list);
+        let made = pagetable::format(levels, BASE, 4, 0, 0, granule, words, &mut [], list);
+        self.setup = made.unwrap_or(path::no_setup());
+    }
 
-// An unmap, of which the setup goes on.
-fn unmap(s: Setup, words: &mut [u64], list: &mut List, address: u64) -> Setup {
-    let mut second = NO_WORDS;
-    let d = pagetable::unmap(s, words, &mut second, list, address);
-    d.setup
-}
+    fn map(&mut self, address: u64, frame: u64, size: u64, attributes: u64) {
+        let (s, words, list) = (self.setup, &mut self.words, &self.list);
+        if let Ok(done) = pagetable::map(
+            s,
+            words,
+            &mut [],
+            list,
+            address,
+            frame,
+            size,
+            attributes,
+        ) {
+            self.setup = done.setup;
+        }
+    }
 
-fn fresh(granule: u64, words: &mut [u64], list: &mut List, levels: u64) -> Setup {
-    let mut second = NO_WORDS;
-    let d = pagetable::format(levels, BASE, 4, 0, 0, granule, words, &mut second, list);
-    d.setup
+    fn unmap(&mut self, address: u64) {
+        let (words, list) = (&mut self.words, &mut self.list);
+        if let Ok(done) = pagetable::unmap(self.setup, words, &mut [], list, address) {
+            self.setup = done.setup;
+        }
+    }
+
+    // Writes a word that the page table never writes.
+    fn put(&mut self, i: usize, w: u64) {
+        pool::put(&mut self.words, &mut [], i, w);
+    }
+
+    // What each address of a list is translated to.
+    fn lines(&self, rt: &impl Print, title: &str, addresses: &[u64]) -> io::Result<()> {
+        let Setup {
+            granule,
+            levels,
+            ..
+        } = self.setup;
+        println!(rt; "{title}")?;
+        for &a in addresses {
+            let seen = Seen(armwalk::stage2(granule, &self.words, &[], BASE, 0, levels, a));
+            println!(rt; "  {a:x}: {seen}")?;
+        }
+        Ok(())
+    }
 }
 
 // The numbers of document 01's cases with one granule: where the second page stands and to which frame it goes, where a device page, a block and its frame, and the last
@@ -167,132 +157,56 @@ const LARGE: Numbers = Numbers {
     last: 0x7FFF_FFFF_C000,
 };
 
-// Cases 10 and 11.
-fn last_page(
+// Cases 1 to 4 with a device page, cases 9 to 11.
+fn cases<const N: usize>(
     rt: &impl Print,
     n: Numbers,
     addresses: &[u64],
-    s: Setup,
-    words: &mut [u64],
-    list: &mut List,
+    pool: &mut Pool<N>,
 ) -> io::Result<()> {
-    let s = unmap(s, words, list, n.block);
-    map(s, words, list, n.last, FRAME, n.granule, 3);
-    let title = b"case 11, the last page of the space:";
-    lines(rt, title, addresses, n.granule, words, 3)
-}
-
-// Case 9, after which the device page goes too.
-fn pages_go(
-    rt: &impl Print,
-    n: Numbers,
-    addresses: &[u64],
-    s: Setup,
-    words: &mut [u64],
-    list: &mut List,
-) -> io::Result<()> {
-    let s = unmap(s, words, list, 0);
-    let s = unmap(s, words, list, n.second);
-    let s = unmap(s, words, list, n.device);
-    let title = b"case 9, the block alone:";
-    lines(rt, title, addresses, n.granule, words, 3)?;
-    last_page(rt, n, addresses, s, words, list)
-}
-
-// Case 4, and a device page.
-fn block(
-    rt: &impl Print,
-    n: Numbers,
-    addresses: &[u64],
-    s: Setup,
-    words: &mut [u64],
-    list: &mut List,
-) -> io::Result<()> {
-    let s = map(s, words, list, n.block, n.block_frame, n.block, 3);
-    let s = map(s, words, list, n.device, 0x900_0000, n.granule, 11);
-    let title = b"case 4, two pages and a block, with a device page:";
-    lines(rt, title, addresses, n.granule, words, 3)?;
-    pages_go(rt, n, addresses, s, words, list)
-}
-
-// Cases 2 and 3.
-fn two_pages(
-    rt: &impl Print,
-    n: Numbers,
-    addresses: &[u64],
-    s: Setup,
-    words: &mut [u64],
-    list: &mut List,
-) -> io::Result<()> {
-    let s = map(s, words, list, 0, FRAME, n.granule, 3);
-    let s = map(s, words, list, n.second, n.second_frame, n.granule, 5);
-    block(rt, n, addresses, s, words, list)
-}
-
-// Case 1, and those after it.
-fn cases(
-    rt: &impl Print,
-    n: Numbers,
-    addresses: &[u64],
-    words: &mut [u64],
-    list: &mut List,
-) -> io::Result<()> {
-    let s = fresh(n.granule, words, list, 3);
-    lines(
+    pool.format(n.granule, 3);
+    pool.lines(rt, "case 1, a fresh format:", addresses)?;
+    pool.map(0, FRAME, n.granule, 3);
+    pool.map(n.second, n.second_frame, n.granule, 5);
+    pool.map(n.block, n.block_frame, n.block, 3);
+    pool.map(n.device, 0x900_0000, n.granule, 11);
+    pool.lines(
         rt,
-        b"case 1, a fresh format:",
+        "case 4, two pages and a block, with a device page:",
         addresses,
-        n.granule,
-        words,
-        3,
     )?;
-    two_pages(rt, n, addresses, s, words, list)
+    pool.unmap(0);
+    pool.unmap(n.second);
+    pool.unmap(n.device);
+    pool.lines(rt, "case 9, the block alone:", addresses)?;
+    pool.unmap(n.block);
+    pool.map(n.last, FRAME, n.granule, 3);
+    pool.lines(rt, "case 11, the last page of the space:", addresses)
 }
 
 // Four levels with a block of 1 GiB, and with the last block of 2 MiB.
-fn four_levels(rt: &impl Print, words: &mut [u64], list: &mut List) -> io::Result<()> {
-    let s = fresh(KIB4, words, list, 4);
-    let s = map(s, words, list, GIB, FRAME, GIB, 7);
-    map(s, words, list, 0xFFFF_FFE0_0000, FRAME, MIB2, 1);
-    lines(
+fn four_levels<const N: usize>(rt: &impl Print, pool: &mut Pool<N>) -> io::Result<()> {
+    pool.format(KIB4, 4);
+    pool.map(GIB, FRAME, GIB, 7);
+    pool.map(0xFFFF_FFE0_0000, FRAME, MIB2, 1);
+    pool.lines(
         rt,
-        b"four levels, a block of 1 GiB and the last of 2 MiB:",
+        "four levels, a block of 1 GiB and the last of 2 MiB:",
         &FOUR,
-        KIB4,
-        words,
-        4,
     )
 }
 
-// With one word that the page table never writes.
-fn strange(
-    rt: &impl Print,
-    title: &[u8],
-    addresses: &[u64],
-    granule: u64,
-    words: &mut [u64],
-    levels: u64,
-    i: usize,
-    w: u64,
-) -> io::Result<()> {
-    let mut second = NO_WORDS;
-    pool::put(words, &mut second, i, w);
-    lines(rt, title, addresses, granule, words, levels)
-}
-
 fn main(rt: HostRuntime) -> io::Result<()> {
-    let mut words = [0u64; 2048];
-    let mut large = [0u64; 8192];
-    let mut list = [0u32; 4];
-    cases(&rt, SMALL, &THREE, &mut words, &mut list)?;
-    four_levels(&rt, &mut words, &mut list)?;
-    let flag = b"the first without its access flag:";
-    let word = BLOCK - ACCESS_FLAG;
-    strange(&rt, flag, &FOUR, KIB4, &mut words, 4, 513, word)?;
-    show::title(&rt, b"with pages of 16 KiB:")?;
-    cases(&rt, LARGE, &SIXTEEN, &mut large, &mut list)?;
-    let small_root = b"a block of 512 GiB, which there is not:";
-    strange(&rt, small_root, &FOUR, KIB4, &mut words, 4, 0, BLOCK)?;
-    let large_root = b"a block of 64 GiB, which there is not:";
-    strange(&rt, large_root, &SIXTEEN, KIB16, &mut large, 3, 1, BLOCK)
+    let mut small = Pool::<2048>::new();
+    let mut large = Pool::<8192>::new();
+    cases(&rt, SMALL, &THREE, &mut small)?;
+    four_levels(&rt, &mut small)?;
+    small.put(513, BLOCK - ACCESS_FLAG);
+    small.lines(&rt, "the first without its access flag:", &FOUR)?;
+    println!(rt; "with pages of 16 KiB:")?;
+    cases(&rt, LARGE, &SIXTEEN, &mut large)?;
+    small.put(0, BLOCK);
+    small.lines(&rt, "a block of 512 GiB, which there is not:", &FOUR)?;
+    large.put(1, BLOCK);
+    large.lines(&rt, "a block of 64 GiB, which there is not:", &SIXTEEN)
 }

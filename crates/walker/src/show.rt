@@ -1,101 +1,91 @@
-// What an address is translated to, as a line of text.
-use armwalk::Seen;
-use std::io;
-use std::io::Write;
-
-fn text(rt: &impl Print, s: &[u8]) -> io::Result<()> {
-    io::writer(rt).write_all(s)
-}
-
-// A letter for what is allowed.
-fn allowed(rt: &impl Print, yes: bool, letter: &[u8]) -> io::Result<()> {
-    if yes {
-        text(rt, letter)?;
-    } else {
-        text(rt, b"-")?;
-    }
-    Ok(())
-}
+// What an address is translated to, as text.
+use armwalk::Hit;
+use std::fmt;
 
 // Device memory, by MemAttr[1:0].
-fn device(rt: &impl Print, low: u64) -> io::Result<()> {
+fn device(low: u64) -> &'static str {
     match low {
-        0 => text(rt, b" Device-nGnRnE")?,
-        1 => text(rt, b" Device-nGnRE")?,
-        2 => text(rt, b" Device-nGRE")?,
-        _ => text(rt, b" Device-GRE")?,
+        0 => "Device-nGnRnE",
+        1 => "Device-nGnRE",
+        2 => "Device-nGRE",
+        _ => "Device-GRE",
     }
-    Ok(())
 }
 
 // Normal memory in one kind of caches.
-fn cached(rt: &impl Print, n: u64) -> io::Result<()> {
+fn cached(n: u64) -> &'static str {
     match n {
-        0 => text(rt, b" reserved")?,
-        1 => text(rt, b" non-cacheable")?,
-        2 => text(rt, b" write-through")?,
-        _ => text(rt, b" write-back")?,
+        0 => "reserved",
+        1 => "non-cacheable",
+        2 => "write-through",
+        _ => "write-back",
     }
-    Ok(())
 }
 
 // SH of Normal memory.
-fn share(rt: &impl Print, n: u64) -> io::Result<()> {
+fn shared(n: u64) -> &'static str {
     match n {
-        0 => text(rt, b" non-shareable")?,
-        1 => text(rt, b" unpredictable")?,
-        2 => text(rt, b" outer shareable")?,
-        _ => text(rt, b" inner shareable")?,
+        0 => "non-shareable",
+        1 => "unpredictable",
+        2 => "outer shareable",
+        _ => "inner shareable",
     }
-    Ok(())
 }
 
-// Whether it may be read, written, run at EL1, run at EL0.
-fn rights(rt: &impl Print, w: u64) -> io::Result<()> {
-    let high = w / 0x40_0000_0000_0000 % 2;
-    allowed(rt, w / 64 % 2 == 1, b"r")?;
-    allowed(rt, w / 128 % 2 == 1, b"w")?;
-    allowed(rt, w / 0x20_0000_0000_0000 % 2 == high, b"x")?;
-    allowed(rt, high == 0, b"x")
+// Whether a word lets memory be read, written, run at EL1, run at EL0.
+#[derive(Clone, Copy)]
+struct Rights(u64);
+
+impl fmt::Display for Rights {
+    fn fmt<W: fmt::Write>(&self, f: &mut fmt::Formatter<W>) -> fmt::Result {
+        let w = self.0;
+        let high = w / 0x40_0000_0000_0000 % 2;
+        let low = w / 0x20_0000_0000_0000 % 2;
+        let right = |has: bool, letter: char| if has { letter } else { '-' };
+        let read = right(w / 64 % 2 == 1, 'r');
+        let write = right(w / 128 % 2 == 1, 'w');
+        let run1 = right(low == high, 'x');
+        let run0 = right(high == 0, 'x');
+        write!(f, "{read}{write}{run1}{run0}")
+    }
 }
 
-// The kind of memory, and its shareability. Device memory is outer shareable whatever SH says, and so is Normal memory that no cache keeps.
-fn memory(rt: &impl Print, w: u64) -> io::Result<()> {
-    if w / 16 % 4 == 0 {
-        device(rt, w / 4 % 4)?;
-        share(rt, 2)?;
-        return Ok(());
-    }
-    text(rt, b" Normal")?;
-    let kinds = w / 4 % 16;
-    cached(rt, kinds / 4)?;
-    cached(rt, kinds % 4)?;
-    if kinds == 5 {
-        share(rt, 2)?;
-        return Ok(());
-    }
-    share(rt, w / 256 % 4)
-}
+// A word's kind of memory, and its shareability. Device memory is outer shareable whatever SH says, and so is Normal memory that no cache keeps.
+#[derive(Clone, Copy)]
+struct Memory(u64);
 
-// The line of an address.
-pub(crate) fn line(rt: &impl Print, address: u64, seen: Seen) -> io::Result<()> {
-    text(rt, b"  ")?;
-    print!(rt; "{address:x}")?;
-    match seen {
-        Seen::Fault => text(rt, b": fault")?,
-        Seen::Hit { address: a, word } => {
-            text(rt, b": ")?;
-            print!(rt; "{a:x}")?;
-            text(rt, b" ")?;
-            rights(rt, word)?;
-            memory(rt, word)?;
+impl fmt::Display for Memory {
+    fn fmt<W: fmt::Write>(&self, f: &mut fmt::Formatter<W>) -> fmt::Result {
+        let w = self.0;
+        if w / 16 % 4 == 0 {
+            return write!(f, "{} {}", device(w / 4 % 4), shared(2));
         }
+        let outer = w / 16 % 4;
+        let inner = w / 4 % 4;
+        let share = if outer == 1 && inner == 1 {
+            2
+        } else {
+            w / 256 % 4
+        };
+        write!(
+            f,
+            "Normal {} {} {}",
+            cached(outer),
+            cached(inner),
+            shared(share)
+        )
     }
-    text(rt, b"\n")
 }
 
-// The line before those of a pool.
-pub(crate) fn title(rt: &impl Print, s: &[u8]) -> io::Result<()> {
-    text(rt, s)?;
-    text(rt, b"\n")
+// What an address is translated to.
+#[derive(Clone, Copy)]
+pub(crate) struct Seen(pub(crate) Option<Hit>);
+
+impl fmt::Display for Seen {
+    fn fmt<W: fmt::Write>(&self, f: &mut fmt::Formatter<W>) -> fmt::Result {
+        let Some(Hit { address, word }) = self.0 else {
+            return write!(f, "fault");
+        };
+        write!(f, "{address:x} {} {}", Rights(word), Memory(word))
+    }
 }

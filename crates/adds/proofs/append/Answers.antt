@@ -1,60 +1,37 @@
--- `adds::append`: after i turns i of the new numbers are in the list.
-use Prim.Native.Nat.{ℕ, ◌+◌, ◌-◌}
-use mathlib.Core.List.{List, ◌++◌}
-use mathlib.Core.Path.{◌≡◌, refl, sym, ap, ◌∙◌}
-use native.Mathlib.Omega.{arith}
-use borrow.Author.Rules.{rules}
-use lib.ListN.{take, drop, set, length-set}
+-- `adds::append`: after i turns the first i places of the part count down from n + m - 1.
+use Rattle.std.proofs.Common.{ℕ, ◌+◌, ◌-◌, ◌≤◌, List, ◌++◌, ◌≡◌, ap, ◌∙◌, length, take, drop, arith}
+use Rattle.std.proofs.Math.ListN.{set, drop_of_length-le, length-drop}
+use Rattle.std.proofs.Math.Seq.{drop-drop, length-take-le}
+use mathlib.Core.Path.{ap₂}
+use mathlib.Core.List.{[], append-nil}
+use Rattle.laws.specs.ListLaws.{down_more}
 use Rattle.laws.specs.Lists.{down}
-use Rattle.model.proofs.AddLaws.{append_more, append_none, append_all}
+use Rattle.model.specs.Adds.{appended}
 use Rattle.adds.proofs.append.Goals as goal
 
-pub loop-i-init : goal.loop-i-init
-loop-i-init c = let a = c.args in (search rules, (refl, sym (append_none a.n a.m a.f a.list.now)))
+-- the part has m places
+long : (m f : ℕ) (list : List ℕ) → f + m ≤ length list → length (take (f + m - f) (drop f list)) ≡ m
+long m f list h = length-take-le (f + m - f) (drop f list) (omega (arith, length-drop f list)) ∙ omega arith
 
-pub overflow_add-list : goal.overflow_add-list
-overflow_add-list c = omega arith
-
-pub overflow_sub-list : goal.overflow_sub-list
-overflow_sub-list c = omega arith
-
-pub overflow_sub-list-in-loop-i : goal.overflow_sub-list-in-loop-i
-overflow_sub-list-in-loop-i c = omega arith
-
-pub overflow_cast-list : goal.overflow_cast-list
-overflow_cast-list c = omega arith
-
-pub overflow_add-list-in-loop-i : goal.overflow_add-list-in-loop-i
-overflow_add-list-in-loop-i c = omega arith
-
-pub offset_bounds-list-f : goal.offset_bounds-list-f
-offset_bounds-list-f c = omega arith
-
-pub bounds-list-f : goal.bounds-list-f
-bounds-list-f c = omega arith
-
-pub overflow_add-i : goal.overflow_add-i
-overflow_add-i c = omega arith
-
-pub loop-i-smaller : goal.loop-i-smaller
-loop-i-smaller c = omega arith
+-- the part put back, once each of its places has its number
+whole : (n m f i : ℕ) (list part : List ℕ) → f + m ≤ length list → i ≡ m → part ≡ take i (down (n + m)) ++ drop i (take (f + m - f) (drop f list))
+    → take f list ++ (part ++ drop (f + m - f) (drop f list)) ≡ appended n m f list
+unfolding appended
+whole n m f i list part h e p =
+    let none : drop i (take (f + m - f) (drop f list)) ≡ [] = drop_of_length-le _ {i = i} (omega (arith, long m f list h)) in
+    let rest : drop (f + m - f) (drop f list) ≡ drop (f + m) list = drop-drop (f + m - f) f list ∙ ap (λ (k : ℕ). drop k list) (omega arith) in
+    let filled : part ≡ take m (down (n + m)) = p ∙ ap₂ ◌++◌ (ap (λ (k : ℕ). take k (down (n + m))) e) none ∙ append-nil _ in
+    ap₂ (λ (x y : List ℕ). take f list ++ (x ++ y)) filled rest
 
 pub loop-i-preserved : goal.loop-i-preserved
 loop-i-preserved c =
-    let l = c.loop-i in
-    let a = c.args in (
-      search rules,
-      (
-        simp length-set l.invariant.1.0,
-        ap (λ (x : List ℕ). set x (a.f + l.i) (a.n + a.m - 1 - l.i)) l.invariant.1.1 ∙ append_more a.n a.m a.f l.i a.list.now (search rules) (search rules),
-      ),
-    )
+    let a = c.args in
+    let i = c.loop-i.i in
+    let part : List ℕ = take (a.f + a.m - a.f) (drop a.f a.list.now) in
+    let k : length part ≡ a.m = long a.m a.f a.list.now c.requires.1 in
+    ap (λ (x : List ℕ). set x i (a.n + a.m - 1 - i)) c.loop-i.invariant ∙ down_more (a.n + a.m) i part (omega arith) (omega arith)
 
 pub returns : goal.returns
 returns c =
-    let l = c.loop-i in
     let a = c.args in
-    let e : l.i ≡ a.m = omega arith in
-    l.invariant.1.1
-    ∙ ap (λ (k : ℕ). take a.f a.list.now ++ (take k (down (a.n + a.m)) ++ drop (a.f + k) a.list.now)) e
-    ∙ append_all a.n a.m a.f a.list.now
+    whole a.n a.m a.f c.loop-i.i a.list.now c.loop-i.number-items c.requires.1 (omega (arith, long a.m a.f a.list.now c.requires.1)) c.loop-i.invariant

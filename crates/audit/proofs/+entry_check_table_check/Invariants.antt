@@ -9,9 +9,6 @@ decreases-entry_check l = l.height * 2 + 1
 abbrev pub decreases-table_check : goal.decreases-table_check
 decreases-table_check l = l.height * 2 + 2
 
-abbrev pub invariant-table_check-loop-left : goal.invariant-table_check-loop-left
-invariant-table_check-loop-left l =
-    Loop (l.words ++ l.second) l.look l.height l.t l.initial.marks l.initial.tables l.initial.mappings l.marks l.tables l.mappings l.left
-
-abbrev pub decreases-table_check-loop-left : goal.decreases-table_check-loop-left
-decreases-table_check-loop-left l = l.left
+abbrev pub invariant-table_check-loop-w : goal.invariant-table_check-loop-w
+invariant-table_check-loop-w l =
+    Loop (l.words ++ l.second) l.look l.height l.t l.initial.marks l.initial.tables l.initial.mappings l.marks l.tables l.mappings l.w-index

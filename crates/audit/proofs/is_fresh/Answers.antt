@@ -1,16 +1,13 @@
 -- `is_fresh` meets its contract.
-use Rattle.std.proofs.Common.{not, refl, ap, get_or, eq-eqb, ne_eqb}
+use Rattle.std.proofs.Common.{not, refl, ap, eq-eqb, ne_eqb}
 use Rattle.audit.proofs.Tables.{or-true, or-false}
 use Rattle.audit.proofs.is_fresh.Goals as goal
 
-pub returns-then-marks-t-ne0 : goal.returns-then-marks-t-ne0
-returns-then-marks-t-ne0 c = λ k e. rw (ne_eqb (get_or c.args.marks.now c.args.t 0) 0 c.if-marks-t-ne0.true) refl
-
 pub returns-then-bare : goal.returns-then-bare
-returns-then-bare c = λ k e. rw (eq-eqb _ 0 c.if-marks-t-ne0.false, c.if-bare.true, or-true) refl
+returns-then-bare c = λ k e. rw (c.if-marks-t.false, c.if-bare.true, or-true) refl
 
 pub returns-then-t-eq0 : goal.returns-then-t-eq0
-returns-then-t-eq0 c = λ k e. rw (eq-eqb _ 0 c.if-marks-t-ne0.false, eq-eqb _ 0 c.if-t-eq0.true) refl
+returns-then-t-eq0 c = λ k e. rw (c.if-marks-t.false, eq-eqb _ 0 c.if-t-eq0.true) refl
 
 pub returns : goal.returns
-returns c = λ k e. rw (eq-eqb _ 0 c.if-marks-t-ne0.false, ne_eqb _ 0 c.if-t-eq0.false, c.if-bare.false, or-false) (ap not (c.is_table_empty.ensures k e))
+returns c = λ k e. rw (c.if-marks-t.false, ne_eqb _ 0 c.if-t-eq0.false, c.if-bare.false, or-false) (ap not (c.is_table_empty.ensures k e))

@@ -6,14 +6,14 @@ use Rattle.audit.proofs.tree_sound.Goals as goal
 pub returns-then-not-good_setup : goal.returns-then-not-good_setup
 returns-then-not-good_setup c =
     let a = c.args in
-    sound_bad a.s a.words.now a.second.now a.places c.good_setup.ensures c.if-not-good_setup.true-raw _
+    sound_bad a.s a.words.now a.second.now a.places c.good_setup.ensures c.if-not-good_setup.true _
 
 pub tree_check-requires : goal.tree_check-requires
 tree_check-requires c =
     let a = c.args in
-    (sound_rooted a.s a.words.now a.second.now a.places c.good_setup.ensures c.if-not-good_setup.false-raw, (none_good _, omega arith))
+    (sound_rooted a.s a.words.now a.second.now a.places c.good_setup.ensures c.if-not-good_setup.false, (none_good _, omega arith))
 
 pub returns : goal.returns
 returns c =
     let a = c.args in
-    sound_told a.s a.words.now a.second.now a.places c.good_setup.ensures c.if-not-good_setup.false-raw c.tree_check.ensures
+    sound_told a.s a.words.now a.second.now a.places c.good_setup.ensures c.if-not-good_setup.false c.tree_check.ensures

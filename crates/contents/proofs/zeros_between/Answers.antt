@@ -1,30 +1,18 @@
--- `contents::zeros_between`: the words passed are 0.
-use mathlib.Core.Path.{sym, ◌∙◌}
+-- `contents::zeros_between`: the library's search over the places.
+use mathlib.Core.Path.{refl, ◌∙◌}
 use native.Mathlib.Omega.{arith}
-use lib.ListN.{set}
-use Rattle.contents.proofs.Laws.{passed_more, between_not, between_all}
+use borrow.Author.Rules.{rules}
+use borrow.Author.Tests.{tests}
+use lib.Dec.{eqb}
+use lib.ListN.{get_or, set, length-set}
+use Prim.Native.Nat.{ℕ}
+use Rattle.std.proofs.lemmas.Iterator.{YieldsList-from_range}
+use Rattle.std.proofs.lemmas.Iterator.Search.{all_from_yields_List}
+use Rattle.contents.proofs.Laws.{range_zero}
 use Rattle.contents.proofs.zeros_between.Goals as goal
-
-pub loop-i-init : goal.loop-i-init
-loop-i-init c = (omega arith, omega arith, λ k l m. absurd (omega arith))
-
-pub returns-then-in_use : goal.returns-then-in_use
-returns-then-in_use c =
-    let a = c.args in
-    let l = c.loop-i in
-    sym (between_not (set a.w.now a.but 0) a.from a.to l.i l.invariant.0 c.loop-i-test.true (sym c.in_use.ensures ∙ c.if-in_use.true))
-
-pub loop-i-smaller : goal.loop-i-smaller
-loop-i-smaller c = omega arith
-
-pub loop-i-preserved : goal.loop-i-preserved
-loop-i-preserved c =
-    let a = c.args in
-    let l = c.loop-i in
-    (omega arith, omega arith, passed_more (set a.w.now a.but 0) l.invariant.2 (sym c.in_use.ensures ∙ c.if-in_use.false))
 
 pub returns : goal.returns
 returns c =
     let a = c.args in
-    let l = c.loop-i in
-    sym (between_all (set a.w.now a.but 0) a.from a.to (λ k h m. l.invariant.2 k h (omega arith)))
+    all_from_yields_List (λ (i : ℕ). eqb (get_or (set a.w.now a.but 0) i 0) 0) _ _ _ c.all.ensures.ran (YieldsList-from_range a.from a.to _ refl refl) (λ x b q k. search (rules, tests))
+    ∙ range_zero (set a.w.now a.but 0) a.from _ (omega (arith, length-set a.w.now a.but 0))

@@ -2,7 +2,6 @@
 use mathlib.Core.Path.{sym, ◌∙◌}
 use native.Mathlib.Omega.{arith}
 use lib.ListN.{set, length-set}
-use borrow.Author.Tests.{not-true, not-false}
 use Rattle.contents.proofs.Laws.{passed_both, between_passed, passed_too, step_stops, rest_decides}
 use Rattle.contents.proofs.zeros_but.Goals as goal
 
@@ -30,7 +29,7 @@ zeros_between-requires-2 c = omega arith
 pub returns-then-not-zeros_between : goal.returns-then-not-zeros_between
 returns-then-not-zeros_between c =
     let a = c.args in
-    sym (step_stops (set a.w.now a.but 0) _ _ (sym c.zeros_between-2.ensures ∙ not-true _ c.if-not-zeros_between.true-raw))
+    sym (step_stops (set a.w.now a.but 0) _ _ (sym c.zeros_between-2.ensures ∙ c.if-not-zeros_between.true))
 
 pub used_step-next-requires : goal.used_step-next-requires
 used_step-next-requires c = omega arith
@@ -43,7 +42,7 @@ returns c =
     let a = c.args in
     let xs = set a.w.now a.but 0 in
     let first = passed_too a.w.now a.but (omega arith) c.used_step-at.ensures.1 in
-    let but = between_passed xs (sym c.zeros_between-2.ensures ∙ not-false _ c.if-not-zeros_between.false-raw) in
+    let but = between_passed xs (sym c.zeros_between-2.ensures ∙ c.if-not-zeros_between.false) in
     let next = passed_too a.w.now a.but (omega arith) c.used_step-next.ensures.1 in
     c.zeros_between-3.ensures
     ∙ rest_decides xs _ _ (sym (length-set a.w.now a.but 0)) (passed_both xs (passed_both xs first but) next)

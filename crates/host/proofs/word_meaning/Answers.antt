@@ -2,23 +2,23 @@
 use mathlib.Core.Path.{sym, ap, ◌∙◌}
 use native.Mathlib.Omega.{arith}
 use Rattle.entry.specs.Host.{sized_by, meaning_of}
-use Rattle.host.specs.HostLaws.{meaning_refused, meaning_read, meaning_lt}
+use Rattle.host.specs.HostLaws.{sized_sane, meaning_refused, meaning_read}
+use Rattle.host.proofs.Sums.{of_size, no_size, framed}
 use Rattle.host.proofs.word_meaning.Goals as goal
 
-pub meaning_of-requires : goal.meaning_of-requires
-meaning_of-requires c = rw c.frame_at.ensures (meaning_lt _ _ _)
-
-pub returns-then-height-large_of : goal.returns-then-height-large_of
-returns-then-height-large_of c =
+pub returns-in-Some-clause-says : goal.returns-in-Some-clause-says
+returns-in-Some-clause-says c =
     let a = c.args in
-    let h = rw c.granule_by-granule.ensures at c.height_of-height.ensures in
-    let l = rw c.granule_by-granule.ensures at c.large_of.ensures in
-    c.meaning_of.ensures
+    let (h, l) = of_size _ c.granule_by-granule.ensures c.height_of.ensures c.in-Some.is in
+    c.meaning_of.ensures.says
     ∙ ap meaning_of c.frame_at.ensures
     ∙ rw (c.granule_by-granule.ensures, h) (sym (meaning_read (sized_by a.size) a.w a.size (omega arith)))
 
-pub returns : goal.returns
-returns c =
-    let h = rw c.granule_by-granule.ensures at c.height_of-height.ensures in
-    let l = rw c.granule_by-granule.ensures at c.large_of.ensures in
-    sym (meaning_refused (sized_by _) _ _ (omega arith))
+pub returns-in-None-clause-says : goal.returns-in-None-clause-says
+returns-in-None-clause-says c = sym (meaning_refused (sized_by _) _ _ (no_size _ c.granule_by-granule.ensures c.height_of.ensures c.in-None.is))
+
+pub returns-in-Some-clause-frame : goal.returns-in-Some-clause-frame
+returns-in-Some-clause-frame c =
+    let a = c.args in
+    let (h, l) = of_size _ c.granule_by-granule.ensures c.height_of.ensures c.in-Some.is in
+    framed (sized_sane a.size) a.size h l a.w c.meaning_of.result (rw c.granule_by-granule.ensures at c.frame_at.ensures) c.meaning_of.ensures.frame

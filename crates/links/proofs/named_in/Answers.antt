@@ -3,7 +3,10 @@ use Rattle.std.proofs.Common.{◌≡◌, ℕ, ◌+◌, ◌*◌, ◌/◌, ◌%◌
 use native.Mathlib.Nat.{mul-add-div, div-eq_of_lt, mul-add-mod_self_left}
 use Rattle.path.specs.Geometry.{Granule, Sane, granule_of, page_size, physical}
 use Rattle.path.specs.Laws.{granule_sane, page_pos, page_least, page_most, level_page}
+use Rattle.std.specs.Prelude.{Some}
+use Rattle.std.proofs.Common.{ap}
 use Rattle.entry.proofs.Laws.{named_none, named_back}
+use Rattle.links.specs.TreeLaws.{named_gone, named_there}
 use Rattle.links.proofs.named_in.Goals as goal
 use Rattle.links.proofs.named_in.Goals.{then-base-gt-PHYSICAL+else-w-base, else-base-gt-PHYSICAL}
 
@@ -45,7 +48,7 @@ module _ {w P off : ℕ} (low : (P ≤ physical) ⊎ (P ≤ w)) (wide : off < 2 
         (omega (arith, div-add-mod' off (page_size G), mul_comm (page_size G) (off / page_size G)))
 
 pub returns-then-w-base : goal.returns-then-w-base
-returns-then-w-base c = sym (named_none _ _ _ _ (λ k lt e. omega arith))
+returns-then-w-base c = sym (named_gone _ _ _ _ (named_none _ _ _ _ (λ k lt e. omega arith)))
 
 pub returns-then-rest_at-ne3 : goal.returns-then-rest_at-ne3
 returns-then-rest_at-ne3 c =
@@ -54,8 +57,9 @@ returns-then-rest_at-ne3 c =
     let low : (a.base ≤ physical) ⊎ (a.base ≤ a.w) = elim c.if-base-gt-PHYSICAL.branch [ then-base-gt-PHYSICAL+else-w-base w ↦ inr (omega arith) | else-base-gt-PHYSICAL w ↦ inl (omega arith) ] in
     let r = c.rest_at.ensures ∙ level_page (granule_of a.granule) S _ in
     sym
+    (named_gone _ _ _ _
     (named_none _ _ _ _
-    (λ k lt z. c.if-rest_at-ne3.true (r ∙ table_rest low (omega arith) c.wrapping_sub_u64-off.ensures.value S (omega arith) lt z)))
+    (λ k lt z. c.if-rest_at-ne3.true (r ∙ table_rest low (omega arith) c.wrapping_sub_u64-off.ensures.value S (omega arith) lt z))))
 
 pub returns-then-c-tables : goal.returns-then-c-tables
 returns-then-c-tables c =
@@ -63,8 +67,9 @@ returns-then-c-tables c =
     let S = granule_sane a.granule in
     let low : (a.base ≤ physical) ⊎ (a.base ≤ a.w) = elim c.if-base-gt-PHYSICAL.branch [ then-base-gt-PHYSICAL+else-w-base w ↦ inr (omega arith) | else-base-gt-PHYSICAL w ↦ inl (omega arith) ] in
     sym
+    (named_gone _ _ _ _
     (named_none _ _ _ _
-    (λ k lt z. omega (arith, c.pages_in-c.ensures, table_pages low (omega arith) c.wrapping_sub_u64-off.ensures.value S (omega arith) lt z)))
+    (λ k lt z. omega (arith, c.pages_in-c.ensures, table_pages low (omega arith) c.wrapping_sub_u64-off.ensures.value S (omega arith) lt z))))
 
 pub returns : goal.returns
 returns c =
@@ -74,7 +79,9 @@ returns c =
     let r = c.rest_at.ensures ∙ level_page (granule_of a.granule) S _ in
     let q = c.pages_in-c.ensures in
     let l : c.wrapping_sub_u64-off.result / page_size (granule_of a.granule) < a.tables = omega arith in
-    q
+    ap Some q
     ∙ sym
+    (named_there _ a.base a.tables a.w
     (named_back _ a.base a.tables _ a.w l
     (rest_table low (omega arith) c.wrapping_sub_u64-off.ensures.value S (omega arith) (sym r ∙ c.if-rest_at-ne3.false) l))
+    l)

@@ -1,100 +1,68 @@
 -- The walk as a loop meets its contract: at each turn the walk that is left is the whole walk.
-use mathlib.Core.Path.{sym, ◌∙◌}
+use Prim.Native.Nat.{ℕ}
+use mathlib.Core.Path.{◌≡◌, sym, ◌∙◌}
+use Rattle.std.specs.Prelude.{Some, None}
 use mathlib.Core.List.{◌++◌}
 use native.Mathlib.Omega.{arith}
-use lib.ListN.{length-append}
-use borrow.Author.Tests.{not-true, not-false}
 use Rattle.path.specs.Geometry.{granule_of}
+use Rattle.path.specs.Areas.{area_of}
 use Rattle.path.specs.Laws.{granule_sane}
+use Rattle.entry.specs.Words.{child_at}
+use Rattle.links.specs.TreeLaws.{child_some, child_none}
 use Rattle.lookup.specs.Reaches.{can_walk_lem}
-use Rattle.lookup.proofs.Turns.{tells_nowhere, turn_first, few_words, turn_past, place_lt, tells_target, tells_none, tells_itself, tells_above, turn_down, can_both}
+use Rattle.lookup.proofs.Turns.{tells_nowhere, turn_first, turn_past, tells_target, tells_none, tells_again, turn_down, can_both}
 use Rattle.lookup.proofs.reach.Goals as goal
+use Rattle.lookup.proofs.reach.Goals.{After-child_in}
 
 pub returns-then-not-walkable : goal.returns-then-not-walkable
 returns-then-not-walkable c =
     let a = c.args in
     let G = granule_of a.s.granule in
     let ws = a.words.now ++ a.second.now in
-    let told = tells_nowhere G a.s ws a.target a.address (length-append a.words.now a.second.now)
-    (can_both G a.s a.words.now a.second.now a.target c.walkable.ensures (not-true _ c.if-not-walkable.true-raw)) in
+    let told = tells_nowhere G a.s ws a.target a.address (can_both G a.s a.words.now a.second.now a.target c.walkable.ensures c.if-not-walkable.true) in
     record { end = told.0; place = told.1 }
 
-pub overflow_cast-tables : goal.overflow_cast-tables
-overflow_cast-tables c =
-    let w = can_walk_lem (sym c.walkable.ensures ∙ not-false _ c.if-not-walkable.false-raw) in
-    omega (arith, w)
+-- the word names no table, or this one
+none : (c : After-child_in) → c.child_in.result ≡ None → child_at (granule_of c.args.s.granule) (area_of c.args.s) c.word-w.result ≡ 0
+none c =
+    let k = can_walk_lem (sym c.walkable.ensures ∙ c.if-not-walkable.false) in
+    child_none c.args.s c.of-tree.ensures (omega (arith, k)) (omega (arith, k)) c.word-w.result c.child_in.ensures
 
-pub overflow_cast-tables2 : goal.overflow_cast-tables2
-overflow_cast-tables2 c =
-    let w = can_walk_lem (sym c.walkable.ensures ∙ not-false _ c.if-not-walkable.false-raw) in
-    omega (arith, w)
+some : (c : After-child_in) {t : ℕ} → c.child_in.result ≡ Some t → (t ≡ child_at (granule_of c.args.s.granule) (area_of c.args.s) c.word-w.result) × (t ≡ 0 → ⊥)
+some c =
+    let k = can_walk_lem (sym c.walkable.ensures ∙ c.if-not-walkable.false) in
+    child_some c.args.s c.of-tree.ensures (omega (arith, k)) (omega (arith, k)) c.word-w.result c.child_in.ensures
 
 pub loop-h-init : goal.loop-h-init
 loop-h-init c =
     let a = c.args in
     let G = granule_of a.s.granule in
     let ws = a.words.now ++ a.second.now in
-    turn_first G a.s ws a.target a.address (granule_sane a.s.granule)
-    (can_both G a.s a.words.now a.second.now a.target c.walkable.ensures (not-false _ c.if-not-walkable.false-raw))
-
-pub overflow_mul-end : goal.overflow_mul-end
-overflow_mul-end c =
-    let T = c.loop-h.invariant in
-    omega (arith, place_lt T (omega arith) c.index_at-i.ensures c.entry_place-place.ensures, few_words T (granule_sane _))
-
-pub overflow_add-end : goal.overflow_add-end
-overflow_add-end c =
-    let T = c.loop-h.invariant in
-    omega (arith, place_lt T (omega arith) c.index_at-i.ensures c.entry_place-place.ensures, few_words T (granule_sane _))
+    turn_first G a.s ws a.target a.address (granule_sane a.s.granule) (can_both G a.s a.words.now a.second.now a.target c.walkable.ensures c.if-not-walkable.false)
 
 pub returns-then-h-target : goal.returns-then-h-target
 returns-then-h-target c =
-    let T = c.loop-h.invariant in
-    let told = tells_target T (omega arith) c.index_at-i.ensures c.entry_place-place.ensures c.if-h-target.true in
+    let told = tells_target c.loop-h.invariant (omega arith) c.index_at-i.ensures c.entry_place-place.ensures c.if-h-target.true in
     record { end = told.0; place = told.1 }
 
-pub returns-then-child-eq0 : goal.returns-then-child-eq0
-returns-then-child-eq0 c =
-    let T = c.loop-h.invariant in
-    let told = tells_none T (omega arith) c.index_at-i.ensures c.entry_place-place.ensures c.word-w.ensures (sym c.child_in-child.ensures ∙ c.if-child-eq0.true) in
+pub returns-in_default : goal.returns-in_default
+returns-in_default c =
+    let told = tells_none c.loop-h.invariant (omega arith) c.index_at-i.ensures c.entry_place-place.ensures c.word-w.ensures (none (goal.at.returns-in_default c).After-child_in c.in_default.is) in
     record { end = told.0; place = told.1 }
-
-pub overflow_add-result : goal.overflow_add-result
-overflow_add-result c =
-    let a = c.args in
-    let T = c.loop-h.invariant in
-    omega (arith, few_words T (granule_sane _), length-append a.words.now a.second.now)
 
 pub returns-then-child-t : goal.returns-then-child-t
 returns-then-child-t c =
-    let a = c.args in
-    let T = c.loop-h.invariant in
-    let told = tells_itself T (omega arith) c.index_at-i.ensures c.entry_place-place.ensures c.word-w.ensures c.child_in-child.ensures c.if-child-eq0.false c.if-h-target.false c.if-child-t.true (length-append a.words.now a.second.now) in
-    record { end = told.0; place = told.1 }
-
-pub overflow_add-result-then-child-up : goal.overflow_add-result-then-child-up
-overflow_add-result-then-child-up c =
-    let a = c.args in
-    let T = c.loop-h.invariant in
-    omega (arith, few_words T (granule_sane _), length-append a.words.now a.second.now)
-
-pub returns-then-child-up : goal.returns-then-child-up
-returns-then-child-up c =
-    let a = c.args in
-    let T = c.loop-h.invariant in
-    let told = tells_above T (omega arith) c.index_at-i.ensures c.entry_place-place.ensures c.word-w.ensures c.child_in-child.ensures c.if-child-eq0.false c.if-h-target.false c.if-child-up.true (length-append a.words.now a.second.now) in
+    let child = some (goal.at.returns-then-child-t c).After-child_in c.in-Some.is in
+    let told = tells_again c.loop-h.invariant (omega arith) c.index_at-i.ensures c.entry_place-place.ensures c.word-w.ensures child.0 child.1 c.if-h-target.false c.then-child-t.either in
     record { end = told.0; place = told.1 }
 
 pub loop-h-preserved-then-h-s : goal.loop-h-preserved-then-h-s
 loop-h-preserved-then-h-s c =
-    let T = c.loop-h.invariant in
-    turn_down T (omega arith) c.index_at-i.ensures c.entry_place-place.ensures c.word-w.ensures c.child_in-child.ensures c.if-child-eq0.false c.if-h-target.false c.if-child-t.false c.if-child-up.false
+    let child = some (goal.at.loop-h-preserved-then-h-s c).After-child_in c.in-Some.is in
+    turn_down c.loop-h.invariant (omega arith) c.index_at-i.ensures c.entry_place-place.ensures c.word-w.ensures child.0 child.1 c.if-h-target.false c.if-child-t.false c.if-child-up.false
 
 pub loop-h-preserved : goal.loop-h-preserved
-loop-h-preserved c =
-    let T = c.loop-h.invariant in
-    turn_past T (omega arith)
+loop-h-preserved c = turn_past c.loop-h.invariant (omega arith)
 
 pub returns : goal.returns
-returns c =
-    absurd (omega arith)
+returns c = let T = c.loop-h.invariant in absurd (omega arith)

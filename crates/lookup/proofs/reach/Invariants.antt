@@ -6,6 +6,3 @@ use Rattle.lookup.proofs.reach.Given as goal
 
 abbrev pub invariant-loop-h : goal.invariant-loop-h
 invariant-loop-h l = Turn (granule_of l.s.granule) l.s (l.words ++ l.second) l.target l.address l.h l.way l.t l.up
-
-abbrev pub decreases-loop-h : goal.decreases-loop-h
-decreases-loop-h l = l.h

@@ -3,7 +3,7 @@ use Prim.Native.Nat.{◌+◌}
 use mathlib.Core.Path.{sym, ◌∙◌}
 use mathlib.Core.Bool.{false≢true}
 use native.Mathlib.Omega.{arith}
-use borrow.Author.Tests.{eqb-true, eq-eqb, not-true, not-false}
+use borrow.Author.Tests.{eqb-true, eq-eqb}
 use Rattle.path.specs.Geometry.{granule_of}
 use Rattle.path.specs.Laws.{granule_sane, words_fit, good_levels_lem, levels_some, same_truth}
 use Rattle.lookup.specs.Reaches.{can_walk_lem, cannot_walk, walk_can}
@@ -15,7 +15,7 @@ returns-then-s-gt-PHYSICAL c = sym (cannot_walk (λ w. omega arith))
 pub returns-then-not-good_levels : goal.returns-then-not-good_levels
 returns-then-not-good_levels c =
     let s = c.args.s in
-    sym (cannot_walk (λ w. false≢true (sym (not-true _ c.if-not-good_levels.true-raw) ∙ c.good_levels.ensures ∙ levels_some (granule_of s.granule) w.enough w.not_more)))
+    sym (cannot_walk (λ w. false≢true (sym c.if-not-good_levels.true ∙ c.good_levels.ensures ∙ levels_some (granule_of s.granule) w.enough w.not_more)))
 
 pub returns-then-target-s : goal.returns-then-target-s
 returns-then-target-s c = sym (cannot_walk (λ w. omega arith))
@@ -36,7 +36,7 @@ overflow_mul-result c =
 
 pub returns : goal.returns
 returns c =
-    let levels = good_levels_lem _ _ (sym c.good_levels.ensures ∙ not-false _ c.if-not-good_levels.false-raw) in
+    let levels = good_levels_lem _ _ (sym c.good_levels.ensures ∙ c.if-not-good_levels.false) in
     rw c.entries_of.ensures
     (same_truth _ _
     (λ e. walk_can (record {

@@ -10,23 +10,8 @@ returns-then-k-eq0 c t e =
     let a = c.args in
     place_first (granule_of a.granule) a.list.now a.address a.height t a.free a.need a.k c.if-k-eq0.true e
 
-pub overflow_sub-free : goal.overflow_sub-free
-overflow_sub-free c = omega arith
-
-pub place-t-requires : goal.place-t-requires
-place-t-requires c = omega arith
-
-pub overflow_sub-need : goal.overflow_sub-need
-overflow_sub-need c = omega arith
-
 pub overflow_add-need : goal.overflow_add-need
 overflow_add-need c = omega (arith, granule_sane c.args.granule)
-
-pub index_at-i-requires : goal.index_at-i-requires
-index_at-i-requires c = omega arith
-
-pub entry_place-requires : goal.entry_place-requires
-entry_place-requires c = omega arith
 
 pub returns : goal.returns
 returns c t e =

@@ -4,11 +4,9 @@ use native.Mathlib.Omega.{arith}
 use Rattle.path.specs.Geometry.{granule_of}
 use Rattle.path.specs.Areas.{area_of}
 use Rattle.path.specs.Paths.{path_of}
+use Rattle.links.specs.TreeLaws.{word_in}
 use Rattle.maps.proofs.Links.{is_fill, is_link, is_last, link_word}
 use Rattle.maps.proofs.map_step.Goals as goal
-
-pub map_place-place-requires : goal.map_place-place-requires
-map_place-place-requires c = omega arith
 
 pub returns-then-k-need : goal.returns-then-k-need
 returns-then-k-need c t e =
@@ -16,30 +14,15 @@ returns-then-k-need c t e =
     is_last (granule_of a.s.granule) (area_of a.s) (path_of (granule_of a.s.granule) a.address) a.list.now a.height a.word t a.s.free a.need (a.i / 2) a.i
     (omega arith) c.if-k-need.true (c.map_place-place.ensures t e)
 
-pub overflow_sub-free : goal.overflow_sub-free
-overflow_sub-free c = omega arith
-
-pub overflow_sub-free-2 : goal.overflow_sub-free-2
-overflow_sub-free-2 c = omega arith
-
-pub place-c-requires : goal.place-c-requires
-place-c-requires c = omega arith
-
 pub returns-then-i-eq0 : goal.returns-then-i-eq0
 returns-then-i-eq0 c t e =
     let a = c.args in
     is_fill (granule_of a.s.granule) (area_of a.s) (path_of (granule_of a.s.granule) a.address) a.list.now a.height a.word t a.s.free a.need (a.i / 2) a.i
     (omega arith) (omega arith) c.place-c.ensures
 
-pub overflow_cast-s : goal.overflow_cast-s
-overflow_cast-s c = omega arith
-
-pub table_word-value-requires : goal.table_word-value-requires
-table_word-value-requires c = omega arith
-
 pub returns : goal.returns
 returns c t e =
     let a = c.args in
     is_link (granule_of a.s.granule) (area_of a.s) (path_of (granule_of a.s.granule) a.address) a.list.now a.height a.word t a.s.free a.need (a.i / 2) a.i
     (omega arith) (omega arith) c.place-c.ensures (c.map_place-place.ensures t e)
-    (link_word (area_of a.s) _ c.requires.0.0 c.requires.0.1.0 (c.table_word-value.ensures a.s.tables2))
+    (link_word (area_of a.s) _ c.requires.0.0 c.requires.0.1.0 (word_in a.s c.of.ensures (omega arith) _ c.table_word-value.ensures))

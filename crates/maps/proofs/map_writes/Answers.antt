@@ -1,62 +1,34 @@
--- `maps::map_writes`: after k turns the words are those of the writes of k tables.
-use mathlib.Core.Path.{refl, ◌∙◌}
+-- `maps::map_writes`: after i turns the words are those of the first i writes.
+use Prim.Native.Nat.{◌+◌, ◌*◌}
+use mathlib.Core.Path.{◌≡◌, refl, ap, ◌∙◌}
+use mathlib.Core.List.{List, ◌++◌}
 use native.Mathlib.Omega.{arith}
 use Rattle.path.specs.Geometry.{granule_of}
 use Rattle.path.specs.Areas.{area_of}
 use Rattle.path.specs.Paths.{path_of}
 use Rattle.path.specs.Laws.{granule_sane}
-use Rattle.model.specs.Writes.{perform_all}
-use Rattle.maps.proofs.Links.{map_all, linked_more, linked_all}
+use Rattle.model.specs.Writes.{Write, memory, perform_all}
+use Rattle.plans.specs.Steps.{words_next}
+use Rattle.maps.proofs.Links.{map_all}
 use Rattle.maps.proofs.map_writes.Goals as goal
 
-pub loop-k-init : goal.loop-k-init
+pub overflow_mul-i-end : goal.overflow_mul-i-end
+overflow_mul-i-end c = omega (arith, granule_sane c.args.s.granule)
+
+pub overflow_add-i-end : goal.overflow_add-i-end
+overflow_add-i-end c = omega (arith, granule_sane c.args.s.granule)
+
+pub loop-i-init : goal.loop-i-init
 unfolding perform_all
-loop-k-init c = (omega arith, (refl, (refl, λ t e n q l. refl)))
+loop-i-init c t e n q l = refl
 
-pub overflow_mul-k : goal.overflow_mul-k
-overflow_mul-k c = omega (arith, granule_sane c.args.s.granule)
-
-pub map_step-fill-requires : goal.map_step-fill-requires
-map_step-fill-requires c = omega arith
-
-pub overflow_mul-k-in-loop-k : goal.overflow_mul-k-in-loop-k
-overflow_mul-k-in-loop-k c = omega (arith, granule_sane c.args.s.granule)
-
-pub overflow_add-k : goal.overflow_add-k
-overflow_add-k c = omega (arith, granule_sane c.args.s.granule)
-
-pub map_step-link-requires : goal.map_step-link-requires
-map_step-link-requires c = omega arith
-
-pub overflow_add-k-in-loop-k : goal.overflow_add-k-in-loop-k
-overflow_add-k-in-loop-k c = omega arith
-
-pub loop-k-smaller : goal.loop-k-smaller
-loop-k-smaller c = omega arith
-
-pub loop-k-preserved : goal.loop-k-preserved
-loop-k-preserved c =
-    let l = c.loop-k in
-    let fill = c.step_words in
-    let link = c.step_words-in-loop-k in (
-      omega arith,
-      (
-        link.auto.words ∙ fill.auto.words ∙ l.invariant.1.0,
-        (
-          link.auto.second ∙ fill.auto.second ∙ l.invariant.1.1.0,
-          λ t e n q. linked_more _ _ _ l.k (c.map_step-fill.ensures t e) (c.map_step-link.ensures t e) (l.invariant.1.1.1 t e n q) (fill.ensures n (l.invariant.1.0 ∙ q)) (link.ensures n (fill.auto.words ∙ l.invariant.1.0 ∙ q)),
-        ),
-      ),
-    )
-
-pub overflow_mul-need : goal.overflow_mul-need
-overflow_mul-need c = omega (arith, granule_sane c.args.s.granule)
-
-pub map_step-last-requires : goal.map_step-last-requires
-map_step-last-requires c = omega arith
+pub loop-i-preserved : goal.loop-i-preserved
+loop-i-preserved c t e n q = words_next _ _ c.loop-i.i (c.map_step-step.ensures t e) _ (c.loop-i.invariant t e n q) (c.step_words.ensures n (c.loop-i.auto.words ∙ q))
 
 pub returns : goal.returns
-returns c =
+returns c t e n q l =
     let a = c.args in
-    let l = c.loop-k in
-    λ t e n q. linked_all _ _ _ a.need l.k (omega arith) (c.map_step-last.ensures t e) (map_all (granule_of a.s.granule) (area_of a.s) (path_of (granule_of a.s.granule) a.address) a.list.now a.height a.word t a.s.free a.need) (l.invariant.1.1.1 t e n q) (c.step_words-2.ensures n (l.invariant.1.0 ∙ q))
+    let G = granule_of a.s.granule in
+    let end : c.loop-i.i ≡ 2 * a.need + 1 = omega arith in
+    (rw end at c.loop-i.invariant t e n q l)
+    ∙ ap (λ (x : List Write). (perform_all G x (memory (a.words.now ++ a.second.now) l)).words) (map_all G (area_of a.s) (path_of G a.address) a.list.now a.height a.word t a.s.free a.need)

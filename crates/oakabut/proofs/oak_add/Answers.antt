@@ -13,5 +13,5 @@ use Rattle.oakabut.proofs.oak_add.Goals as goal
 pub returns : goal.returns
 returns c =
     let a = c.args in
-    let e = ap (λ (z : Setup). add_w (granule_of z.granule) (pool z (a.words.now ++ a.second.now) (length a.words.now) a.list.now) a.base2 a.tables2) c.setup_at.ensures in
-    leaves setup_places (c.add-d.ensures.whole ∙ e) c.added.ensures
+    let e = ap (λ (z : Setup). add_w (granule_of z.granule) (pool z (a.words.now ++ a.second.now) (length a.words.now) a.list.now) a.base2 a.tables2) c.setup_at-p.ensures in
+    leaves setup_places (c.add-done.ensures.whole ∙ e) c.formatted.ensures

@@ -13,4 +13,4 @@ pub returns : goal.returns
 returns c =
     let a = c.args in
     let e = ap (λ (z : Setup). audit_w (granule_of z.granule) (pool z (a.words.now ++ a.second.now) (length a.words.now) a.list.now)) c.setup_at.ensures in
-    hears (c.audit-a.ensures.whole ∙ e) c.audited.ensures
+    hears (c.audit-done.ensures.whole ∙ e) c.audited.ensures

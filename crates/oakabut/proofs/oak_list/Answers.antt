@@ -13,4 +13,4 @@ pub returns : goal.returns
 returns c =
     let a = c.args in
     let e = ap (λ (z : Setup). leaves (list_w (granule_of z.granule) (pool z (a.words.now ++ a.second.now) (length a.words.now) a.list.now) a.start (length a.places.now) (length a.entries.now)) a.places.now a.entries.now) c.setup_at-p.ensures in
-    writes (c.list-a.ensures.whole ∙ e) (c.listed.ensures _ _)
+    writes (c.list-done.ensures.whole ∙ e) (c.listed.ensures _ _)

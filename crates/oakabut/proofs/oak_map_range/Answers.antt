@@ -14,4 +14,4 @@ pub returns : goal.returns
 returns c =
     let a = c.args in
     let e = ap (λ (z : Setup). map_range_w (granule_of z.granule) (pool z (a.words.now ++ a.second.now) (length a.words.now) a.list.now) a.address a.frame a.len a.attributes) c.setup_at-p.ensures in
-    leaves map_places (c.map_range-d.ensures.whole ∙ e) c.mapped.ensures
+    leaves map_places (c.map_range-done.ensures.whole ∙ e) c.mapped.ensures

@@ -13,5 +13,5 @@ use Rattle.oakabut.proofs.oak_unmap_range.Goals as goal
 pub returns : goal.returns
 returns c =
     let a = c.args in
-    let e = ap (λ (z : Setup). unmap_range_w (granule_of z.granule) (pool z (a.words.now ++ a.second.now) (length a.words.now) a.list.now) a.address a.len) c.setup_at.ensures in
-    leaves remove_places (c.unmap_range-d.ensures.whole ∙ e) c.removed.ensures
+    let e = ap (λ (z : Setup). unmap_range_w (granule_of z.granule) (pool z (a.words.now ++ a.second.now) (length a.words.now) a.list.now) a.address a.len) c.setup_at-p.ensures in
+    leaves remove_places (c.unmap_range-done.ensures.whole ∙ e) c.removed.ensures

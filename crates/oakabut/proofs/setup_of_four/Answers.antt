@@ -6,4 +6,4 @@ use Rattle.oakabut.proofs.setup_of_four.Goals as goal
 
 pub returns : goal.returns
 returns c e =
-    ap (λ (z : Setup). setup z.levels z.base z.tables z.free z.base2 z.tables2 4096) c.setup_at-p.ensures ∙ ap (setup _ _ _ _ _ _) (sym e)
+    ap (λ (z : Setup). setup z.levels z.base z.tables z.free z.base2 z.tables2 4096) c.setup_at.ensures ∙ ap (setup _ _ _ _ _ _) (sym e)

@@ -1,10 +1,10 @@
--- `path::in_space` meets its contract: a space of 0 says that no tree has so many levels.
+-- `path::in_space` meets its contract, with the space or with none.
 use Prim.Native.Nat.{ℕ, ◌+◌, ◌-◌, ◌≤◌}
-use mathlib.Core.Path.{◌≡◌, sym, ◌∙◌}
+use Rattle.std.proofs.Common.{◌≡◌, sym, ◌∙◌}
 use native.Mathlib.Omega.{arith}
-use lib.Dec.{leb}
+use Rattle.std.specs.Prelude.{leb}
 use borrow.Author.Tests.{lt-leb, le-leb, leb-true}
-use Rattle.path.specs.Laws.{space_gone, space_there, same_truth}
+use Rattle.path.specs.Laws.{known_some, known_none, same_truth}
 use Rattle.path.proofs.in_space.Goals as goal
 
 -- so many addresses from a on end within a space
@@ -14,17 +14,17 @@ within a size space l =
     (λ e. le-leb (a + size) space (omega (arith, leb-true a (space - size) e)))
     (λ e. le-leb a (space - size) (omega (arith, leb-true (a + size) space e)))
 
-pub returns-then-space-eq0 : goal.returns-then-space-eq0
-returns-then-space-eq0 c = rw (space_gone _ _ (sym c.space_of-space.ensures ∙ c.if-space-eq0.true))
+pub returns-in_default : goal.returns-in_default
+returns-in_default c = rw (known_none _ _ (sym c.space_of.ensures ∙ c.in_default.is))
 
 pub returns-then-size-space : goal.returns-then-size-space
 returns-then-size-space c =
     let a = c.args in
-    rw (space_there _ _ (λ z. c.if-space-eq0.false (c.space_of-space.ensures ∙ z)), ← c.space_of-space.ensures)
-    (sym (lt-leb (a.address + a.size) c.space_of-space.result (omega arith)))
+    let k = known_some _ _ _ (sym c.space_of.ensures ∙ c.in-Some.is) in
+    rw (k.0, ← k.1) (within a.address a.size c.in-Some.space (omega arith))
 
-pub returns : goal.returns
-returns c =
+pub returns-else-size-space : goal.returns-else-size-space
+returns-else-size-space c =
     let a = c.args in
-    rw (space_there _ _ (λ z. c.if-space-eq0.false (c.space_of-space.ensures ∙ z)), ← c.space_of-space.ensures)
-    (within a.address a.size c.space_of-space.result (omega arith))
+    let k = known_some _ _ _ (sym c.space_of.ensures ∙ c.in-Some.is) in
+    rw (k.0, ← k.1, lt-leb a.size c.in-Some.space (omega arith)) (sym (lt-leb (a.address + a.size) c.in-Some.space (omega arith)))

@@ -1,109 +1,56 @@
 -- What the walk to the last level answers meets its contract: at each turn the walk that is left is the whole walk.
+use mathlib.Core.List.{◌++◌}
 use Prim.Native.Nat.{ℕ, ◌-◌}
-use mathlib.Core.Path.{◌≡◌, refl, sym, ap, ◌∙◌}
-use mathlib.Core.List.{List, ◌++◌}
+use Rattle.std.specs.Prelude.{Some, None}
+use mathlib.Core.Path.{◌≡◌, refl, sym, ◌∙◌}
 use native.Mathlib.Omega.{arith}
-use lib.ListN.{get_or, length-set}
-use Rattle.path.specs.Geometry.{Granule, granule_of}
-use Rattle.path.specs.Areas.{Area, area_at}
-use Rattle.path.specs.Paths.{path_of}
+use Rattle.path.specs.Geometry.{granule_of}
+use Rattle.path.specs.Areas.{area_of}
 use Rattle.path.specs.Laws.{granule_sane}
-use Rattle.entry.proofs.Laws.{child_only}
-use Rattle.model.specs.declared.Walked.{Walked}
-use Rattle.model.specs.Walk.{slot, at_height, no_way, walk_from}
-use Rattle.model.specs.Calls.{found_at}
-use Rattle.lookup.specs.WalkLaws.{word_of}
-use Rattle.lookup.specs.Steps.{going_first, going_past, going_down, ends_empty, ends_frame, comes_again, goes_down}
-use Rattle.query.specs.Asks.{ends_at}
-use Rattle.query.specs.AskLaws.{answer_no}
+use Rattle.entry.specs.Words.{child_at}
+use Rattle.links.specs.TreeLaws.{child_some, child_none}
+use Rattle.model.proofs.Refusing.{hole_known}
+use Rattle.query.proofs.Queries.{turn_first, turn_past, tells_empty, tells_frame, tells_again, turn_down}
 use Rattle.query.proofs.ask.Goals as goal
-
-module _ (G : Granule) (ws : List ℕ) (area : Area) where
-  -- a walk by the path of the address
-  whole : (a top : ℕ) {path : List ℕ} {o : Walked} → path ≡ path_of G a → o ≡ walk_from G ws area 0 path top no_way 0
-      → ends_at G a o ≡ ends_at G a (walk_from G ws area 0 (path_of G a) top no_way 0)
-  whole a top e w = ap (ends_at G a) (w ∙ ap (λ (p : List ℕ). walk_from G ws area 0 p top no_way 0) e)
-
-  -- the word of its entry at a table, by the place among the words
-  word_at : (path : List ℕ) (h t : ℕ) {w place : ℕ} → w ≡ get_or ws place 0 → place ≡ slot G t (at_height path h) → w ≡ word_of G ws area 0 path h t
-  word_at path h t e p = e ∙ ap (λ (k : ℕ). get_or ws k 0) p
+use Rattle.query.proofs.ask.Goals.{After-child_in}
 
 pub loop-h-init : goal.loop-h-init
 loop-h-init c =
-    let S = granule_sane c.args.granule in
-    (omega arith, omega arith, omega arith, refl, going_first (granule_of c.args.granule) _ _ _ _ (omega arith))
+    let a = c.args in
+    turn_first (granule_of a.s.granule) a.s (a.words.now ++ a.second.now) a.address (granule_sane a.s.granule) (omega arith) (omega arith)
 
 pub returns-then-w-eq0 : goal.returns-then-w-eq0
-unfolding found_at
 returns-then-w-eq0 c =
-    let s = c.args in
-    let G = granule_of s.granule in
-    let ws = s.words.now ++ s.second.now in
-    let area = area_at s.base s.tables s.base2 s.tables2 in
-    let path = c.path_of-path.result in
-    let l = c.loop-h in
-    c.hole_told.ensures
-    ∙ whole G ws area s.address (s.levels - 1) c.path_of-path.ensures
-    (ends_empty G ws area 0 path (l.h - 1) l.way l.t (word_at G ws area path (l.h - 1) l.t c.word-w.ensures c.entry_place-place.ensures) c.if-w-eq0.true ∙ l.invariant.4.goes (omega arith))
+    tells_empty c.loop-h.invariant (omega arith) c.path_of-path.ensures c.entry_place.ensures c.word-w.ensures c.if-w-eq0.true
+    (c.hole_at.ensures ∙ hole_known (granule_of c.args.s.granule) c.args.address (c.loop-h.h - 1) (omega arith) refl refl)
 
 pub returns-then-h-eq0 : goal.returns-then-h-eq0
 returns-then-h-eq0 c =
-    let s = c.args in
-    let G = granule_of s.granule in
-    let ws = s.words.now ++ s.second.now in
-    let area = area_at s.base s.tables s.base2 s.tables2 in
-    let path = c.path_of-path.result in
-    let l = c.loop-h in
-    c.frame_told.ensures
-    ∙ whole G ws area s.address (s.levels - 1) c.path_of-path.ensures
-    (ends_frame G ws area 0 path (l.h - 1) l.way l.t (word_at G ws area path (l.h - 1) l.t c.word-w.ensures c.entry_place-place.ensures) c.if-w-eq0.false (λ high. absurd (omega arith)) ∙ l.invariant.4.goes (omega arith))
+    tells_frame c.loop-h.invariant (omega arith) c.path_of-path.ensures c.entry_place.ensures c.word-w.ensures c.if-w-eq0.false (λ high. absurd (omega arith)) c.frame_told.ensures
 
-pub returns-then-child-eq0 : goal.returns-then-child-eq0
-returns-then-child-eq0 c =
-    let s = c.args in
-    let G = granule_of s.granule in
-    let ws = s.words.now ++ s.second.now in
-    let area = area_at s.base s.tables s.base2 s.tables2 in
-    let path = c.path_of-path.result in
-    let l = c.loop-h in
-    c.frame_told-then-child-eq0.ensures
-    ∙ whole G ws area s.address (s.levels - 1) c.path_of-path.ensures
-    (ends_frame G ws area 0 path (l.h - 1) l.way l.t (word_at G ws area path (l.h - 1) l.t c.word-w.ensures c.entry_place-place.ensures) c.if-w-eq0.false (λ high. sym c.child_in-child.ensures ∙ c.if-child-eq0.true) ∙ l.invariant.4.goes (omega arith))
+-- the word names no table, or this one
+none : (c : After-child_in) → c.child_in.result ≡ None → child_at (granule_of c.args.s.granule) (area_of c.args.s) c.word-w.result ≡ 0
+none c = child_none c.args.s c.of-tree.ensures (omega (arith, c.requires)) (omega (arith, c.requires)) c.word-w.result c.child_in.ensures
+
+some : (c : After-child_in) {t : ℕ} → c.child_in.result ≡ Some t → (t ≡ child_at (granule_of c.args.s.granule) (area_of c.args.s) c.word-w.result) × (t ≡ 0 → ⊥)
+some c = child_some c.args.s c.of-tree.ensures (omega (arith, c.requires)) (omega (arith, c.requires)) c.word-w.result c.child_in.ensures
+
+pub returns-in_default : goal.returns-in_default
+returns-in_default c =
+    tells_frame c.loop-h.invariant (omega arith) c.path_of-path.ensures c.entry_place.ensures c.word-w.ensures c.if-w-eq0.false (λ high. none (goal.at.returns-in_default c).After-child_in c.in_default.is)
+    c.frame_told-in_default.ensures
 
 pub returns-then-among_four : goal.returns-then-among_four
-unfolding found_at
 returns-then-among_four c =
-    let s = c.args in
-    let G = granule_of s.granule in
-    let ws = s.words.now ++ s.second.now in
-    let area = area_at s.base s.tables s.base2 s.tables2 in
-    let path = c.path_of-path.result in
-    let l = c.loop-h in
-    answer_no 8 _ (λ e. omega arith) (λ e. omega arith)
-    ∙ whole G ws area s.address (s.levels - 1) c.path_of-path.ensures
-    (comes_again G ws area 0 path (l.h - 1) l.way l.t (word_at G ws area path (l.h - 1) l.t c.word-w.ensures c.entry_place-place.ensures) c.child_in-child.ensures (omega (arith, c.if-child-eq0.false)) (omega (arith, c.if-h-eq0.false)) (sym c.among_four.ensures ∙ c.if-among_four.true) ∙ l.invariant.4.goes (omega arith))
+    let child = some (goal.at.returns-then-among_four c).After-child_in c.in-Some.is in
+    tells_again c.loop-h.invariant (omega arith) c.path_of-path.ensures c.entry_place.ensures c.word-w.ensures child.0 child.1 c.if-h-eq0.false
+    (sym c.among_four.ensures ∙ c.if-among_four.true)
 
-pub loop-h-preserved-then-h-levels : goal.loop-h-preserved-then-h-levels
-loop-h-preserved-then-h-levels c =
-    let s = c.args in
-    let G = granule_of s.granule in
-    let ws = s.words.now ++ s.second.now in
-    let area = area_at s.base s.tables s.base2 s.tables2 in
-    let path = c.path_of-path.result in
-    let l = c.loop-h in (
-      omega (arith, c.if-h-eq0.false),
-      omega arith,
-      (child_only G area _ (sym c.child_in-child.ensures) (omega (arith, c.if-child-eq0.false))).0,
-      length-set l.way (3 - (l.h - 1)) l.t ∙ l.invariant.3,
-      going_down G _ _ _ _ l.invariant.4 (omega arith)
-          (goes_down G ws area 0 path (l.h - 1) l.way l.t (word_at G ws area path (l.h - 1) l.t c.word-w.ensures c.entry_place-place.ensures) c.child_in-child.ensures (omega (arith, c.if-child-eq0.false)) (omega (arith, c.if-h-eq0.false)) (sym c.among_four.ensures ∙ c.if-among_four.false)),
-    )
+pub loop-h-preserved-then-h-s : goal.loop-h-preserved-then-h-s
+loop-h-preserved-then-h-s c =
+    let child = some (goal.at.loop-h-preserved-then-h-s c).After-child_in c.in-Some.is in
+    turn_down c.loop-h.invariant (omega arith) c.path_of-path.ensures c.entry_place.ensures c.word-w.ensures child.0 child.1 c.if-h-eq0.false
+    (sym c.among_four.ensures ∙ c.if-among_four.false)
 
 pub loop-h-preserved : goal.loop-h-preserved
-loop-h-preserved c =
-    let l = c.loop-h in
-    (omega arith, omega arith, l.invariant.2, l.invariant.3, going_past (granule_of c.args.granule) _ _ _ _ l.invariant.4 (omega arith))
-
-pub returns : goal.returns
-returns c =
-    absurd (omega arith)
+loop-h-preserved c = turn_past c.loop-h.invariant (omega arith) (omega arith)

@@ -4,6 +4,7 @@ use mathlib.Core.Path.{◌≡◌, sym, ap, ◌∙◌}
 use mathlib.Core.List.{◌++◌}
 use native.Mathlib.Omega.{arith}
 use lib.ListN.{length, take, drop}
+use Rattle.std.specs.Prelude.{Ok}
 use Rattle.laws.specs.Lists.{part}
 use Rattle.laws.specs.ListLaws.{length_part}
 use Rattle.path.specs.Geometry.{granule_of, entries}
@@ -42,18 +43,15 @@ row c =
     let many : c.index_at-from.result + a.count - c.index_at-from.result ≡ a.count = omega arith in
     (λ i. take (many i) (drop (index c i) (table c i))) ∙ sym (row_part (granule_of a.s.granule) (a.words.now ++ a.second.now) a.t (index_at (granule_of a.s.granule) a.address a.height) a.count c.requires.1.1.1)
 
-pub overflow_add-to : goal.overflow_add-to
-overflow_add-to c = let a = c.args in omega (arith, index (goal.at.overflow_add-to c).After-index_at-from, c.requires.1.1.1, entries_most (granule_of a.s.granule) (granule_sane a.s.granule))
+pub overflow_add-from : goal.overflow_add-from
+overflow_add-from c = let a = c.args in omega (arith, index (goal.at.overflow_add-from c).After-index_at-from, c.requires.1.1.1, entries_most (granule_of a.s.granule) (granule_sane a.s.granule))
 
 pub slice_bounds-met_in-end : goal.slice_bounds-met_in-end
 slice_bounds-met_in-end c = let a = c.args in omega (arith, index (goal.at.slice_bounds-met_in-end c).After-index_at-from, c.requires.1.1.1, long (goal.at.slice_bounds-met_in-end c).After-index_at-from)
 
-pub overflow_cast-s : goal.overflow_cast-s
-overflow_cast-s c = omega (arith, good (goal.at.overflow_cast-s c).Start)
-
-pub overflow_cast-s-2 : goal.overflow_cast-s-2
-overflow_cast-s-2 c = omega (arith, good (goal.at.overflow_cast-s-2 c).Start)
+pub met_in-requires : goal.met_in-requires
+met_in-requires c = omega (arith, good (goal.at.met_in-requires c).Start)
 
 pub returns : goal.returns
 returns c = let a = c.args in
-    c.met_in.ensures ∙ ap (met_in (granule_of a.s.granule) (area_of a.s) a.height 0) (row (goal.at.returns c).After-index_at-from)
+    c.met_in.ensures ∙ ap (met_in (granule_of a.s.granule) (area_of a.s) a.height (Ok 0)) (row (goal.at.returns c).After-index_at-from)

@@ -17,7 +17,7 @@ invariant-loop-left l = Stands (granule_of l.s.granule) l.s l.address l.frame l.
     × ((length l.stands ≡ length l.initial.stands)
     × ((list : List ℕ) (k : ℕ) → good_setup (granule_of l.s.granule) l.s (length l.words) (length (l.words ++ l.second)) (length list) ≡ true
     → ((t : ℕ) → get_or l.initial.stands t 0 ≡ 0) → map_range_tests (granule_of l.s.granule) l.s.levels (area_of l.s) l.address l.frame l.len k ≡ 0
-    → Sofar (granule_of l.s.granule) (pool l.s (l.words ++ l.second) (length l.words) list) l.address l.frame l.len k l.x l.y l.left l.no l.need l.stands))
+    → Sofar (granule_of l.s.granule) (pool l.s (l.words ++ l.second) (length l.words) list) l.address l.frame l.len k l.x l.y l.left l.overlaps l.need l.stands))
 
 abbrev pub decreases-loop-left : goal.decreases-loop-left
 decreases-loop-left l = l.left

@@ -1,14 +1,13 @@
 -- `rangeunmaps::beyond`: past a region, or past a row that is tested.
 use mathlib.Core.Path.{◌≡◌, refl, sym, ap, ◌∙◌, subst}
 use Prim.Native.Nat.{ℕ, ◌+◌, ◌-◌, ◌*◌, ◌≤◌}
+use Rattle.std.proofs.Common.{Some}
 use mathlib.Core.List.{◌++◌}
 use native.Mathlib.Omega.{arith}
-use lib.ListN.{length}
 use Rattle.laws.specs.Lists.{part}
-use Rattle.laws.specs.ListLaws.{length_part_le}
 use Rattle.path.specs.Geometry.{granule_of, page_size}
 use Rattle.path.specs.Paths.{index_at}
-use Rattle.path.specs.Laws.{granule_sane, level_some, entries_most, size_zero}
+use Rattle.path.specs.Laws.{granule_sane, level_some, size_zero}
 use Rattle.model.specs.Walk.{slot}
 use Rattle.ranges.specs.Stretches.{stretch_at}
 use Rattle.sweeps.specs.Parts.{misfits_in, row_of}
@@ -31,33 +30,14 @@ bad_is c =
     let G = granule_of a.granule in
     c.misfits-bad.ensures ∙ ap (misfits_in G) (c.row.ensures ∙ ap (part (a.words.now ++ a.second.now) (slot G a.t (index_at G a.address 0))) (c.stretch-n.ensures ∙ level_some G {h = 0} (omega (arith, granule_sane a.granule)) _))
 
-pub past-requires : goal.past-requires
-past-requires c = (c.requires.0.0, omega (arith, c.requires.0.1.0, c.requires.0.1.1))
-
 pub returns-then-left-gt0 : goal.returns-then-left-gt0
-returns-then-left-gt0 c = record { past_region = λ m. c.past.ensures; faulty = λ z m. absurd (omega (arith, c.if-left-gt0.true)); past_row = λ z m. absurd (omega (arith, c.if-left-gt0.true)) }
-
-pub overflow_sub-end : goal.overflow_sub-end
-overflow_sub-end c = omega (arith, c.requires.0.1.0)
+returns-then-left-gt0 c = record { past_region = λ m. ap Some c.past.ensures; faulty = λ z m. absurd (omega (arith, c.if-left-gt0.true)); past_row = λ z m. absurd (omega (arith, c.if-left-gt0.true)) }
 
 pub row-requires : goal.row-requires
 row-requires c =
     let a = c.args in
     let (k, b) = c.requires.1 (omega (arith, c.if-left-gt0.false)) in
     (k, (b, omega (arith, many (goal.at.row-requires c).After-stretch-n, stretch_room (granule_of a.granule) a.address (a.end - a.address) 0)))
-
-pub misfits-bad-requires : goal.misfits-bad-requires
-misfits-bad-requires c =
-    let a = c.args in
-    let G = granule_of a.granule in
-    omega (
-      arith,
-      ap length c.row.ensures,
-      many (goal.at.misfits-bad-requires c).After-stretch-n,
-      stretch_room G a.address (a.end - a.address) 0,
-      entries_most G (granule_sane a.granule),
-      length_part_le (a.words.now ++ a.second.now) (slot G a.t (index_at G a.address 0)) c.stretch-n.result,
-    )
 
 pub returns-then-bad-gt0 : goal.returns-then-bad-gt0
 returns-then-bad-gt0 c = record {
@@ -76,5 +56,5 @@ pub returns : goal.returns
 returns c = record {
   past_region = λ m. absurd (omega (arith, c.if-left-gt0.false));
   faulty = λ z m. absurd (m (sym (bad_is (goal.at.returns c).After-misfits-bad) ∙ omega (arith, c.if-bad-gt0.false)));
-  past_row = λ z m. (λ i. c.args.address + many (goal.at.returns c).After-stretch-n i * c.page_of.ensures i);
+  past_row = λ z m. (λ i. Some (c.args.address + many (goal.at.returns c).After-stretch-n i * c.page_of.ensures i));
 }

@@ -1,50 +1,42 @@
--- `rangeunmaps::clear_used`: from i on the words are still to become 0.
-use mathlib.Core.Path.{◌≡◌, refl, sym, ap, ◌∙◌}
-use native.Mathlib.Omega.{arith}
-use Prim.Native.Nat.{ℕ, suc, ◌+◌, ◌-◌, ◌≤◌}
-use mathlib.Core.List.{List}
-use lib.ListN.{length, set, length-set}
-use Rattle.laws.specs.Lists.{zeroed}
-use Rattle.laws.specs.ListLaws.{zeroed_none, zeroed_more, zeroed_zero, zeroed_kept}
+-- `rangeunmaps::clear_used`: the words up to an index are 0.
+use borrow.Author.Count.{below_more}
+use Rattle.std.proofs.Common.{ℕ, ◌≡◌, ◌<◌, ◌+◌, ◌-◌, ◌++◌, ap, sym, ◌∙◌, List, length, take, drop, set, get_or, replicate, refl, arith, ext_get_or, length-take, length-drop, get_or-set_same, get_or-set_other}
+use Rattle.std.proofs.lemmas.List.{get_or-replicate, length-replicate}
+use Rattle.laws.specs.ListLaws.{zeroed_none, zeroed_is}
 use Rattle.rangeunmaps.proofs.clear_used.Goals as goal
-use Rattle.rangeunmaps.proofs.clear_used.Goals.{then-run-i-ne0, else-run-i-ne0}
+use Rattle.rangeunmaps.proofs.clear_used.Goals.{then-start-n-via-then-start-n, then-start-n-via-else-start-n+then-n-start, then-w-ne0, else-w-ne0}
+
+-- words that are all 0
+all_zeros : (l : List ℕ) (k : ℕ) → length l ≡ k → ((i : ℕ) → i < k → get_or l i 0 ≡ 0) → l ≡ replicate k 0
+all_zeros l k e f = ext_get_or 0 l (replicate k 0) (e ∙ sym (length-replicate k 0)) (λ i m. f i (omega arith) ∙ sym (get_or-replicate k i 0 0 (omega arith)))
+
+-- one more
+zeros_more : (l : List ℕ) (i v : ℕ) {r : List ℕ} → i < length l → v ≡ 0 → r ≡ set l i v → ((k : ℕ) → k < i → get_or l k 0 ≡ 0) → (k : ℕ) → k < i + 1 → get_or r k 0 ≡ 0
+zeros_more l i v {r} m z e f =
+    let zero : ℕ → Type 0 = λ k. get_or r k 0 ≡ 0 in
+    below_more zero i (λ k n. ap (λ (y : List ℕ). get_or y k 0) e ∙ get_or-set_other l i k v 0 (omega arith) ∙ f k n) (ap (λ (y : List ℕ). get_or y i 0) e ∙ get_or-set_same l i v 0 m ∙ z)
 
 pub returns-then-start-n : goal.returns-then-start-n
-returns-then-start-n c = let a = c.args in sym (zeroed_none a.run.now a.start a.count (omega arith))
-
-pub returns-then-n-start : goal.returns-then-n-start
-returns-then-n-start c = let a = c.args in sym (zeroed_none a.run.now a.start a.count (omega arith))
-
-pub loop-i-init : goal.loop-i-init
-loop-i-init c =
+returns-then-start-n c =
     let a = c.args in
-    let e : a.start + a.count - a.start ≡ a.count = omega arith in
-    (omega arith, (ap (λ (k : ℕ). zeroed a.run.now a.start k) e, refl))
+    elim c.then-start-n.branch [
+      | then-start-n-via-then-start-n w ↦ sym (zeroed_none a.run.now a.start a.count (omega (arith, w.if-start-n.true)))
+      | then-start-n-via-else-start-n+then-n-start w ↦ sym (zeroed_none a.run.now a.start a.count (omega (arith, w.if-n-start.true, w.if-start-n.false)))
+    ]
 
-pub loop-i-preserved : goal.loop-i-preserved
-loop-i-preserved c =
-    let l = c.loop-i in
-    let a = c.args in
-    let end = a.start + a.count in
-    let k : end - l.i ≡ suc (end - (l.i + 1)) = omega arith in
-    let next : l.i + 1 ≡ suc l.i = omega arith in
-    let within : l.i + suc (end - (l.i + 1)) ≤ length l.run = omega (arith, l.invariant.1.1) in
-    let step : (zeroed c.if-run-i-ne0.run (l.i + 1) (end - (l.i + 1)) ≡ zeroed l.run l.i (suc (end - (l.i + 1)))) × (length c.if-run-i-ne0.run ≡ length l.run) =
-    elim c.if-run-i-ne0.branch [
-      | then-run-i-ne0 w ↦ (
-        ap (λ (r : List ℕ). zeroed r (l.i + 1) (end - (l.i + 1))) w.run-is ∙ ap (λ (j : ℕ). zeroed (set l.run l.i 0) j (end - (l.i + 1))) next ∙ zeroed_more l.run l.i (end - (l.i + 1)) within,
-        ap length w.run-is ∙ length-set l.run l.i 0,
-      )
-      | else-run-i-ne0 w ↦ (
-        ap (λ (r : List ℕ). zeroed r (l.i + 1) (end - (l.i + 1))) w.run-is ∙ ap (λ (j : ℕ). zeroed l.run j (end - (l.i + 1))) next ∙ zeroed_kept l.run l.i (end - (l.i + 1)) within w.if-run-i-ne0.false,
-        ap length w.run-is,
-      )
-    ] in
-    (omega arith, (step.0 ∙ ap (λ (k : ℕ). zeroed l.run l.i k) (sym k) ∙ l.invariant.1.0, step.1 ∙ l.invariant.1.1))
+pub loop-w-preserved : goal.loop-w-preserved
+loop-w-preserved c =
+    let l = c.loop-w in
+    elim c.if-w-ne0.branch [
+      | then-w-ne0 w ↦ zeros_more l.w-items l.w-index 0 (omega arith) refl w.w-items-is l.invariant
+      | else-w-ne0 w ↦ zeros_more l.w-items l.w-index (get_or l.w-items l.w-index 0) (omega arith) w.if-w-ne0.false w.w-items-is l.invariant
+    ]
 
 pub returns : goal.returns
 returns c =
-    let l = c.loop-i in
     let a = c.args in
-    let z : a.start + a.count - l.i ≡ 0 = omega arith in
-    sym (zeroed_zero l.run l.i) ∙ ap (λ (k : ℕ). zeroed l.run l.i k) (sym z) ∙ l.invariant.1.0
+    let l = c.loop-w in
+    let k : a.start + a.count - a.start ≡ a.count = omega arith in
+    let long : length (take (a.start + a.count - a.start) (drop a.start a.run.now)) ≡ a.count = omega (arith, length-take {A = ℕ}, length-drop {A = ℕ}) in
+    let z : l.w-items ≡ replicate a.count 0 = all_zeros l.w-items a.count (l.auto.w-items ∙ long) (λ i m. l.invariant i (omega (arith, long))) in
+    (λ i. take a.start a.run.now ++ (z i ++ drop (k i) (drop a.start a.run.now))) ∙ sym (zeroed_is a.run.now a.start a.count (omega arith))

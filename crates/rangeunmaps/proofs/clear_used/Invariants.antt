@@ -1,12 +1,6 @@
--- `rangeunmaps::clear_used`: from i on the words are still to become 0.
-use mathlib.Core.Path.{◌≡◌}
-use Prim.Native.Nat.{◌-◌, ◌≤◌}
-use lib.ListN.{length}
-use Rattle.laws.specs.Lists.{zeroed}
+-- `rangeunmaps::clear_used`: the words up to an index are 0.
+use Rattle.std.specs.Prelude.{ℕ, ◌<◌, ◌≡◌, get_or}
 use Rattle.rangeunmaps.proofs.clear_used.Given as goal
 
-abbrev pub invariant-loop-i : goal.invariant-loop-i
-invariant-loop-i l = (l.i ≤ l.end) × ((zeroed l.run l.i (l.end - l.i) ≡ zeroed l.initial.run l.start l.count) × (length l.run ≡ length l.initial.run))
-
-abbrev pub decreases-loop-i : goal.decreases-loop-i
-decreases-loop-i l = l.end - l.i
+abbrev pub invariant-loop-w : goal.invariant-loop-w
+invariant-loop-w l = (k : ℕ) → k < l.w-index → get_or l.w-items k 0 ≡ 0

@@ -10,7 +10,7 @@ returns-then-place-n c =
     let a = c.args in
     ap (λ (l : List ℕ). l ++ a.second.now) c.clear_used.ensures ∙ sym (zeroed_first a.words.now a.second.now a.place a.count (c.requires (omega arith)))
 
-pub returns : goal.returns
-returns c =
+pub returns-else-place-n : goal.returns-else-place-n
+returns-else-place-n c =
     let a = c.args in
-    ap (λ (l : List ℕ). a.words.now ++ l) c.clear_used-2.ensures ∙ sym (zeroed_later a.words.now a.second.now a.place a.count (omega arith))
+    ap (λ (l : List ℕ). a.words.now ++ l) c.clear_used-else-place-n.ensures ∙ sym (zeroed_later a.words.now a.second.now a.place a.count (omega arith))

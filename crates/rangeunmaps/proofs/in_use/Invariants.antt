@@ -1,11 +1,5 @@
-use mathlib.Core.Path.{◌≡◌}
-use Prim.Native.Nat.{◌+◌, ◌≤◌}
-use lib.ListN.{length, drop}
-use Rattle.sweeps.specs.Parts.{in_use}
+use Rattle.std.specs.Prelude.{◌≡◌, not, take, count_by}
 use Rattle.rangeunmaps.proofs.in_use.Given as goal
 
-abbrev pub invariant-loop-left : goal.invariant-loop-left
-invariant-loop-left l = (l.left ≤ length l.part) × (l.n ≡ in_use (drop l.left l.part)) × (l.n + l.left ≤ length l.part)
-
-abbrev pub decreases-loop-left : goal.decreases-loop-left
-decreases-loop-left l = l.left
+abbrev pub invariant-loop-x : goal.invariant-loop-x
+invariant-loop-x g l = l.n ≡ count_by (λ x. not (g.T.PartialEq.eq x l.zero)) (take l.x-index l.part)

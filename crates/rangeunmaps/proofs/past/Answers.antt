@@ -1,12 +1,11 @@
 -- `rangeunmaps::past` meets its contract.
-use Prim.Native.Nat.{◌+◌, ◌≤◌}
+use Rattle.std.specs.Prelude.{◌+◌, ◌≤◌, min}
 use mathlib.Core.Path.{◌≡◌, ◌∙◌}
 use native.Mathlib.Omega.{arith}
 use Rattle.path.specs.Geometry.{granule_of, size_at, physical}
 use Rattle.path.specs.Paths.{base_at}
 use Rattle.path.specs.Laws.{granule_sane, level_some, size_fits}
 use Rattle.path.specs.RegionLaws.{base_le}
-use Rattle.sweeps.specs.Parts.{lesser}
 use Rattle.rangeunmaps.proofs.past.Goals as goal
 use Rattle.rangeunmaps.proofs.past.Goals.{After-size_at-size}
 
@@ -24,4 +23,4 @@ overflow_add-base c =
     omega (arith, base_is (goal.at.overflow_add-base c).After-size_at-size, size_is (goal.at.overflow_add-base c).After-size_at-size, base_le G a.address a.height, c.requires.1)
 
 pub returns : goal.returns
-returns c = c.least.ensures ∙ (λ i. lesser (base_is (goal.at.returns c).After-size_at-size i + size_is (goal.at.returns c).After-size_at-size i) c.args.end)
+returns c = c.min.ensures ∙ (λ i. min (base_is (goal.at.returns c).After-size_at-size i + size_is (goal.at.returns c).After-size_at-size i) c.args.end)

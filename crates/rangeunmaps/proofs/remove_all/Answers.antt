@@ -3,7 +3,7 @@ use native.Mathlib.Omega.{arith}
 use Prim.Native.Nat.{ℕ, ◌+◌}
 use mathlib.Core.Path.{subst}
 use mathlib.Core.List.{List, ◌++◌}
-use lib.ListN.{length, length-append}
+use lib.ListN.{length}
 use Rattle.path.specs.declared.Setup.{Setup}
 use Rattle.path.specs.Geometry.{granule_of}
 use Rattle.path.specs.Laws.{granule_sane}
@@ -24,45 +24,40 @@ rest c = let a = c.args in fine_rest (granule_of a.s.granule) (granule_sane a.s.
 
 stepped : (c : After-remove_next-g)
     → let a = c.args in
-    let l = c.loop-x in
+    let gone = c.loop-gone.gone in
     let S = c.remove_next-g in
     Stepped (granule_of a.s.granule) (pool a.s (a.words.now ++ a.second.now) (length a.words.now) a.list.now) a.address (a.address + a.bytes) S.result.next
-    (l.removed + S.result.removed) (l.given + S.result.given) (pool S.result.setup (S.new.words ++ S.new.second) (length S.new.words) S.new.list)
+    (gone.removed + S.result.removed) (gone.given + S.result.given) (pool S.result.setup (S.new.words ++ S.new.second) (length S.new.words) S.new.list)
 stepped c =
     let a = c.args in
-    let l = c.loop-x in
+    let l = c.loop-gone in
     let S = c.remove_next-g in
-    steps_on (granule_of a.s.granule) (fine_rest (granule_of a.s.granule) (granule_sane a.s.granule) (at c.args.s c.args.words.now c.args.second.now c.args.list.now) a.address a.bytes c.requires.0.good c.requires.0.tests) l.invariant.0.0
-    (subst (λ (g : ℕ). Removes (granule_of g) (pool l.setup (l.words ++ l.second) (length l.words) l.list) l.x S.result.next S.result.removed S.result.given (pool S.result.setup (S.new.words ++ S.new.second) (length S.new.words) S.new.list)) l.invariant.1 S.ensures.0)
+    steps_on (granule_of a.s.granule) (fine_rest (granule_of a.s.granule) (granule_sane a.s.granule) (at a.s a.words.now a.second.now a.list.now) a.address a.bytes c.requires.0.good c.requires.0.tests) l.invariant.0
+    (subst (λ (g : ℕ). Removes (granule_of g) (pool l.gone.setup (l.words ++ l.second) (length l.words) l.list) l.gone.next S.result.next S.result.removed S.result.given (pool S.result.setup (S.new.words ++ S.new.second) (length S.new.words) S.new.list)) l.invariant.2 S.ensures.0)
     S.ensures.2
 
 pub overflow_add-end : goal.overflow_add-end
 overflow_add-end c = omega (arith, (rest (goal.at.overflow_add-end c).Start).in_space)
 
-pub loop-x-init : goal.loop-x-init
-loop-x-init c = ((removes_none _ _ _, omega arith), refl, refl, refl, refl)
+pub loop-gone-init : goal.loop-gone-init
+loop-gone-init c = (removes_none _ _ _, omega arith, refl)
 
 pub remove_next-g-requires : goal.remove_next-g-requires
 remove_next-g-requires c =
     let a = c.args in
-    let l = c.loop-x in (
-      subst (λ (g : ℕ). Sure (granule_of g) (pool l.setup (l.words ++ l.second) (length l.words) l.list) l.x (a.address + a.bytes)) (sym l.invariant.1)
-          (sure_on (granule_of a.s.granule) (granule_sane a.s.granule) (at c.args.s c.args.words.now c.args.second.now c.args.list.now) a.address a.bytes c.requires.0 c.requires.1 l.invariant.0.0 l.invariant.0.1),
+    let l = c.loop-gone in (
+      subst (λ (g : ℕ). Sure (granule_of g) (pool l.gone.setup (l.words ++ l.second) (length l.words) l.list) l.gone.next (a.address + a.bytes)) (sym l.invariant.2)
+          (sure_on (granule_of a.s.granule) (granule_sane a.s.granule) (at a.s a.words.now a.second.now a.list.now) a.address a.bytes c.requires.0 c.requires.1 l.invariant.0 l.invariant.1),
       omega arith,
     )
 
-pub overflow_add-removed : goal.overflow_add-removed
-overflow_add-removed c = omega (arith, (stepped (goal.at.overflow_add-removed c).After-remove_next-g).few)
+pub overflow_add-gone : goal.overflow_add-gone
+overflow_add-gone c = omega (arith, (stepped (goal.at.overflow_add-gone c).After-remove_next-g).few)
 
-pub overflow_add-given : goal.overflow_add-given
-overflow_add-given c = omega (arith, (stepped (goal.at.overflow_add-given c).After-remove_next-g).fewer)
+pub overflow_add-gone-in-loop-gone : goal.overflow_add-gone-in-loop-gone
+overflow_add-gone-in-loop-gone c = omega (arith, (stepped (goal.at.overflow_add-gone-in-loop-gone c).After-remove_next-g).fewer)
 
-pub loop-x-preserved : goal.loop-x-preserved
-loop-x-preserved c =
-    let T = stepped (goal.at.loop-x-preserved c).After-remove_next-g in
-    let S = c.remove_next-g in
-    let a = c.args in
-    ((T.removes_so, T.rest.left), T.kept.granule, T.kept.cut, omega (arith, T.kept.words, T.kept.cut, length-append S.new.words S.new.second, length-append a.words.now a.second.now), T.kept.places)
-
-pub returns : goal.returns
-returns c = let l = c.loop-x in (l.invariant.0.0, omega (arith, l.invariant.0.1))
+pub loop-gone-preserved : goal.loop-gone-preserved
+loop-gone-preserved c =
+    let T = stepped (goal.at.loop-gone-preserved c).After-remove_next-g in
+    (T.removes_so, T.rest.left, T.kept.granule)

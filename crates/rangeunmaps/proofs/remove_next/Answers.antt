@@ -11,38 +11,25 @@ use Rattle.model.specs.Answers.{pool}
 use Rattle.sweeps.specs.Parts.{Removes}
 use Rattle.rangeunmaps.proofs.remove_next.Goals as goal
 
-pub ahead-a-requires : goal.ahead-a-requires
-ahead-a-requires c = ((c.args.list.now, c.requires.0), c.requires.1)
-
-pub clear_words-requires : goal.clear_words-requires
-clear_words-requires c = c.ahead-a.ensures.held c.if-a-gt0.true
-
 pub overflow_mul-result : goal.overflow_mul-result
-overflow_mul-result c = omega (arith, c.page_of.ensures, c.ahead-a.ensures.within c.if-a-gt0.true, c.requires.0.rest.in_space, ap (λ (w : ℕ). c.ahead-a.result.count * w) c.page_of.ensures)
+overflow_mul-result c = omega (arith, c.page_of.ensures, c.in-Some.ensures.within, c.requires.0.rest.in_space, ap (λ (w : ℕ). c.in-Some.a.count * w) c.page_of.ensures)
 
 pub overflow_add-result : goal.overflow_add-result
-overflow_add-result c = omega (arith, c.page_of.ensures, c.ahead-a.ensures.within c.if-a-gt0.true, c.requires.0.rest.in_space, ap (λ (w : ℕ). c.ahead-a.result.count * w) c.page_of.ensures)
+overflow_add-result c = omega (arith, c.page_of.ensures, c.in-Some.ensures.within, c.requires.0.rest.in_space, ap (λ (w : ℕ). c.in-Some.a.count * w) c.page_of.ensures)
 
-pub returns-then-a-gt0 : goal.returns-then-a-gt0
-returns-then-a-gt0 c =
+pub returns : goal.returns
+returns c =
     let a = c.args in
     let G = granule_of a.s.granule in
-    let r = c.ahead-a.result in
-    let E = c.ahead-a.ensures in
-    let some = c.if-a-gt0.true in
+    let r = c.in-Some.a in
+    let E = c.in-Some.ensures in
     let p = pool a.s (a.words.now ++ a.second.now) (length a.words.now) a.list.now in
     let N = c.clear_words in
     let w = ap (λ (w : ℕ). a.address + r.count * w) c.page_of.ensures in
-    let first = E.removes some a.list.now c.requires.0.rest.good in
+    let first = E.removes a.list.now c.requires.0.rest.good in
     let second = subst (λ (ws : List ℕ). Removes G p a.address (a.address + r.count * page_size G) r.used 0 (pool a.s ws (length a.words.now) a.list.now)) (sym N.ensures) first in
     let third = subst (λ (k : ℕ). Removes G p a.address (a.address + r.count * page_size G) r.used 0 (pool a.s (N.new.words ++ N.new.second) k a.list.now)) (sym N.auto.words) second in (
       subst (λ (y : ℕ). Removes G p a.address y r.used 0 (pool a.s (N.new.words ++ N.new.second) (length N.new.words) a.list.now)) (sym w) third,
-      omega (arith, w, le-mul_of_pos_right r.count (page_pos G)),
-      omega (arith, w, E.within some),
+      omega (arith, w, E.some, le-mul_of_pos_right r.count (page_pos G)),
+      omega (arith, w, E.within),
     )
-
-pub remove_one-requires : goal.remove_one-requires
-remove_one-requires c = (c.requires.0.rest, c.requires.1)
-
-pub returns : goal.returns
-returns c = c.remove_one.ensures

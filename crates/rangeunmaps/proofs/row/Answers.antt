@@ -7,7 +7,7 @@ use Rattle.laws.specs.Lists.{part}
 use Rattle.laws.specs.ListLaws.{length_part, drop_part, take_part}
 use Rattle.path.specs.Geometry.{granule_of, entries}
 use Rattle.path.specs.Paths.{index_at}
-use Rattle.path.specs.Laws.{granule_sane, level_some, entries_most}
+use Rattle.path.specs.Laws.{granule_sane, level_some}
 use Rattle.model.specs.Walk.{slot}
 use Rattle.rangeunmaps.proofs.row.Goals as goal
 use Rattle.rangeunmaps.proofs.row.Goals.{After-index_at-from}
@@ -36,9 +36,6 @@ row_is c =
     (λ j. take (many j) (drop (index c j) (table c j)))
     ∙ ap (take a.count) (drop_part ws (slot G a.t 0) (entries G) i) ∙ take_part ws (slot G a.t 0 + i) (entries G - i) a.count (omega (arith, c.requires.1.1))
     ∙ (λ j. part ws (at j) a.count)
-
-pub overflow_add-to : goal.overflow_add-to
-overflow_add-to c = let a = c.args in omega (arith, index (goal.at.overflow_add-to c).After-index_at-from, c.requires.1.1, entries_most (granule_of a.granule) (granule_sane a.granule))
 
 pub slice_bounds-result-end : goal.slice_bounds-result-end
 slice_bounds-result-end c = omega (arith, index (goal.at.slice_bounds-result-end c).After-index_at-from, c.requires.1.1, long (goal.at.slice_bounds-result-end c).After-index_at-from)

@@ -1,5 +1,5 @@
 -- `unmaps::count_freed`: the tables passed, and those that come free from there on.
-use Prim.Native.Nat.{ℕ, ◌+◌, ◌-◌, ◌*◌, ◌≤◌}
+use Prim.Native.Nat.{ℕ, ◌+◌, ◌-◌, ◌*◌}
 use mathlib.Core.List.{◌++◌}
 use lib.ListN.{length}
 use mathlib.Core.Path.{◌≡◌}
@@ -9,8 +9,5 @@ use Rattle.model.specs.Writes.{freed}
 use Rattle.unmaps.proofs.count_freed.Given as goal
 
 abbrev pub invariant-loop-h : goal.invariant-loop-h
-invariant-loop-h l = (l.left ≤ l.h) × ((l.h ≤ l.top) × ((k : ℕ) → length l.words ≡ entries (granule_of l.granule) * k
-    → freed (granule_of l.granule) (l.words ++ l.second) l.way (path_of (granule_of l.granule) l.address) l.left (l.top - l.left) ≡ l.h - l.left + freed (granule_of l.granule) (l.words ++ l.second) l.way (path_of (granule_of l.granule) l.address) l.h (l.top - l.h)))
-
-abbrev pub decreases-loop-h : goal.decreases-loop-h
-decreases-loop-h l = l.top - l.h
+invariant-loop-h l = (k : ℕ) → length l.words ≡ entries (granule_of l.granule) * k
+    → freed (granule_of l.granule) (l.words ++ l.second) l.way (path_of (granule_of l.granule) l.address) l.left (l.top - l.left) ≡ l.h - l.left + freed (granule_of l.granule) (l.words ++ l.second) l.way (path_of (granule_of l.granule) l.address) l.h (l.top - l.h)

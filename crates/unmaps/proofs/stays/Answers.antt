@@ -2,21 +2,17 @@
 use mathlib.Core.Path.{ap, ◌∙◌}
 use mathlib.Core.Bool.{not}
 use mathlib.Core.List.{◌++◌}
-use native.Mathlib.Omega.{arith}
 use borrow.Author.Tests.{le-leb, lt-leb}
 use Rattle.path.specs.Geometry.{granule_of}
 use Rattle.model.specs.Writes.{only_entry}
 use Rattle.unmaps.proofs.stays.Goals as goal
 
-pub returns-then-left-top : goal.returns-then-left-top
-returns-then-left-top c = λ k e. rw (le-leb c.args.top c.args.left c.if-left-top.true)
-
-pub overflow_cast-t : goal.overflow_cast-t
-overflow_cast-t c = omega arith
+pub returns-then-end-top : goal.returns-then-end-top
+returns-then-end-top c = λ k e. rw (le-leb c.args.top c.args.end.height c.if-end-top.true)
 
 pub returns : goal.returns
 returns c =
     let a = c.args in
     λ k e.
-    rw (lt-leb a.top a.left c.if-left-top.false)
+    rw (lt-leb a.top a.end.height c.if-end-top.false)
     (ap not (c.only_entry.ensures k e ∙ (λ j. only_entry (granule_of a.granule) (a.words.now ++ a.second.now) (c.table_of-t.ensures j) (c.index_in-i.ensures j))))

@@ -1,13 +1,11 @@
 -- `unmaps::unmap_more`: the count of the tables that come free, then the writes.
 use Prim.Native.Nat.{◌+◌, ◌-◌}
-use mathlib.Core.Path.{◌∙◌}
+use mathlib.Core.Path.{refl}
 use mathlib.Core.List.{◌++◌}
-use lib.ListN.{length}
 use native.Mathlib.Omega.{arith}
 use Rattle.path.specs.Geometry.{granule_of}
 use Rattle.path.specs.Paths.{path_of}
 use Rattle.path.specs.Laws.{granule_sane, good_setup_lem}
-use Rattle.model.proofs.Refusing.{refusing}
 use Rattle.unmaps.proofs.Frees.{freed_most}
 use Rattle.unmaps.proofs.Unmaps.{size_known, there_full, there_done, freed_first}
 use Rattle.unmaps.proofs.unmap_more.Goals as goal
@@ -55,8 +53,7 @@ pub returns-then-free-most : goal.returns-then-free-most
 returns-then-free-most c =
     let a = c.args in
     let g = good_setup_lem c.requires.0 in
-    refusing (a.words.now ++ a.second.now) (length a.words.now) a.list.now c.unmap_refused.ensures
-    ∙ there_full (granule_of a.s.granule) a.s (a.words.now ++ a.second.now) (length a.words.now) a.list.now a.address a.frame a.attributes a.left a.way.now c.requires.1.1.0
+    there_full _ _ _ _ _ _ _ _ _ _ c.requires.1.1.0
     (size_known (granule_sane a.s.granule) g (omega (arith, c.requires.1.0)) c.size_at-size.ensures)
     (freed_first (granule_of a.s.granule) (a.words.now ++ a.second.now) a.way.now a.address a.left (a.s.levels - 1) c.requires.1.0 c.requires.1.1.1 (c.count_freed-given.ensures a.s.tables g.numbers.cut_is))
     c.if-free-most.true
@@ -72,10 +69,10 @@ returns c =
     let a = c.args in
     let g = good_setup_lem c.requires.0 in
     let writes = c.unmap_writes in
-    there_done (granule_of a.s.granule) a.s (a.words.now ++ a.second.now) (length a.words.now) a.list.now a.address a.frame a.attributes a.left a.way.now c.requires.1.1.0
+    there_done _ _ _ _ _ _ _ _ _ _ c.requires.1.1.0
     (size_known (granule_sane a.s.granule) g (omega (arith, c.requires.1.0)) c.size_at-size.ensures)
     (freed_first (granule_of a.s.granule) (a.words.now ++ a.second.now) a.way.now a.address a.left (a.s.levels - 1) c.requires.1.0 c.requires.1.1.1 (c.count_freed-given.ensures a.s.tables g.numbers.cut_is))
     c.if-free-most.false
     (writes.ensures a.s.tables g.numbers.cut_is)
     writes.auto.words
-    c.with_free.ensures
+    refl

@@ -10,7 +10,7 @@ use Rattle.model.specs.Walk.{slot, at_height}
 use Rattle.plans.specs.Steps.{index_known}
 use Rattle.unmaps.proofs.Prunes.{is_clear, is_give}
 use Rattle.unmaps.proofs.unmap_step.Goals as goal
-use Rattle.unmaps.proofs.unmap_step.Goals.{then-i-gt0+else-i-eq0, else-i-gt0}
+use Rattle.unmaps.proofs.unmap_step.Goals.{else-i-gt0-via-then-i-gt0+else-i-eq0, else-i-gt0-via-else-i-gt0}
 
 pub overflow_add-height : goal.overflow_add-height
 overflow_add-height c = omega (arith, granule_sane c.args.granule)
@@ -18,23 +18,8 @@ overflow_add-height c = omega (arith, granule_sane c.args.granule)
 pub overflow_add-height-2 : goal.overflow_add-height-2
 overflow_add-height-2 c = omega (arith, granule_sane c.args.granule)
 
-pub overflow_sub-at : goal.overflow_sub-at
-overflow_sub-at c = omega arith
-
 pub overflow_sub-at-then-i-eq0 : goal.overflow_sub-at-then-i-eq0
 overflow_sub-at-then-i-eq0 c = omega (arith, granule_sane c.args.granule)
-
-pub offset_bounds-way-at : goal.offset_bounds-way-at
-offset_bounds-way-at c = omega arith
-
-pub bounds-way-at : goal.bounds-way-at
-bounds-way-at c = omega arith
-
-pub overflow_sub-place : goal.overflow_sub-place
-overflow_sub-place c = omega arith
-
-pub overflow_sub-place-then-i-eq0 : goal.overflow_sub-place-then-i-eq0
-overflow_sub-place-then-i-eq0 c = omega arith
 
 pub overflow_add-place : goal.overflow_add-place
 overflow_add-place c = omega (arith, granule_sane c.args.granule)
@@ -47,23 +32,11 @@ returns-then-i-eq0 c =
 pub overflow_sub-at-2 : goal.overflow_sub-at-2
 overflow_sub-at-2 c = omega (arith, granule_sane c.args.granule)
 
-pub index_at-index-requires : goal.index_at-index-requires
-index_at-index-requires c = omega arith
-
-pub offset_bounds-way-at-2 : goal.offset_bounds-way-at-2
-offset_bounds-way-at-2 c = omega arith
-
-pub bounds-way-at-2 : goal.bounds-way-at-2
-bounds-way-at-2 c = omega arith
-
-pub entry_place-place-requires : goal.entry_place-place-requires
-entry_place-place-requires c = omega arith
-
 pub returns : goal.returns
 returns c =
     let a = c.args in
     let h = a.left + (a.i + 1) / 2 in
     is_clear (granule_of a.granule) a.way.now (path_of (granule_of a.granule) a.address) a.left a.free a.given a.i
-    (elim c.if-i-gt0.branch [ then-i-gt0+else-i-eq0 way ↦ inr (omega (arith, way.if-i-eq0.false)) | else-i-gt0 way ↦ inl (omega (arith, way.if-i-gt0.false)) ])
+    (elim c.else-i-gt0.branch [ else-i-gt0-via-then-i-gt0+else-i-eq0 way ↦ inr (omega (arith, way.if-i-eq0.false)) | else-i-gt0-via-else-i-gt0 way ↦ inl (omega (arith, way.if-i-gt0.false)) ])
     (omega arith)
     (c.entry_place-place.ensures ∙ (λ j. slot (granule_of a.granule) (at_height a.way.now h) (index_known (granule_sane a.granule) a.address h (omega arith) c.index_at-index.ensures j)))

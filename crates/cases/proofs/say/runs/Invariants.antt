@@ -1,9 +1,0 @@
--- `say::runs` ends: what is left of the runs falls. Assumes nothing.
-use Rattle.std.proofs.Common.{◌-◌, ◌≤◌}
-use Rattle.cases.proofs.say.runs.Given as goal
-
-abbrev pub invariant-loop-i : goal.invariant-loop-i
-invariant-loop-i g l = l.i ≤ 16
-
-abbrev pub decreases-loop-i : goal.decreases-loop-i
-decreases-loop-i g l = 16 - l.i

@@ -1,9 +1,0 @@
--- `lines` ends: what is left of the runs falls. Assumes nothing.
-use Rattle.std.proofs.Common.{◌-◌, ◌≤◌}
-use Rattle.demo.proofs.lines.Given as goal
-
-abbrev pub invariant-loop-i : goal.invariant-loop-i
-invariant-loop-i g l = l.i ≤ 8
-
-abbrev pub decreases-loop-i : goal.decreases-loop-i
-decreases-loop-i g l = 8 - l.i
