@@ -562,7 +562,12 @@ impl Lent {
         let setup = || path::Setup { levels, base, tables, free, base2, tables2, granule };
         let r = tried(|| armwalk::stage2(granule, &self.words, &self.second, base, base2, levels, address));
         line(&format!("{} stage2 {address:#x} = {r}", self.name));
+        line(&format!("{} tree = {}", self.name, tried(|| links::Tree::of(setup()))));
+        line(&format!("{} places = {} {}", self.name, tried(|| path::Setup::from(self.setup)), tried(|| <[u64; 7]>::from(setup()))));
         for target in [0, 1, 2, 3] {
+            let hole = tried(|| lookup::hole_at(granule, address, target));
+            let number = tried(|| lookup::hole_at(granule, address, target).number());
+            line(&format!("{} hole_at {address:#x} {target} = {hole} {number}", self.name));
             let r = tried(|| lookup::walk_to(setup(), &self.words, &self.second, target, address));
             line(&format!("{} walk_to {target} {address:#x} = {r}", self.name));
             let mut way = [7u32; 4];
