@@ -10,6 +10,7 @@ SHAPES = (
     'has no function',                                          # a proof file of a function that is gone
     'no occurrence',                                            # a rewrite that finds nothing to rewrite
     'this pattern needs a function (or path) type to bind',     # an answer over fewer steps
+    'write the case',                                           # an answer by cases, of which the edit makes one more
 )
 # a line of rt on one edit; what it says of one that is refused, for which reason, and the first error
 TOLD = re.compile(r'^rt: must-fail ([^\s/]+)/(\S+)\.edit: (.*)$', re.M)

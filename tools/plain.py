@@ -128,7 +128,11 @@ def function(r):
 
 
 def noted(body, name, path):
-    """A body in which each `NAME[I] = V;` also says what it wrote, and where."""
+    """A body in which each `NAME[I] = V;` also says what it wrote, and where; so does each `NAME.fill(V);`, and each `*X = V;` of a loop over NAME."""
+    said = r'crate::wrote(&{0} as *const _ as usize, {0} as u64);'
+    body = re.sub(rf'^\s*{name}\.fill\(([^;]*)\);', lambda m: f'\n{{ let all = {m[1]}; for here in 0..{name}.len() {{ {name}[here] = all; {said.format(f"{name}[here]")} }} }}', body, flags=re.M)
+    for one in set(re.findall(rf'\bfor\s+(?:\(\w+,\s*)?(\w+)\)?\s+in\s+(?:&mut\s+)?{name}\b', body)):
+        body = re.sub(rf'^\s*\*{one} = ([^;]*);', lambda m: f'\n{{ *{one} = {m[1]}; {said.format("*" + one)} }}', body, flags=re.M)
     out, at = '', 0
     for m in re.finditer(rf'^\s*{name}(?=\[)', body, re.M):
         r = Reader(body, path)

@@ -2,6 +2,7 @@
 use crate::memory::Memory;
 use crate::read::Line;
 use model::{Counts, Excerpt, Found, Mapped, RangeUnmapped, Refusal, Unmapped};
+use pagetable::Refused;
 use path::Setup;
 
 // The numbers of an answer.
@@ -95,12 +96,20 @@ pub(crate) struct Told {
 }
 
 impl Told {
-    // With the setup that it hands back, or else the one that it was given.
+    // With the setup after the call that it did, or else the one that is given.
     pub(crate) fn new(answer: Result<Done, Refusal>, given: Setup) -> Told {
         let handed = answer.ok().and_then(|done: Done| done.setup());
         Told {
             answer,
             setup: handed.unwrap_or(given),
+        }
+    }
+
+    // Of a call that hands a setup back on a refusal too.
+    fn handed(done: Result<Done, Refused>) -> Told {
+        match done {
+            Ok(done) => Told::new(Ok(done), path::no_setup()),
+            Err(r) => Told::new(Err(r.refusal), r.setup),
         }
     }
 
@@ -160,23 +169,31 @@ pub(crate) fn lent(call: u8, line: &Line, memory: &mut Memory) -> Told {
 fn run(call: u8, line: &Line, words: &mut [u64], second: &mut [u64], list: &mut [u32]) -> Told {
     let s = setup(line);
     let (a, b, c, d) = (line[11], line[12], line[13], line[14]);
-    let answer = match call.to_ascii_lowercase() {
-        b'f' => return format(line, words, second, list),
+    let done = match call.to_ascii_lowercase() {
+        b'f' => format(line, words, second, list),
         b'g' => pagetable::add(s, words, second, list, a, b).map(Done::Add),
         b'm' => pagetable::map(s, words, second, list, a, b, c, d).map(Done::Map),
         b'u' => pagetable::unmap(s, words, second, list, a).map(Done::Unmap),
         b'r' => pagetable::map_range(s, words, second, list, a, b, c, d).map(Done::Map),
         b'c' => pagetable::unmap_range(s, words, second, list, a, b).map(Done::UnmapRange),
-        b'q' => pagetable::query(s, words, second, list, a).map(Done::Query),
-        _ => pagetable::audit(s, words, second, list).map(Done::Audit),
+        b'q' => return Told::new(
+            pagetable::query(s, words, second, list, a).map(Done::Query),
+            s,
+        ),
+        _ => return Told::new(pagetable::audit(s, words, second, list).map(Done::Audit), s),
     };
-    Told::new(answer, s)
+    Told::handed(done)
 }
 
 // A format is given no setup.
-fn format(line: &Line, words: &mut [u64], second: &mut [u64], list: &mut [u32]) -> Told {
+fn format(
+    line: &Line,
+    words: &mut [u64],
+    second: &mut [u64],
+    list: &mut [u32],
+) -> Result<Done, Refused> {
     let made = pagetable::format(
         line[4], line[5], line[6], line[7], line[8], line[9], words, second, list,
     );
-    Told::new(made.map(Done::Format), path::no_setup())
+    made.map(Done::Format)
 }

@@ -31,10 +31,11 @@ struct Lines {
 impl Lines {
     // A call, its answer, and what became of the memory. The setup that it hands back is the next call's.
     fn say_call(&mut self, rt: &impl Print, call: u8) -> io::Result<()> {
-        let before = self.memory;
+        let mut before = self.memory;
         let told = calls::lent(call, &self.line, &mut self.memory);
         print!(rt; "{told}")?;
-        say::changes(rt, self.line[1], &self.memory, &before.cleared(told))?;
+        before.clear(told);
+        say::changes(rt, self.line[1], &self.memory, &before)?;
         told.hand_back(&mut self.line);
         Ok(())
     }
@@ -81,7 +82,7 @@ impl Lines {
             b't' => print!(rt; " -> agree {}", self.agreed)?,
             _ => self.memory.lay(call, &mut self.line),
         }
-        print!(rt; "\n")
+        say::text(rt, b"\n")
     }
 
     // A line that is compared: whether it agrees.
@@ -130,7 +131,8 @@ fn run(rt: &impl Print, text: &[u8]) -> io::Result<()> {
 }
 
 fn main(rt: HostRuntime) -> io::Result<()> {
-    let mut text = Vec::new(rt.alloc());
+    // With room for one byte more than is read, so that it never grows.
+    let mut text = Vec::with_capacity(rt.alloc(), TEXT as usize + 1)?;
     rt.reader().take(TEXT).read_to_end(&mut text)?;
     run(&rt, &text)
 }

@@ -87,35 +87,33 @@ impl Memory {
         }
     }
 
-    // With zeros where a call that is done makes all words 0: a format those of both runs, an add those of the second.
-    pub(crate) fn cleared(self, told: Told) -> Memory {
+    // Zeros where a call that is done makes all words 0: a format those of both runs, an add those of the second.
+    pub(crate) fn clear(&mut self, told: Told) {
         match told.answer {
-            Ok(Done::Format(_)) => Memory {
-                words: [0; WORDS],
-                more: [0; MORE],
-                ..self
-            },
-            Ok(Done::Add(_)) => Memory {
-                more: [0; MORE],
-                ..self
-            },
-            _ => self,
+            Ok(Done::Format(_)) => {
+                self.words.fill(0);
+                self.more.fill(0);
+            }
+            Ok(Done::Add(_)) => self.more.fill(0),
+            _ => {}
         }
     }
 
     // The sum of all numbers, where the second run follows the first, and the places follow both.
     pub(crate) fn sum(&self) -> u64 {
-        let places = self.list.iter().map(|t| u64::from(*t));
-        sum(self.words.iter().chain(&self.more).copied().chain(places))
+        let words = sum(0, self.words.iter().copied());
+        let more = sum(WORDS, self.more.iter().copied());
+        let places = sum(WORDS + MORE, self.list.iter().map(|t| u64::from(*t)));
+        words.wrapping_add(more).wrapping_add(places)
     }
 }
 
-// The sum of (2 i + 1) * number i modulo 2^64.
-pub(crate) fn sum<I: Iterator<Item = u64>>(numbers: I) -> u64
+// The sum of (2 i + 1) * number i modulo 2^64, of numbers that are counted from one on.
+pub(crate) fn sum<I: Iterator<Item = u64>>(from: usize, numbers: I) -> u64
     requires { I.Iterator.can_next numbers × IsFinite (I.Iterator.remaining numbers) }
 {
     let mut sum = 0u64;
-    let mut odd = 1u64;
+    let mut odd = (from as u64).wrapping_mul(2).wrapping_add(1);
     for n in numbers {
         sum = sum.wrapping_add(n.wrapping_mul(odd));
         odd = odd.wrapping_add(2);

@@ -55,6 +55,6 @@ impl View {
 
     // The sum of both runs, where the second follows the first.
     pub(crate) fn sum(&self) -> u64 {
-        memory::sum(self.places.iter().chain(&self.entries).copied())
+        memory::sum(0, self.places.iter().chain(&self.entries).copied())
     }
 }

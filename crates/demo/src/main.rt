@@ -96,7 +96,10 @@ impl Pool {
                 pool.setup = setup;
                 pool.audit(rt)?;
             }
-            Err(r) => refused(rt, r)?,
+            Err(r) => {
+                pool.setup = r.setup;
+                refused(rt, r.refusal)?;
+            }
         }
         Ok(pool)
     }
@@ -113,7 +116,7 @@ impl Pool {
         }
     }
 
-    // A refusal, and whether the memory and the setup are as they were.
+    // A refusal, and whether the memory and the setup that it hands back are as they were.
     fn refused(&self, rt: &impl Print, r: Refusal, before: &Pool) -> io::Result<()> {
         refused(rt, r)?;
         if self == before {
@@ -152,7 +155,10 @@ impl Pool {
                 self.setup = done.setup;
                 println!(rt; "  Done: tables taken {}.", done.tables)?;
             }
-            Err(r) => self.refused(rt, r, &before)?,
+            Err(r) => {
+                self.setup = r.setup;
+                self.refused(rt, r.refusal, &before)?;
+            }
         }
         self.audit(rt)
     }
@@ -170,7 +176,10 @@ impl Pool {
                     "  Done: {size} of memory {frame:#x} is the host's again; tables given back {tables}."
                 )?;
             }
-            Err(r) => self.refused(rt, r, &before)?,
+            Err(r) => {
+                self.setup = r.setup;
+                self.refused(rt, r.refusal, &before)?;
+            }
         }
         self.audit(rt)
     }

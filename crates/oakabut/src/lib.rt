@@ -5,16 +5,18 @@ ghost use Rattle.std.specs.Prelude.{◌≡◌, List, ◌++◌, ℕ, ◌+◌, len
 ghost use Rattle.path.specs.Geometry.{granule_of};
 ghost use Rattle.path.specs.Areas.{area_at};
 ghost use Rattle.entry.specs.Host.{sized_by, host_word, host_meaning};
-ghost use Rattle.model.specs.Answers.{pool, setup_after, says_format, says_map, says_unmap, says_unmap_range, says_query, says_audit, says_list};
+ghost use Rattle.model.specs.Answers.{pool, says_format, says_map, says_unmap, says_unmap_range, says_query, says_audit, says_list};
 ghost use Rattle.model.specs.Calls.{format_n, map_w, unmap_w, query_w};
 ghost use Rattle.model.specs.Ranges.{map_range_w, unmap_range_w};
 ghost use Rattle.model.specs.Adds.{add_w};
 ghost use Rattle.model.specs.Audit.{audit_w};
 ghost use Rattle.model.specs.Listing.{list_w, leaves};
 ghost use Rattle.path.specs.Numbers.{setup_at};
-ghost use Rattle.oakabut.specs.Surface.{granule_at, pool_at, after, setup_places, map_places, unmap_places, remove_places, query_places, audit_places, list_places, Told, Left, Wrote};
+ghost use Rattle.pagetable.specs.Hands.{answer_in, handed_back};
+ghost use Rattle.oakabut.specs.Surface.{granule_at, pool_at, setup_places, map_places, unmap_places, remove_places, query_places, audit_places, list_places, Told, Left, Wrote};
 
 use model::{Counts, Excerpt, Found, Mapped, RangeUnmapped, Refusal, Unmapped};
+use pagetable::Refused;
 use path::Setup;
 
 // The entry word of a frame, or a refusal: 2, 3, 4 or 5.
@@ -54,18 +56,10 @@ fn setup_of_four(s: &[u64; 7]) -> Setup
     }
 }
 
-// A setup, and what is told beside it, fill the places of `answer`.
-fn tell(s: Setup, told: &[u64], answer: &mut [u64])
-    requires { length answer.old ≡ 7 + length told.now }
-    ensures { answer.new ≡ after s told.now }
-{
-    answer[..7].copy_from_slice(&<[u64; 7]>::from(s));
-    answer[7..].copy_from_slice(told);
-}
-
-// Each answer of the page table becomes the returned number, which is 0 or the refusal's, and the places of `answer`. A refused call tells the setup from before it.
-fn formatted(done: Result<Setup, Refusal>, before: Setup, answer: &mut [u64; 7]) -> u64
-    ensures { Told (says_format done) (setup_places (setup_after (λ s. s) before done)) result answer.new }
+// Each answer of the page table becomes the returned number, which is 0 or the refusal's, and the places of `answer`. A refused call tells the setup that it
+// hands back. Each writes all its places at once: no array is copied into another.
+fn formatted(done: Result<Setup, Refused>, answer: &mut [u64; 7]) -> u64
+    ensures { Told (says_format (answer_in done)) (setup_places (handed_back (λ s. s) done)) result answer.new }
 {
     match done {
         Ok(s) => {
@@ -73,61 +67,88 @@ fn formatted(done: Result<Setup, Refusal>, before: Setup, answer: &mut [u64; 7])
             0
         }
         Err(r) => {
-            *answer = <[u64; 7]>::from(before);
-            r.number()
+            *answer = <[u64; 7]>::from(r.setup);
+            r.refusal.number()
         }
     }
 }
 
-fn mapped(done: Result<Mapped, Refusal>, before: Setup, answer: &mut [u64; 8]) -> u64
-    ensures { Told (says_map done) (map_places (setup_after (λ m. m.setup) before done)) result answer.new }
+fn mapped(done: Result<Mapped, Refused>, answer: &mut [u64; 8]) -> u64
+    ensures { Told (says_map (answer_in done)) (map_places (handed_back (λ m. m.setup) done)) result answer.new }
 {
     match done {
-        Ok(m) => {
-            tell(m.setup, &[m.tables], answer);
+        Ok(Mapped { tables, setup: s }) => {
+            *answer = [
+                s.levels, s.base, s.tables, s.free, s.base2, s.tables2, s.granule, tables,
+            ];
             0
         }
-        Err(r) => {
-            tell(before, &[0], answer);
-            r.number()
+        Err(Refused { refusal, setup: s }) => {
+            *answer = [
+                s.levels, s.base, s.tables, s.free, s.base2, s.tables2, s.granule, 0,
+            ];
+            refusal.number()
         }
     }
 }
 
-fn unmapped(done: Result<Unmapped, Refusal>, before: Setup, answer: &mut [u64; 13]) -> u64
-    ensures { Told (says_unmap done) (unmap_places (setup_after (λ u. u.setup) before done)) result answer.new }
+fn unmapped(done: Result<Unmapped, Refused>, answer: &mut [u64; 13]) -> u64
+    ensures { Told (says_unmap (answer_in done)) (unmap_places (handed_back (λ u. u.setup) done)) result answer.new }
 {
     match done {
-        Ok(u) => {
-            tell(
-                u.setup,
-                &[u.frame, u.size, u.attributes, u.tables, 0, 0],
-                answer,
-            );
+        Ok(
+            Unmapped {
+                frame,
+                size,
+                attributes,
+                tables,
+                setup: s,
+            },
+        ) => {
+            *answer = [
+                s.levels, s.base, s.tables, s.free, s.base2, s.tables2, s.granule, frame, size,
+                attributes, tables, 0, 0,
+            ];
             0
         }
-        Err(Refusal::Hole { base, size }) => {
-            tell(before, &[0, 0, 0, 0, base, size], answer);
+        Err(
+            Refused {
+                refusal: Refusal::Hole { base, size },
+                setup: s,
+            },
+        ) => {
+            *answer = [
+                s.levels, s.base, s.tables, s.free, s.base2, s.tables2, s.granule, 0, 0, 0, 0,
+                base, size,
+            ];
             9
         }
-        Err(r) => {
-            tell(before, &[0, 0, 0, 0, 0, 0], answer);
-            r.number()
+        Err(Refused { refusal, setup: s }) => {
+            *answer = [
+                s.levels, s.base, s.tables, s.free, s.base2, s.tables2, s.granule, 0, 0, 0, 0, 0, 0,
+            ];
+            refusal.number()
         }
     }
 }
 
-fn removed(done: Result<RangeUnmapped, Refusal>, before: Setup, answer: &mut [u64; 9]) -> u64
-    ensures { Told (says_unmap_range done) (remove_places (setup_after (λ u. u.setup) before done)) result answer.new }
+fn removed(done: Result<RangeUnmapped, Refused>, answer: &mut [u64; 9]) -> u64
+    ensures { Told (says_unmap_range (answer_in done)) (remove_places (handed_back (λ u. u.setup) done)) result answer.new }
 {
     match done {
         Ok(u) => {
-            tell(u.setup, &[u.mappings, u.tables], answer);
+            let s = u.setup;
+            *answer = [
+                s.levels, s.base, s.tables, s.free, s.base2, s.tables2, s.granule, u.mappings,
+                u.tables,
+            ];
             0
         }
-        Err(r) => {
-            tell(before, &[0, 0], answer);
-            r.number()
+        Err(Refused { refusal, setup: s }) => {
+            *answer = [
+                s.levels, s.base, s.tables, s.free, s.base2, s.tables2, s.granule, 0, 0,
+            ];
+            refusal.number()
         }
     }
 }
@@ -204,7 +225,7 @@ pub extern "C" fn oak_format(
     let made = pagetable::format(
         levels, base, tables, base2, tables2, granule, words, second, list,
     );
-    formatted(made, path::no_setup(), answer)
+    formatted(made, answer)
 }
 
 // Gives the pool a second region of tables, and answers its setup.
@@ -223,7 +244,7 @@ pub extern "C" fn oak_add(
 {
     let p = setup_at(s);
     let done = pagetable::add(p, words, second, list, base2, tables2);
-    formatted(done, p, answer)
+    formatted(done, answer)
 }
 
 // Map by setup numbers.
@@ -242,7 +263,7 @@ fn map_by(
         map_places result answer.new words.new second.new list.now }
 {
     let done = pagetable::map(s, words, second, list, address, frame, size, attributes);
-    mapped(done, s, answer)
+    mapped(done, answer)
 }
 
 // Maps a frame at an address, and answers the setup and how many tables it took.
@@ -300,7 +321,7 @@ fn unmap_by(
         unmap_places result answer.new words.new second.new list.new }
 {
     let done = pagetable::unmap(s, words, second, list, address);
-    unmapped(done, s, answer)
+    unmapped(done, answer)
 }
 
 // Removes the mapping that starts at an address, and answers the setup, its frame and how many tables came back; with 9 the hole.
@@ -340,7 +361,7 @@ pub extern "C" fn oak_map_range(
 {
     let p = setup_at(s);
     let done = pagetable::map_range(p, words, second, list, address, frame, len, attributes);
-    mapped(done, p, answer)
+    mapped(done, answer)
 }
 
 // Removes every mapping that lies wholly in a range, and answers the setup, how many went and how many tables came back.
@@ -359,7 +380,7 @@ pub extern "C" fn oak_unmap_range(
 {
     let p = setup_at(s);
     let done = pagetable::unmap_range(p, words, second, list, address, len);
-    removed(done, p, answer)
+    removed(done, answer)
 }
 
 // Query by setup numbers.

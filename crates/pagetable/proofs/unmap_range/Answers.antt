@@ -1,17 +1,18 @@
--- `pagetable::unmap_range` is `rangeunmaps::unmap_range`, whose promise gives the ledger's. Assumes nothing.
+-- `pagetable::unmap_range` is `rangeunmaps::unmap_range`, with the setup beside a refusal; its promise gives the ledger's. Assumes nothing.
 use mathlib.Core.List.{◌++◌}
 use lib.ListN.{length}
 use Rattle.path.specs.Geometry.{granule_of}
 use Rattle.path.specs.Laws.{granule_sane}
-use Rattle.model.specs.Answers.{pool}
+use Rattle.model.specs.Answers.{pool, says_unmap_range}
 use Rattle.demand.specs.Demand3.{unmap_range_c}
 use Rattle.demand.specs.ClauseLaws.{by_ledger}
+use Rattle.pagetable.proofs.Hands.{hands}
 use Rattle.pagetable.proofs.unmap_range.Goals as goal
 
 pub returns : goal.returns
 returns c =
-    let e = c.unmap_range.ensures in
     let a = c.args in
+    let e = hands says_unmap_range (λ u. u.setup) a.s _ _ _ _ _ c.with_setup.ensures c.unmap_range-all_unmapped.ensures in
     record {
       whole = e;
       ledger = by_ledger (granule_of a.s.granule) (granule_sane a.s.granule) (pool a.s (a.words.now ++ a.second.now) (length a.words.now) a.list.now) (unmap_range_c a.address a.len) _ e;
